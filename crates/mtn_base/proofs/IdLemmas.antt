@@ -1,6 +1,6 @@
 -- Forty lower-case digits are the digits of the id that they decode to.
 use Rattle.std.proofs.Common.{◌≡◌, ℕ, ◌+◌, ◌*◌, ◌<◌, ◌/◌, ◌%◌, Bool, true, cond, List, [], ◌∷◌, length, get_or, Option, Some, None, Result, Ok, Err, refl, sym, ap, ◌∙◌, arith, inl, inr}
-use Rattle.std.specs.Prelude.{◌&&◌, ◌||◌, nat_le, nat_lt, ◌==◌, unwrap_or, IsOk, MatchResult}
+use Rattle.std.specs.Prelude.{◌&&◌, nat_le, nat_lt, ◌==◌, unwrap_or, IsOk, MatchResult}
 use Rattle.std.proofs.lemmas.List.Sums.{AllPass-from_list_all}
 use Rattle.std.specs.List.{list_all}
 use Rattle.std.proofs.lemmas.Bool.{and_parts, ltb-true, leb-true, eqb-true, or_cases, agree_below_at}

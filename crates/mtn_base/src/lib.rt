@@ -9,13 +9,19 @@
 #![tactic(auto)]
 
 mod id;
+mod limit;
 mod list;
 mod name;
 mod no_memory;
 mod path;
+mod pieces;
+mod refusal;
+mod refusal_line;
 
 pub use id::Id;
+pub use limit::{MAX_LOG, room_in_log};
 pub use list::{Bytes, List};
 pub use name::NodeName;
 pub use no_memory::NoMemory;
-pub use path::{Comp, Path};
+pub use path::{Comp, MAX_COMP, Path, PathError};
+pub use refusal::{Cause, Field, PacketWhy, Refusal, Why};

@@ -1,0 +1,169 @@
+// What a command refuses, and the line that it prints for it.
+ghost use Rattle.std.specs.Prelude.{◌≡◌};
+ghost use Rattle.mtn_base.specs.Refusals.{why_name, packet_why_name, field_name, cause_name};
+
+use crate::{Id, Path};
+
+/// Why a change of a changeset fails.
+#[derive(Clone, Copy, Debug, PartialEq, Eq)]
+pub enum Why {
+    NoPath,
+    Taken,
+    NoParent,
+    NotDir,
+    NotFile,
+    NotEmpty,
+    WrongContent,
+    NoChange,
+    NoAttr,
+    NoRoot,
+    Reserved,
+}
+
+/// Why a packet is not read.
+#[derive(Clone, Copy, Debug, PartialEq, Eq)]
+pub enum PacketWhy {
+    Truncated,
+    Unsupported,
+    NotPacket,
+    BadBase64,
+}
+
+/// A field of a certificate.
+#[derive(Clone, Copy, Debug, PartialEq, Eq)]
+pub enum Field {
+    Signature,
+    Name,
+    Key,
+}
+
+/// Why a command is refused, with what its line shows. Lengths and places are in bytes, and numbers
+/// count from 1.
+#[derive(Debug, Drop)]
+pub enum Cause {
+    TextTooLong { length: u64 },
+    NotText { place: u64 },
+    BadStanza { number: u64 },
+    BadOrder { number: u64 },
+    Repeated { number: u64 },
+    BadEdge { number: u64 },
+    Collision { id: Id },
+    LogFull { count: u64 },
+    UnknownParent { id: Id },
+    BadChange { edge: u64, number: u64, why: Why },
+    Disagree { path: Path },
+    Revived { path: Path },
+    TooManyNodes { count: u64 },
+    PathTooLong { path: Path },
+    UnknownFile { id: Id },
+    ManifestDiffers { computed: Id },
+    UnknownRevision { id: Id },
+    NoSuchPath { path: Path },
+    NotAFile { path: Path },
+    Related { older: Id, newer: Id },
+    UnknownNode { number: u64 },
+    NotADirectory { number: u64 },
+    NotAConflict { number: u64 },
+    BadField { field: Field },
+    NoBranch,
+    OneHead { id: Id },
+    BadPacket { number: u64, why: PacketWhy },
+    IdMismatch { number: u64, computed: Id },
+    StoreNotEmpty { count: u64 },
+    BadRequest { number: u64 },
+}
+
+/// A cause, and the number of the packet that has it; 0 where no packets are read.
+#[derive(Debug, Drop)]
+pub struct Refusal {
+    pub packet: u64,
+    pub cause: Cause,
+}
+
+impl Why {
+    /// The reason's printed name.
+    pub fn name(self) -> &'static str
+        ensures { result.now ≡ why_name self }
+    {
+        match self {
+            Why::NoPath => "NoPath",
+            Why::Taken => "Taken",
+            Why::NoParent => "NoParent",
+            Why::NotDir => "NotDir",
+            Why::NotFile => "NotFile",
+            Why::NotEmpty => "NotEmpty",
+            Why::WrongContent => "WrongContent",
+            Why::NoChange => "NoChange",
+            Why::NoAttr => "NoAttr",
+            Why::NoRoot => "NoRoot",
+            Why::Reserved => "Reserved",
+        }
+    }
+}
+
+impl PacketWhy {
+    /// The reason's printed name.
+    pub fn name(self) -> &'static str
+        ensures { result.now ≡ packet_why_name self }
+    {
+        match self {
+            PacketWhy::Truncated => "Truncated",
+            PacketWhy::Unsupported => "Unsupported",
+            PacketWhy::NotPacket => "NotPacket",
+            PacketWhy::BadBase64 => "BadBase64",
+        }
+    }
+}
+
+impl Field {
+    /// The field's printed name.
+    pub fn name(self) -> &'static str
+        ensures { result.now ≡ field_name self }
+    {
+        match self {
+            Field::Signature => "signature",
+            Field::Name => "name",
+            Field::Key => "key",
+        }
+    }
+}
+
+impl Cause {
+    /// The cause's printed name.
+    pub fn name(&self) -> &'static str
+        ensures { result.now ≡ cause_name self.now }
+    {
+        match self {
+            Cause::TextTooLong { .. } => "TextTooLong",
+            Cause::NotText { .. } => "NotText",
+            Cause::BadStanza { .. } => "BadStanza",
+            Cause::BadOrder { .. } => "BadOrder",
+            Cause::Repeated { .. } => "Repeated",
+            Cause::BadEdge { .. } => "BadEdge",
+            Cause::Collision { .. } => "Collision",
+            Cause::LogFull { .. } => "LogFull",
+            Cause::UnknownParent { .. } => "UnknownParent",
+            Cause::BadChange { .. } => "BadChange",
+            Cause::Disagree { .. } => "Disagree",
+            Cause::Revived { .. } => "Revived",
+            Cause::TooManyNodes { .. } => "TooManyNodes",
+            Cause::PathTooLong { .. } => "PathTooLong",
+            Cause::UnknownFile { .. } => "UnknownFile",
+            Cause::ManifestDiffers { .. } => "ManifestDiffers",
+            Cause::UnknownRevision { .. } => "UnknownRevision",
+            Cause::NoSuchPath { .. } => "NoSuchPath",
+            Cause::NotAFile { .. } => "NotAFile",
+            Cause::Related { .. } => "Related",
+            Cause::UnknownNode { .. } => "UnknownNode",
+            Cause::NotADirectory { .. } => "NotADirectory",
+            Cause::NotAConflict { .. } => "NotAConflict",
+            Cause::BadField { .. } => "BadField",
+            Cause::NoBranch => "NoBranch",
+            Cause::OneHead { .. } => "OneHead",
+            Cause::BadPacket { .. } => "BadPacket",
+            Cause::IdMismatch { .. } => "IdMismatch",
+            Cause::StoreNotEmpty { .. } => "StoreNotEmpty",
+            Cause::BadRequest { .. } => "BadRequest",
+        }
+    }
+}
