@@ -1,9 +1,9 @@
 // The ids of files, revisions and manifests.
 ghost use Rattle.std.specs.Prelude.{◌≡◌, ◌↔◌, IsSome, IfSome, length};
-ghost use Rattle.hex.specs.Hex.{encode_lower, IsBytes};
+ghost use Rattle.hex.specs.Hex.{encode_lower, decode_sized, IsBytes};
 ghost use Rattle.std.specs.Prelude.{true};
 ghost use Rattle.std.specs.List.{list_all};
-ghost use Rattle.mtn_base.specs.Hex.{IsIdText, is_lower_digit as is_digit};
+ghost use Rattle.mtn_base.specs.Hex.{IsIdText, is_lower_digit as is_digit, read_id, id_from};
 
 /// The SHA-1 of a text: twenty bytes, compared byte by byte.
 #[derive(Clone, Copy, Debug, PartialEq, Eq, PartialOrd, Ord)]
@@ -15,6 +15,7 @@ impl Id {
     pub fn read_hex(text: &[u8]) -> Option<Id>
         ensures value { IfSome result (λ id. encode_lower id.0 ≡ text.now) }
         ensures found { IsSome result ↔ IsIdText text.now }
+        ensures read { result ≡ read_id text.now }
     {
         if are_lower_digits(text) {
             decoded(text)
@@ -59,6 +60,7 @@ fn decoded(text: &[u8]) -> Option<Id>
     requires { list_all is_digit text.now ≡ true }
     ensures value { IfSome result (λ id. encode_lower id.0 ≡ text.now) }
     ensures found { IsSome result ↔ (length text.now ≡ 40) }
+    ensures read { result ≡ id_from (decode_sized text.now 20) }
 {
     let mut bytes = [0; 20];
     match hex::decode_to_slice(text, &mut bytes) {

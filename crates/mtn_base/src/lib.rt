@@ -19,7 +19,7 @@ mod refusal;
 mod refusal_line;
 
 pub use id::Id;
-pub use limit::{MAX_LOG, room_in_log};
+pub use limit::{MAX_LOG, MAX_TEXT, room_in_log};
 pub use list::{Bytes, List};
 pub use name::NodeName;
 pub use no_memory::NoMemory;

@@ -1,7 +1,10 @@
-// How many revisions a store takes.
+// How much a store takes.
 ghost use Rattle.std.specs.Prelude.{◌≡◌, ◌<◌, ◌≤◌, OnOk, IfErr};
 
 use crate::Cause;
+
+/// The most bytes of a file, a revision text, a resolution text, a certificate's value or signature.
+pub const MAX_TEXT: usize = 67_108_864;
 
 /// The most revisions of a store, 2^31.
 pub const MAX_LOG: u64 = 2_147_483_648;

@@ -1,0 +1,74 @@
+-- What a command does to a state, and what it answers.
+use Rattle.std.specs.Prelude.{List, [], ◌∷◌, ◌++◌, Option, Some, None, ℕ, codes, Bool, true, false, if◌then◌else◌}
+use Rattle.mtn_cli.specs.declared.answer.Reply.{Reply}
+use Rattle.hex.specs.Hex.{encode_lower}
+use Rattle.mtn_model.specs.State.{State}
+use Rattle.mtn_base.specs.declared.refusal.Cause.{Cause}
+use Rattle.std.specs.FinMap.{get}
+use Rattle.mtn_base.specs.declared.id.Id.{Id}
+use Rattle.mtn_base.specs.declared.refusal.Cause.TheVariants.{UnknownFile}
+use Rattle.mtn_base.specs.Refusals.{line_of}
+use Rattle.mtn_history.specs.Files.{file_refusal, with_file}
+use Rattle.mtn_cli.specs.Words.{call_of}
+use Rattle.mtn_cli.specs.declared.command.Call.{Call}
+use Rattle.mtn_cli.specs.declared.command.Call.TheVariants.{PutFile, GetFile}
+use Rattle.mtn_cli.specs.declared.status.Status.{Status}
+use Rattle.mtn_cli.specs.declared.status.Status.TheVariants as status
+
+-- the new state, the output, and how the command ends
+pub record Outcome : Type 0 where
+  pub state : State
+  pub output : List ℕ
+  pub status : Status
+
+-- how a reply ends
+abbrev pub reply_status : Reply → Status
+reply_status reply = if reply.conflicts then status.Conflicts else status.Ok
+
+-- an id's digits and LF
+abbrev pub id_line : List ℕ → List ℕ
+id_line id = encode_lower id ++ 10 ∷ []
+
+abbrev pub refusal_line : Cause → List ℕ
+refusal_line cause = line_of (record { packet = 0; cause = cause })
+
+-- the refusal, if there is one, and else what was done
+abbrev pub unless : Option Cause → State → State → List ℕ → Outcome
+unless None old new output = record { state = new; output = output; status = status.Ok }
+unless (Some cause) old new output = record { state = old; output = refusal_line cause; status = status.Refused }
+
+-- the bytes that are held, or the refusal that none are
+abbrev pub found_file : State → Id → Option (List ℕ) → Outcome
+found_file s id None = record { state = s; output = refusal_line (UnknownFile id); status = status.Refused }
+found_file s id (Some bytes) = record { state = s; output = bytes; status = status.Ok }
+
+-- One equation a command; f is what the ident makes of a text.
+abbrev pub step : (List ℕ → List ℕ) → State → Call → List ℕ → Outcome
+step f s PutFile payload = unless (file_refusal f s payload) s (with_file f s payload) (id_line (f payload))
+step f s (GetFile id) payload = found_file s id (get s.files id.0)
+
+abbrev pub usage_line : List ℕ
+usage_line = codes "usage" ++ 10 ∷ []
+
+-- one line a command
+abbrev pub takes_payload : Call → Bool
+takes_payload PutFile = true
+takes_payload (GetFile id) = false
+
+-- whether the source is read
+abbrev pub reads : Option Call → Bool
+reads None = false
+reads (Some call) = takes_payload call
+
+-- what a command is given of the input
+abbrev pub fed : Bool → List ℕ → List ℕ
+fed true input = input
+fed false input = []
+
+-- a command by its words; words outside the grammar leave the state
+abbrev pub session_of : (List ℕ → List ℕ) → State → Option Call → List ℕ → Outcome
+session_of f s None input = record { state = s; output = usage_line; status = status.Usage }
+session_of f s (Some call) input = step f s call (fed (takes_payload call) input)
+
+abbrev pub session : (List ℕ → List ℕ) → State → List (List ℕ) → List ℕ → Outcome
+session f s words input = session_of f s (call_of words) input

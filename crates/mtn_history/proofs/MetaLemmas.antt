@@ -1,0 +1,158 @@
+-- What the records of table 1 say of a state.
+use Rattle.std.proofs.Common.{◌≡◌, ◌^◌, ◌<◌, inl, inr, ℕ, Bool, true, false, List, [], ◌∷◌, length, Option, Some, None, refl, sym, ap, ◌∙◌, subst, arith}
+use Rattle.std.specs.Prelude.{MatchBool, IfSome, is_some}
+use Rattle.std.specs.Int.{w64, to_be_bytes, from_be_bytes}
+use Rattle.std.specs.FinMap.{get, get-empty, insert, empty}
+use Rattle.std.specs.Ordering.{nat_cmp}
+use Rattle.std.specs.Cmp.Lexicographic.{slice_cmp}
+use Rattle.std.proofs.lemmas.Nat.{from_be_bytes-to_be_bytes_8}
+use Rattle.mtn_model.specs.Table.{Table, Contents, body_at}
+use Rattle.mtn_model.specs.State.{State, IsLawful}
+use Rattle.mtn_ports.specs.declared.batch.Put.{Put}
+use Rattle.mtn_ports.specs.Kept.{with_all, Adds, Same, MayLeave, IsBody}
+use Rattle.mtn_history.specs.declared.errors.Damage.{Damage}
+use Rattle.mtn_history.specs.declared.errors.Damage.TheVariants.{Bad, Missing}
+use Rattle.mtn_history.specs.declared.errors.StoreError.{StoreError}
+use Rattle.mtn_history.specs.declared.errors.StoreError.TheVariants.{Failed, Damaged, NoMemory}
+use Rattle.mtn_history.specs.Errors.{IfDamage}
+use Rattle.mtn_history.specs.declared.meta.Meta.{Meta}
+use Rattle.mtn_history.specs.declared.pending.Pending.{Pending}
+use Rattle.mtn_history.specs.Meta.{meta_of, count_key, version_key, version, Counted, IsMetaOf, VersionDamage, MetaDamage}
+use Rattle.mtn_history.specs.Damage.{IsDamage, IsShown}
+use Rattle.mtn_history.specs.Stands.{StandsFor, Stands, IsNew, IsDraft, WasTold, Finishes, FinishLeaves}
+use Rattle.mtn_history.proofs.FileLemmas.{get_inserted, draft_stands, empty_lawful}
+
+count_of : (n : ℕ) → get (meta_of n) count_key ≡ Some (to_be_bytes w64 n)
+count_of n = get_inserted (insert empty count_key (to_be_bytes w64 n)) version_key version count_key ∙ get_inserted empty count_key (to_be_bytes w64 n) count_key
+
+version_of : (n : ℕ) → get (meta_of n) version_key ≡ Some version
+version_of n = get_inserted (insert empty count_key (to_be_bytes w64 n)) version_key version version_key
+
+-- the records of table 1 of a store that is not new
+held_count : (f : List ℕ → List ℕ) (c : Contents) (s : State) → StandsFor f c s → body_at c 1 count_key ≡ Some (to_be_bytes w64 (length s.log))
+held_count f c s stands = ap (λ (m : Table). get m count_key) stands.meta ∙ count_of (length s.log)
+
+held_version : (f : List ℕ → List ℕ) (c : Contents) (s : State) → StandsFor f c s → body_at c 1 version_key ≡ Some version
+held_version f c s stands = ap (λ (m : Table). get m version_key) stands.meta ∙ version_of (length s.log)
+
+none_held : (c : Contents) (s : State) (key : List ℕ) → IsNew c s → body_at c 1 key ≡ None
+none_held c s key new = ap (λ (d : Contents). body_at d 1 key) new.records ∙ get-empty (slice_cmp nat_cmp) key
+
+opened_by : (b : Bool) (n : ℕ) (f : List ℕ → List ℕ) (c : Contents) (s : State) →
+    MatchBool b ((body_at c 1 count_key ≡ None) × (n ≡ 0)) (Counted c n) → Stands f c s → (n ≡ length s.log) × MatchBool b (IsNew c s) (StandsFor f c s)
+opened_by true n f c s meta (inl new) = (meta.1 ∙ ap (λ (x : State). length x.log) (sym new.state), new)
+opened_by true n f c s meta (inr stands) = let there = held_count f c s stands in let none = meta.0 in cc
+opened_by false n f c s meta (inl new) = let none = none_held c s count_key new in let there = meta.held in cc
+opened_by false n f c s meta (inr stands) =
+    let body : meta.body ≡ to_be_bytes w64 (length s.log) = (let there = held_count f c s stands in let held = meta.held in cc) in
+    let none : length s.log ≡ 0 = ap length stands.lawful.log in
+    let small : length s.log < 2 ^ 64 = omega arith in
+    (meta.number ∙ ap (from_be_bytes w64) body ∙ from_be_bytes-to_be_bytes_8 (length s.log) small, stands)
+
+-- what was read of table 1 begins a draft
+pub opened : (f : List ℕ → List ℕ) (told : Option Contents) (m : Meta) (p : Pending) → IfSome told (λ d. IsMetaOf d m) →
+    p.batch ≡ [] → p.count ≡ m.count → p.is_new ≡ m.is_new → (c : Contents) (s : State) → told ≡ Some c → Stands f c s → IsDraft f c p s
+opened f told m p reads batch count is_new c s at stands =
+    let meta = subst (λ o. IfSome o (λ d. IsMetaOf d m)) at reads in
+    let new = opened_by m.is_new m.count f c s meta stands in
+    record {
+      count = count ∙ new.0;
+      stands = subst (λ (ps : List Put). MatchBool p.is_new (IsNew (with_all c ps) s) (StandsFor f (with_all c ps) s)) (sym batch)
+          (subst (λ b. MatchBool b (IsNew c s) (StandsFor f c s)) (sym is_new) new.1);
+    }
+
+-- records that stand for a state show no damage
+pub no_damage : (f : List ℕ → List ℕ) (c : Contents) (s : State) (d : Damage) → Stands f c s → IsDamage c d → ⊥
+no_damage f c s d (inl new) damage = let none = none_held c s count_key new in (let there : is_some (body_at c 1 count_key) ≡ true = damage.0 in let not_there : is_some (body_at c 1 count_key) ≡ false = ap is_some none in cc)
+no_damage f c s (Bad table key body) (inr stands) damage = elim damage.1 [
+  | inl v ↦ let there = held_version f c s stands in let held = v.2 in let differs = v.3 in absurd (differs cc)
+  | inr n ↦
+      let body_is : body ≡ to_be_bytes w64 (length s.log) = (let there = held_count f c s stands in let held = n.2 in cc) in
+      let differs = n.3 in absurd (differs (ap length body_is))
+]
+no_damage f c s (Missing table key) (inr stands) damage = elim damage.1 [
+  | inl v ↦ let there = held_version f c s stands in let held = v.2 in cc
+  | inr n ↦ n
+]
+
+pub err_no_damage : (f : List ℕ → List ℕ) (told : Option Contents) (e : StoreError) → IfSome told (λ c. IfDamage e (IsDamage c)) →
+    (c : Contents) (s : State) → told ≡ Some c → Stands f c s → IfDamage e (λ _. ⊥)
+err_no_damage f told e shows c s at stands = by_error e (subst (λ o. IfSome o (λ d. IfDamage e (MetaDamage d))) at shows)
+  where
+    by_error : (e : StoreError) → IfDamage e (MetaDamage c) → IfDamage e (λ _. ⊥)
+    by_error (Damaged d) damage = no_damage f c s d stands damage
+    by_error Failed damage = tt
+    by_error NoMemory damage = tt
+
+no_records : (ps : List Put) → length ps ≡ 0 → ps ≡ []
+no_records [] e = refl
+no_records (p ∷ ps) e = absurd (omega arith)
+
+-- a draft with nothing pending stands for the state as it is
+pub bare_stands : (f : List ℕ → List ℕ) (c : Contents) (p : Pending) (s : State) → length p.batch ≡ 0 → IsDraft f c p s → Stands f c s
+bare_stands f c p s none draft = subst (λ (ps : List Put). Stands f (with_all c ps) s) (no_records p.batch none) (draft_stands f c p s draft)
+
+pub told_of_same : (old new : Option Contents) → Same old new → WasTold old new
+told_of_same old new same d at = (d, same d at)
+
+pub told_of_adds : (old new : Option Contents) (ps : List Put) → Adds old new ps → WasTold old new
+told_of_adds old new ps adds d at = let was = adds d at in (was.0, was.1)
+
+same_told : (told : Option Contents) (c d : Contents) → told ≡ Some c → told ≡ Some d → c ≡ d
+same_told told c d at again = cc
+
+-- nothing was pending
+pub finished_bare : (p : Pending) (told : Option Contents) → length p.batch ≡ 0 → Finishes p told told
+finished_bare p told none f c d s at again draft = subst (λ (e : Contents). Stands f e s) (same_told told c d at again) (bare_stands f c p s none draft)
+
+-- all was put
+pub finished_all : (p : Pending) (old new : Option Contents) → Adds old new p.batch → Finishes p old new
+finished_all p old new adds f c d s at now draft =
+    let was = adds d now in
+    let is : d ≡ with_all c p.batch = was.2 ∙ ap (λ (e : Contents). with_all e p.batch) (same_told old was.0 c was.1 at) in
+    subst (λ (e : Contents). Stands f e s) (sym is) (draft_stands f c p s draft)
+
+pub finish_leaves : (p : Pending) (old new : Option Contents) (before now : Contents → Type 0) → MayLeave old new before now p.batch → FinishLeaves p old new before now
+finish_leaves p old new before now may f c d s at again draft e left = elim (may c at d again e left) [
+  | inl was ↦ inl was
+  | inr is ↦ inr (subst (λ (x : Contents). Stands f x s) (sym is) (draft_stands f c p s draft))
+]
+
+-- The record that is printed is one of the contents, or it is not in them.
+pub shown : (c : Contents) (d : Damage) → IsDamage c d → IsShown c d
+shown c (Bad table key body) damage = elim damage.1 [
+  | inl v ↦ ap (λ t. body_at c t key) v.0 ∙ ap (body_at c 1) v.1 ∙ v.2
+  | inr n ↦ ap (λ t. body_at c t key) n.0 ∙ ap (body_at c 1) n.1 ∙ n.2
+]
+shown c (Missing table key) damage = elim damage.1 [
+  | inl v ↦ ap (λ t. body_at c t key) v.0 ∙ ap (body_at c 1) v.1 ∙ v.2
+  | inr n ↦ absurd n
+]
+
+-- what records stand for is lawful
+pub lawful_of : (f : List ℕ → List ℕ) (c : Contents) (s : State) → Stands f c s → IsLawful f s
+lawful_of f c s (inl new) = subst (IsLawful f) (sym new.state) (empty_lawful f)
+lawful_of f c s (inr stands) = stands.lawful
+
+-- `count` was found, and nothing changed since
+count_found : (mid : Option Contents) (c : Contents) (found : Bool) (out : List ℕ) → mid ≡ Some c → IfSome mid (λ d. IsBody (body_at d 1 count_key) found out) → found ≡ true → body_at c 1 count_key ≡ Some out
+count_found mid c found out at finds there = subst (λ t. IsBody (body_at c 1 count_key) t out) there (subst (λ o. IfSome o (λ d. IsBody (body_at d 1 count_key) found out)) at finds)
+
+pub counted : (mid new : Option Contents) (found : Bool) (out body : List ℕ) (n : ℕ) → Same mid new → IfSome mid (λ d. IsBody (body_at d 1 count_key) found out) → found ≡ true → body ≡ out →
+    (length body ≡ 8) × (n ≡ from_be_bytes w64 body) → IfSome new (λ c. body_at c 1 version_key ≡ Some version) → IfSome new (λ c. Counted c n)
+counted mid None found out body n same finds there is spells versioned = tt
+counted mid (Some c) found out body n same finds there is spells versioned = record {
+  body = body;
+  held = count_found mid c found out (same c refl) finds there ∙ ap Some (sym is);
+  eight = spells.0;
+  number = spells.1;
+  version = versioned;
+}
+
+pub version_damage : (mid new : Option Contents) (found : Bool) (out : List ℕ) (e : StoreError) → Same mid new → IfSome mid (λ d. IsBody (body_at d 1 count_key) found out) → found ≡ true →
+    IfSome new (λ c. IfDamage e (VersionDamage c)) → IfSome new (λ c. IfDamage e (MetaDamage c))
+version_damage mid None found out e same finds there damage = tt
+version_damage mid (Some c) found out Failed same finds there damage = tt
+version_damage mid (Some c) found out NoMemory same finds there damage = tt
+version_damage mid (Some c) found out (Damaged d) same finds there damage =
+    (ap is_some (count_found mid c found out (same c refl) finds there), inl damage)

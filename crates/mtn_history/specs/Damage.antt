@@ -1,0 +1,16 @@
+-- Records that stand for no state.
+use Rattle.std.specs.Prelude.{◌≡◌, ℕ, List, Some, None}
+use Rattle.mtn_model.specs.Table.{Contents, body_at}
+use Rattle.mtn_history.specs.declared.errors.Damage.{Damage}
+use Rattle.mtn_history.specs.declared.errors.Damage.TheVariants.{Bad, Missing}
+use Rattle.mtn_history.specs.Meta.{MetaDamage}
+
+-- A record that fails its reader or cannot stand beside the others, or a key that another record asks for. A command that
+-- reads more records has its own cases, beside that of table 1.
+abbrev pub IsDamage : Contents → Damage → Type 0
+IsDamage c d = MetaDamage c d
+
+-- a bad record is one of the contents, and a missing one is not
+abbrev pub IsShown : Contents → Damage → Type 0
+IsShown c (Bad table key body) = body_at c table key ≡ Some body
+IsShown c (Missing table key) = body_at c table key ≡ None

@@ -1,0 +1,6 @@
+pub mod Damage
+pub mod Errors
+pub mod Files
+pub mod Meta
+pub mod Records
+pub mod Stands

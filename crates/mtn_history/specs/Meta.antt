@@ -1,0 +1,48 @@
+-- Table 1: `count` with the number of revisions in eight bytes, greatest first, and `version` with the byte `1`. The layout is
+-- our choice.
+use Rattle.std.specs.Prelude.{◌≡◌, ◌≢◌, ◌⊎◌, ℕ, List, [], ◌∷◌, length, Some, None, IsSome, MatchBool, codes}
+use Rattle.std.specs.Int.{w64, to_be_bytes, from_be_bytes}
+use Rattle.std.specs.FinMap.{empty, insert}
+use Rattle.mtn_model.specs.Table.{Table, Contents, body_at}
+use Rattle.mtn_history.specs.declared.errors.Damage.{Damage}
+use Rattle.mtn_history.specs.declared.errors.Damage.TheVariants.{Bad, Missing}
+use Rattle.mtn_history.specs.declared.meta.Meta.{Meta}
+
+abbrev pub count_key : List ℕ
+count_key = codes "count"
+
+abbrev pub version_key : List ℕ
+version_key = codes "version"
+
+-- the byte `1`
+abbrev pub version : List ℕ
+version = 49 ∷ []
+
+-- the two records of a store of so many revisions
+abbrev pub meta_of : ℕ → Table
+meta_of n = insert (insert empty count_key (to_be_bytes w64 n)) version_key version
+
+-- the number under `count`
+pub record Counted (c : Contents) (n : ℕ) : Type 0 where
+  pub body : List ℕ
+  pub held : body_at c 1 count_key ≡ Some body
+  pub eight : length body ≡ 8
+  pub number : n ≡ from_be_bytes w64 body
+  pub version : body_at c 1 version_key ≡ Some version
+
+-- what was read of table 1
+abbrev pub IsMetaOf : Contents → Meta → Type 0
+IsMetaOf c m = MatchBool m.is_new ((body_at c 1 count_key ≡ None) × (m.count ≡ 0)) (Counted c m.count)
+
+abbrev pub VersionDamage : Contents → Damage → Type 0
+VersionDamage c (Bad table key body) = (table ≡ 1) × (key ≡ version_key) × (body_at c 1 version_key ≡ Some body) × (body ≢ version)
+VersionDamage c (Missing table key) = (table ≡ 1) × (key ≡ version_key) × (body_at c 1 version_key ≡ None)
+
+abbrev pub CountDamage : Contents → Damage → Type 0
+CountDamage c (Bad table key body) = (table ≡ 1) × (key ≡ count_key) × (body_at c 1 count_key ≡ Some body) × (length body ≢ 8)
+CountDamage c (Missing table key) = ⊥
+
+-- a record of table 1 that fails its reader, or that `count` asks for and is not there
+abbrev pub MetaDamage : Contents → Damage → Type 0
+MetaDamage c d = IsSome (body_at c 1 count_key) × (VersionDamage c d ⊎ CountDamage c d)
+

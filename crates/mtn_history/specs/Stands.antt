@@ -1,0 +1,46 @@
+-- What records stand for: the tables of a store, each with its field. The layout is our choice.
+use Rattle.std.specs.Prelude.{◌≡◌, ◌≢◌, ◌⊎◌, ℕ, List, length, MatchBool, Option, Some, Result, Ok, Err}
+use Rattle.mtn_history.specs.declared.errors.StoreError.{StoreError}
+use Rattle.mtn_history.specs.Errors.{IfDamage}
+use Rattle.mtn_model.specs.Table.{Contents, nothing, no_table}
+use Rattle.mtn_model.specs.State.{State, IsLawful, empty_state}
+use Rattle.mtn_ports.specs.Kept.{with_all, IfTold}
+use Rattle.mtn_history.specs.Meta.{meta_of}
+use Rattle.mtn_history.specs.declared.pending.Pending.{Pending}
+
+-- The records of a store that is not new: table 1 is `count` and `version`, table 2 the files, and no other has a record.
+-- A command that keeps more takes its table out of `others` and gives it a field.
+pub record StandsFor (f : List ℕ → List ℕ) (c : Contents) (s : State) : Type 0 where
+  pub lawful : IsLawful f s
+  pub meta : c 1 ≡ meta_of (length s.log)
+  pub files : c 2 ≡ s.files
+  pub others : (t : ℕ) → t ≢ 1 → t ≢ 2 → c t ≡ no_table
+
+-- both are empty
+pub record IsNew (c : Contents) (s : State) : Type 0 where
+  pub records : c ≡ nothing
+  pub state : s ≡ empty_state
+
+abbrev pub Stands : (List ℕ → List ℕ) → Contents → State → Type 0
+Stands f c s = IsNew c s ⊎ StandsFor f c s
+
+-- a draft's keeper with its pending records stands for a state
+pub record IsDraft (f : List ℕ → List ℕ) (c : Contents) (p : Pending) (s : State) : Type 0 where
+  pub count : p.count ≡ length s.log
+  pub stands : MatchBool p.is_new (IsNew (with_all c p.batch) s) (StandsFor f (with_all c p.batch) s)
+
+-- a draft begins at the state that the records stand for, and finds no damage
+abbrev pub Opens : (List ℕ → List ℕ) → Contents → State → Result Pending StoreError → Type 0
+Opens f c s (Ok p) = IsDraft f c p s
+Opens f c s (Err e) = IfDamage e (λ _. ⊥)
+
+abbrev pub WasTold : Option Contents → Option Contents → Type 0
+WasTold old new = IfTold new (λ _. (c : Contents) × (old ≡ Some c))
+
+-- the records stand for what the draft stood for
+abbrev pub Finishes : Pending → Option Contents → Option Contents → Type 0
+Finishes p old new = (f : List ℕ → List ℕ) (c d : Contents) (s : State) → old ≡ Some c → new ≡ Some d → IsDraft f c p s → Stands f d s
+
+-- a crash leaves what it might have left before, or records that stand for that state
+abbrev pub FinishLeaves : Pending → Option Contents → Option Contents → (Contents → Type 0) → (Contents → Type 0) → Type 0
+FinishLeaves p old new before now = (f : List ℕ → List ℕ) (c d : Contents) (s : State) → old ≡ Some c → new ≡ Some d → IsDraft f c p s → (e : Contents) → now e → before e ⊎ Stands f e s

@@ -1,0 +1,63 @@
+// Files, kept and found.
+ghost use Rattle.std.specs.Prelude.{◌≡◌, List, ℕ, Some, Err, IfErr, OnErr};
+ghost use Rattle.mtn_model.specs.Table.{Contents};
+ghost use Rattle.mtn_model.specs.State.{State};
+ghost use Rattle.mtn_ports.specs.Causes.{Rose};
+ghost use Rattle.mtn_ports.specs.Kept.{Stays};
+ghost use Rattle.mtn_history.specs.Errors.{IfStoreDamage};
+ghost use Rattle.mtn_history.specs.Files.{AcceptsFile, FindsFile};
+ghost use Rattle.mtn_history.specs.Stands.{IsDraft};
+
+use crate::{DraftOver, FILES, HistoryError, Pending, StoreError};
+use mtn_base::{Cause, Id, MAX_TEXT};
+use mtn_ports::{Ident, Keeper};
+
+impl<'a, K: Keeper> DraftOver<'a, K, Pending> {
+    /// Keeps a file under its id, which it answers. A file that is held with the same bytes is kept
+    /// already. It is refused as TextTooLong above 64 MiB, and as Collision where other bytes are held
+    /// under the id. Any error leaves what is pending as it was.
+    pub fn put_file<I: Ident>(&mut self, ident: &I, bytes: &[u8]) -> Result<Id, HistoryError>
+        ensures same_reference { self.new.keeper.ghost_name ≡ self.old.keeper.ghost_name }
+        ensures stays { Stays K.contents K.leaves K.faults self.old.keeper.now self.new.keeper.now }
+        ensures accepts { (c : Contents) (s : State) → K.contents self.new.keeper.now ≡ Some c → IsDraft (I.meaning ident.now) c self.old.pending s
+            → AcceptsFile (I.meaning ident.now) c s bytes.now result self.new.pending }
+        ensures err { OnErr result (self.new.pending ≡ self.old.pending) }
+        ensures sound { IfErr result (λ e. IfStoreDamage e (λ _. ⊥)) }
+        ensures failed { result ≡ Err (HistoryError.Store StoreError.Failed) → Rose (K.faults self.old.keeper.now) (K.faults self.new.keeper.now) }
+    {
+        if bytes.len() > MAX_TEXT {
+            return Err(HistoryError::Refused(Cause::TextTooLong {
+                length: bytes.len() as u64,
+            }));
+        }
+        let id = ident.id(bytes);
+        let key = id.0.as_slice();
+        let mut held = Vec::new(self.pending.alloc);
+        if !self.get(FILES, key, &mut held)? {
+            self.pending.put(FILES, key, bytes)?;
+            return Ok(id);
+        }
+        if held.as_slice() != bytes {
+            return Err(HistoryError::Refused(Cause::Collision { id }));
+        }
+        Ok(id)
+    }
+
+    /// Replaces `out` by the bytes of a file; UnknownFile where none is held under the id. After an
+    /// error `out` may hold anything. What is pending stays.
+    pub fn file(&mut self, id: Id, out: &mut Vec<u8>) -> Result<(), HistoryError>
+        ensures same_reference { self.new.keeper.ghost_name ≡ self.old.keeper.ghost_name }
+        ensures stays { Stays K.contents K.leaves K.faults self.old.keeper.now self.new.keeper.now }
+        ensures finds { (f : List ℕ → List ℕ) (c : Contents) (s : State) → K.contents self.new.keeper.now ≡ Some c → IsDraft f c self.old.pending s
+            → FindsFile s id result out.new.items }
+        ensures pending { self.new.pending ≡ self.old.pending }
+        ensures sound { IfErr result (λ e. IfStoreDamage e (λ _. ⊥)) }
+        ensures failed { result ≡ Err (HistoryError.Store StoreError.Failed) → Rose (K.faults self.old.keeper.now) (K.faults self.new.keeper.now) }
+    {
+        if self.get(FILES, id.0.as_slice(), out)? {
+            Ok(())
+        } else {
+            Err(HistoryError::Refused(Cause::UnknownFile { id }))
+        }
+    }
+}
