@@ -1,7 +1,7 @@
 use Rattle.std.proofs.Common.{◌≡◌, ◌+◌, ◌-◌, ℕ, List, ◌++◌, length, take, drop, sym, arith, ap, ◌∙◌, take-add}
 use Rattle.std.proofs.lemmas.List.{take_rest, length-take, length-drop}
 use Rattle.std.proofs.KnownBytes.{Appends-trans}
-use Rattle.mtn_cli.proofs.top.deliver.Goals as goal
+use Rattle.mtn_cli.proofs.deliver.deliver.Goals as goal
 
 -- the front that was written, and the front of the rest
 fronts : (i n : ℕ) (xs : List ℕ) → take (i + n) xs ≡ take i xs ++ take n (take (length xs - i) (drop i xs))
