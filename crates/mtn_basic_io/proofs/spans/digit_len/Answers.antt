@@ -1,5 +1,4 @@
-use Rattle.std.proofs.Common.{◌≡◌, ◌+◌, false, true, get_or, drop, sym, ◌∙◌, arith, zero-add}
-use Rattle.std.specs.List.{prefix_len}
+use Rattle.std.proofs.Common.{◌≡◌, false, true, get_or, sym, ◌∙◌, arith, zero-add}
 use Rattle.std.proofs.lemmas.List.Sums.{prefix_len-drop_yes, prefix_len-drop_no, prefix_len-drop_all}
 use Rattle.mtn_base.specs.Hex.{is_lower_digit}
 use Rattle.mtn_basic_io.proofs.spans.digit_len.Goals as goal

@@ -1,6 +1,4 @@
-use Rattle.std.proofs.Common.{◌≡◌, ◌+◌, ◌<◌, ◌∷◌, [], ◌++◌, length, take, get_or, sym, ap, ◌∙◌, append_assoc, arith}
-use Rattle.std.specs.List.{flat_map}
-use Rattle.mtn_basic_io.specs.Spelling.{escaped_byte}
+use Rattle.std.proofs.Common.{◌<◌, length, append_assoc, arith}
 use Rattle.std.proofs.lemmas.List.Sums.{prefix_len-le-length}
 use Rattle.mtn_basic_io.specs.Steps.{is_plain}
 use Rattle.mtn_basic_io.proofs.Escaped.{front_written, stop_written}
