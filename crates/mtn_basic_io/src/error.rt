@@ -1,0 +1,25 @@
+// Why a text was not read.
+use mtn_base::NoMemory as Wanting;
+use thiserror::Error;
+
+/// Why `read` gives no stanzas.
+#[derive(Clone, Copy, Debug, PartialEq, Eq, Error)]
+pub enum ReadError {
+    /// The text is no printed form; its first `place` bytes begin one, and no more of it does.
+    #[error("not a text of stanzas from byte {place} on")]
+    NotText { place: u64 },
+    /// Memory is wanting.
+    #[error("memory is wanting")]
+    NoMemory,
+}
+
+impl From<Wanting> for ReadError {
+    ghost use Rattle.std.specs.Prelude.{◌≡◌};
+    ghost use Rattle.mtn_basic_io.specs.declared.error.ReadError.TheVariants.{NoMemory};
+
+    ghost from_gives = { λ _ e. e ≡ NoMemory };
+
+    fn from(_: Wanting) -> Self {
+        ReadError::NoMemory
+    }
+}

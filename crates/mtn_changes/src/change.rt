@@ -1,0 +1,164 @@
+// What changes a tree, and from where.
+ghost use Rattle.std.specs.Prelude.{◌≡◌, IfOk};
+
+use mtn_base::{Bytes, Id, List, NoMemory, Path};
+use std::alloc::Global;
+use std::marker::Model;
+
+/// The most bytes of an attribute key.
+pub const MAX_KEY: usize = 255;
+
+/// One change of a tree. A key is 1 to 255 bytes of UTF-8, a value any bytes.
+#[derive(Debug, Drop)]
+pub enum Change {
+    Delete {
+        path: Path,
+    },
+    Rename {
+        path: Path,
+        to: Path,
+    },
+    AddDir {
+        path: Path,
+    },
+    AddFile {
+        path: Path,
+        content: Id,
+    },
+    Patch {
+        path: Path,
+        from: Id,
+        to: Id,
+    },
+    Clear {
+        path: Path,
+        key: Bytes,
+    },
+    Set {
+        path: Path,
+        key: Bytes,
+        value: Bytes,
+    },
+}
+
+/// Changes in order, which contracts see as their list.
+#[derive(Debug, Drop)]
+pub struct Changeset {
+    pub changes: List<Change>,
+}
+
+impl Model for Changeset {
+    ghost use Rattle.std.specs.Prelude.{List as Seq};
+    ghost use Rattle.mtn_changes.specs.declared.change.Change.{Change};
+
+    ghost Value = { Seq Change };
+
+    ghost view = { λ c. c.changes };
+}
+
+/// The changes from a parent; from nothing where there is none.
+#[derive(Debug, Drop)]
+pub struct Edge {
+    pub parent: Option<Id>,
+    pub changes: Changeset,
+}
+
+/// A manifest's id and the edges that lead to it.
+#[derive(Debug, Drop)]
+pub struct Revision {
+    pub manifest: Id,
+    pub edges: List<Edge>,
+}
+
+impl Change {
+    /// An equal change.
+    pub fn copy(&self, alloc: Global) -> Result<Change, NoMemory>
+        ensures { IfOk result (λ c. c ≡ self.now) }
+    {
+        Ok(match self {
+            Change::Delete { path } => Change::Delete {
+                path: path.copy(alloc)?,
+            },
+            Change::Rename { path, to } => Change::Rename {
+                path: path.copy(alloc)?,
+                to: to.copy(alloc)?,
+            },
+            Change::AddDir { path } => Change::AddDir {
+                path: path.copy(alloc)?,
+            },
+            Change::AddFile { path, content } => Change::AddFile {
+                path: path.copy(alloc)?,
+                content: *content,
+            },
+            Change::Patch { path, from, to } => Change::Patch {
+                path: path.copy(alloc)?,
+                from: *from,
+                to: *to,
+            },
+            Change::Clear { path, key } => Change::Clear {
+                path: path.copy(alloc)?,
+                key: key.copy(alloc)?,
+            },
+            Change::Set { path, key, value } => Change::Set {
+                path: path.copy(alloc)?,
+                key: key.copy(alloc)?,
+                value: value.copy(alloc)?,
+            },
+        })
+    }
+}
+
+impl Changeset {
+    /// An equal list of changes.
+    pub fn copy(&self, alloc: Global) -> Result<Changeset, NoMemory>
+        ensures { IfOk result (λ c. c ≡ self.now) }
+    {
+        Ok(Changeset {
+            changes: copy_changes(alloc, self.changes.as_slice())?,
+        })
+    }
+}
+
+fn copy_changes(alloc: Global, changes: &[Change]) -> Result<List<Change>, NoMemory>
+    ensures { IfOk result (λ l. l ≡ changes.now) }
+{
+    let mut copies = List::new(alloc);
+    for change in changes {
+        copies.push(change.copy(alloc)?)?;
+    }
+    Ok(copies)
+}
+
+impl Edge {
+    /// An equal edge.
+    pub fn copy(&self, alloc: Global) -> Result<Edge, NoMemory>
+        ensures { IfOk result (λ e. e ≡ self.now) }
+    {
+        Ok(Edge {
+            parent: self.parent,
+            changes: self.changes.copy(alloc)?,
+        })
+    }
+}
+
+impl Revision {
+    /// An equal revision.
+    pub fn copy(&self, alloc: Global) -> Result<Revision, NoMemory>
+        ensures { IfOk result (λ r. r ≡ self.now) }
+    {
+        Ok(Revision {
+            manifest: self.manifest,
+            edges: copy_edges(alloc, self.edges.as_slice())?,
+        })
+    }
+}
+
+fn copy_edges(alloc: Global, edges: &[Edge]) -> Result<List<Edge>, NoMemory>
+    ensures { IfOk result (λ l. l ≡ edges.now) }
+{
+    let mut copies = List::new(alloc);
+    for edge in edges {
+        copies.push(edge.copy(alloc)?)?;
+    }
+    Ok(copies)
+}

@@ -1,0 +1,15 @@
+//! Changes of a tree, revisions, and their texts.
+//!
+//! A *change* deletes, renames, adds or patches one path, or clears or sets one attribute of it; its
+//! *rank* is the place of its kind in that order, and its *slot* what it changes: a path, an
+//! attribute of a path. An *edge* is the way from a parent revision: a list of changes, whose ranks
+//! rise and whose slots differ. A *revision* names its manifest and has one edge or two.
+//!
+//! The crates above rely on this: what is read of a stanza is the one change that the stanza spells
+//! (`specs/Stanzas.antt`), and None comes exactly where it spells none.
+#![tactic(auto)]
+
+mod change;
+mod lines;
+
+pub use change::{Change, Changeset, Edge, MAX_KEY, Revision};
