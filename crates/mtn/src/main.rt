@@ -1,79 +1,74 @@
 //! The program: `mtn STORE WORD..` runs one command over a store.
 //!
-//! STORE is `-`, an empty store in memory. The payload is standard input, the answer standard output,
-//! the exit status the number of the answer's status. Nothing is printed to standard error.
+//! STORE is a file, or `-` for an empty store in memory. The payload is standard input, the answer
+//! standard output, the exit status the number of the answer's status. Nothing is printed to standard
+//! error. The proofs here say that the program is safe and ends; what a command does is said by the
+//! clauses of `mtn_cli::run`.
 #![tactic(auto)]
 
+mod help;
+mod store;
+
+use help::{HELP, VERSION};
 use mtn_base::{Bytes, List, NoMemory};
-use mtn_cli::{Status, run};
-use mtn_ports::{Batch, MemKeeper, Sha1One, StdSink, StdSource};
+use mtn_cli::Status;
 use std::env;
 use std::io::{ErrorKind, Write};
 use std::process::ExitCode;
 use std::thread::Threads;
+use store::{in_file, in_memory};
 
-/// Why the words of the command line can not be had.
-#[derive(Clone, Copy, Debug)]
-enum NoWords {
-    NotUtf8,
-    NoMemory,
+/// What the command line asks for.
+#[derive(Debug, Drop)]
+enum Line {
+    /// A command over a store.
+    Command { store: String, words: List<Bytes> },
+    /// `--help` or `--version` as the only word.
+    Text(&'static str),
+    /// No store, or words that are not UTF-8.
+    Usage,
 }
 
-impl From<NoMemory> for NoWords {
-    fn from(_: NoMemory) -> Self {
-        NoWords::NoMemory
-    }
-}
-
-// The words of the command line, without the program's name.
-fn words_of(rt: &HostRuntime) -> Result<List<Bytes>, NoWords> {
-    let mut words = List::new(rt.alloc());
-    let args = match env::args(rt) {
-        Ok(args) => args,
-        Err(error) if error.kind() == ErrorKind::InvalidData => return Err(NoWords::NotUtf8),
-        Err(_) => return Err(NoWords::NoMemory),
+fn line_of(rt: &HostRuntime) -> Result<Line, NoMemory> {
+    let mut args = match env::args(rt) {
+        Ok(args) => args.skip(1),
+        Err(error) if error.kind() == ErrorKind::InvalidData => return Ok(Line::Usage),
+        Err(_) => return Err(NoMemory),
     };
-    for arg in args.skip(1) {
+    let Some(store) = args.next() else {
+        return Ok(Line::Usage);
+    };
+    let mut words = List::new(rt.alloc());
+    for arg in args {
         words.push(List::from_vec(arg.into_bytes()))?;
     }
-    Ok(words)
+    if words.as_slice().is_empty() {
+        match store.as_str() {
+            "--help" => return Ok(Line::Text(HELP)),
+            "--version" => return Ok(Line::Text(VERSION)),
+            _ => {}
+        }
+    }
+    Ok(Line::Command { store, words })
 }
 
-// Prints `usage`; no store is opened.
-fn usage(rt: &HostRuntime) -> Status {
-    match rt.stdout().write_all(b"usage\n") {
-        Ok(()) => Status::Usage,
+// Prints a text; no store is opened.
+fn print(rt: &HostRuntime, text: &str, status: Status) -> Status {
+    match rt.stdout().write_all(text.as_bytes()) {
+        Ok(()) => status,
         Err(_) => Status::SinkFault,
     }
 }
 
-fn in_memory<T: Threads + Sync>(threads: &T, rt: &HostRuntime, words: &[Bytes]) -> Status {
-    let alloc = rt.alloc();
-    let Ok(mut keeper) = MemKeeper::new(Batch::new(alloc), Vec::new(alloc)) else {
-        return Status::NoMemory;
-    };
-    let mut source = StdSource::new(rt.stdin());
-    let mut sink = StdSink::new(rt.stdout());
-    run(
-        threads,
-        alloc,
-        words,
-        &Sha1One,
-        &mut source,
-        &mut sink,
-        &mut keeper,
-    )
-}
-
 fn status_of<T: Threads + Sync>(threads: &T, rt: &HostRuntime) -> Status {
-    let words = match words_of(rt) {
-        Ok(words) => words,
-        Err(NoWords::NotUtf8) => return usage(rt),
-        Err(NoWords::NoMemory) => return Status::NoMemory,
-    };
-    match words.as_slice() {
-        [store, words @ ..] if store.as_slice() == b"-".as_slice() => in_memory(threads, rt, words),
-        _ => usage(rt),
+    match line_of(rt) {
+        Ok(Line::Text(text)) => print(rt, text, Status::Ok),
+        Ok(Line::Usage) => print(rt, "usage\n", Status::Usage),
+        Ok(Line::Command { store, words }) => match store.as_str() {
+            "-" => in_memory(threads, rt, words.as_slice()),
+            path => in_file(threads, rt, path, words.as_slice()),
+        },
+        Err(NoMemory) => Status::NoMemory,
     }
 }
 
