@@ -11,7 +11,7 @@ mod store;
 
 use help::{HELP, VERSION};
 use mtn_base::{Bytes, List, NoMemory};
-use mtn_cli::Status;
+use mtn_cli::{Status, are_words};
 use std::env;
 use std::io::{ErrorKind, Write};
 use std::process::ExitCode;
@@ -25,7 +25,8 @@ enum Line {
     Command { store: String, words: List<Bytes> },
     /// `--help` or `--version` as the only word.
     Text(&'static str),
-    /// No store, or words that are not UTF-8.
+    /// No store, or words that are not UTF-8; words outside the grammar are found later, before the store
+    /// is opened.
     Usage,
 }
 
@@ -64,6 +65,9 @@ fn status_of<T: Threads + Sync>(threads: &T, rt: &HostRuntime) -> Status {
     match line_of(rt) {
         Ok(Line::Text(text)) => print(rt, text, Status::Ok),
         Ok(Line::Usage) => print(rt, "usage\n", Status::Usage),
+        Ok(Line::Command { words, .. }) if !are_words(words.as_slice()) => {
+            print(rt, "usage\n", Status::Usage)
+        }
         Ok(Line::Command { store, words }) => match store.as_str() {
             "-" => in_memory(threads, rt, words.as_slice()),
             path => in_file(threads, rt, path, words.as_slice()),

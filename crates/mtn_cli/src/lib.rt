@@ -20,6 +20,7 @@ mod settle;
 mod status;
 mod top;
 
+pub use command::are_words;
 pub use payload::MAX_INPUT;
 pub use status::Status;
 pub use top::run;
