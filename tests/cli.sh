@@ -6,7 +6,7 @@ failed=0
 work=$(mktemp -d)
 trap 'rm -rf "$work"' EXIT
 
-printf '' | ./mtn - put_file >/dev/null || { echo "tests/cli.sh: the program was not built" >&2; echo "0 passed, 1 failed"; exit 1; }
+./mtn --version >/dev/null || { echo "tests/cli.sh: the program was not built" >&2; echo "0 passed, 1 failed"; exit 1; }
 
 # verdict NAME TEST..: counts one row.
 verdict() {
@@ -69,6 +69,128 @@ if [ -w /dev/full ]; then
     printf abc | ./mtn - put_file >/dev/full 2>"$work/err"
     verdict "a full output is a fault" test "${PIPESTATUS[1]}" = 5 -a ! -s "$work/err"
 fi
+
+# ---- a store in a file
+
+store=$work/s.mtn
+row "a file is kept in a file" 0 abc "$abc\n" "$store" put_file
+row "and found again" 0 '' 'abc' "$store" get_file "$abc"
+row "and kept once" 0 abc "$abc\n" "$store" put_file
+row "a file with no bytes is found" 0 '' "$nothing\n" "$store" put_file
+row "with no bytes" 0 '' '' "$store" get_file "$nothing"
+row "another is not" 1 '' "refused UnknownFile 86f7e437faa5a7fce15d1ddcb9eaeaea377667b8\n" "$store" get_file 86f7e437faa5a7fce15d1ddcb9eaeaea377667b8
+row "words outside the grammar make no store" 2 '' 'usage\n' "$work/none.mtn" heads
+verdict "no store was made" test ! -e "$work/none.mtn"
+
+# asks STORE SQL ANSWER: what sqlite3 says of the records.
+asks() { [ "$(sqlite3 "$1" "$2")" = "$3" ]; }
+verdict "sqlite3 finds the store whole" asks "$store" 'PRAGMA integrity_check' ok
+verdict "sqlite3 reads the same file" asks "$store" "SELECT body FROM kept WHERE kind = 2 AND name = x'$abc'" abc
+verdict "sqlite3 reads the number of revisions" asks "$store" "SELECT hex(body) FROM kept WHERE kind = 1 AND name = CAST('count' AS BLOB)" 0000000000000000
+verdict "there are four records" asks "$store" 'SELECT count(*) FROM kept' 4
+head -c 67108864 /dev/urandom >"$work/most"
+file_row "64 MiB go into a file" 0 "$work/most" "$(sha1sum <"$work/most" | cut -d' ' -f1)\n" "$work/big.mtn" put_file
+./mtn "$work/big.mtn" get_file "$(sha1sum <"$work/most" | cut -d' ' -f1)" >"$work/out"
+verdict "and come out" cmp -s "$work/out" "$work/most"
+rm -f "$work"/big.mtn* "$work/most" "$work/input"
+
+# A damaged store, made by sqlite3.
+cp "$store" "$work/bad.mtn"
+sqlite3 "$work/bad.mtn" "UPDATE kept SET body = x'010203' WHERE kind = 1 AND name = CAST('count' AS BLOB)"
+row "a bad record is shown" 8 x 'damaged 1 636f756e74 010203\n' "$work/bad.mtn" put_file
+sqlite3 "$work/bad.mtn" "UPDATE kept SET body = x'0000000000000000' WHERE kind = 1 AND name = CAST('count' AS BLOB); DELETE FROM kept WHERE name = CAST('version' AS BLOB)"
+row "a missing record is shown" 8 x 'missing 1 76657273696f6e\n' "$work/bad.mtn" put_file
+
+# What is no store is left as it is.
+mkdir "$work/folder"
+row "a folder is no store" 6 x '' "$work/folder" put_file
+printf 'a text that is long enough to look at, and no database at all\n' >"$work/text"
+cp "$work/text" "$work/text.before"
+row "a text is no store" 6 x '' "$work/text" put_file
+verdict "the text is as it was" cmp -s "$work/text" "$work/text.before"
+sqlite3 "$work/other.db" 'CREATE TABLE note (id INTEGER PRIMARY KEY)'
+row "another database is no store" 6 x '' "$work/other.db" put_file
+verdict "the other database is as it was" asks "$work/other.db" 'SELECT count(*) FROM sqlite_schema' 1
+row "a store in no folder cannot be made" 6 x '' "$work/no/such/folder.mtn" put_file
+: >"$work/empty.mtn"
+row "an empty file becomes a store" 0 abc "$abc\n" "$work/empty.mtn" put_file
+
+# A second program at a locked store.
+mkfifo "$work/pipe"
+./mtn "$store" put_file <"$work/pipe" >"$work/first" 2>&1 &
+first=$!
+exec 8>"$work/pipe"
+sleep 1
+row "a locked store is a fault" 6 '' '' "$store" get_file "$abc"
+printf 'later' >&8
+exec 8>&-
+wait "$first"
+verdict "the first program ends well" test $? = 0 -a "$(cat "$work/first")" = "$(printf later | sha1sum | cut -d' ' -f1)"
+
+# A full disk.
+full() {
+    mkdir "$work/small"
+    if [ "$(id -u)" = 0 ] && mount -t tmpfs -o size=512k none "$work/small" 2>/dev/null; then
+        mounted=yes
+        limit=unlimited
+    else
+        mounted=no
+        limit=512
+    fi
+    printf abc | ./mtn "$work/small/s.mtn" put_file >"$work/out" || return 1
+    head -c 2000000 /dev/urandom >"$work/two"
+    (
+        trap '' XFSZ
+        ulimit -f "$limit"
+        ./mtn "$work/small/s.mtn" put_file <"$work/two" >"$work/out"
+    )
+    ended=$?
+    kept=$(./mtn "$work/small/s.mtn" get_file "$abc")
+    files=$(sqlite3 "$work/small/s.mtn" 'SELECT count(*) FROM kept WHERE kind = 2')
+    [ "$mounted" = no ] || umount "$work/small"
+    [ "$ended" = 6 ] && [ ! -s "$work/out" ] && [ "$kept" = abc ] && [ "$files" = 1 ]
+}
+verdict "a full disk is a fault, and the store is as it was" full
+
+# Killed at a moment of a run of puts: the store has a front of the commands, with every one that was answered.
+killed() {
+    local killed=$work/killed.mtn answered n
+    rm -f "$killed"*
+    : >"$work/answered"
+    setsid bash -c 'for i in $(seq 100); do printf "$i" | ./mtn "$1" put_file >>"$2"; done' _ "$killed" "$work/answered" 2>/dev/null &
+    local group=$!
+    sleep "0.$(printf '%03d' $((RANDOM % 500 + 20)))"
+    kill -9 -- -"$group" 2>/dev/null
+    wait "$group" 2>/dev/null
+    answered=$(wc -l <"$work/answered")
+    [ "$answered" = 100 ] && return 0
+    n=0
+    while [ "$n" -lt 100 ] && [ "$(./mtn "$killed" get_file "$(printf $((n + 1)) | sha1sum | cut -d' ' -f1)")" = "$((n + 1))" ]; do n=$((n + 1)); done
+    [ "$n" -ge "$answered" ] && [ "$(sqlite3 "$killed" 'SELECT count(*) FROM sqlite_schema')" = 1 ] \
+        && asks "$killed" 'SELECT count(*) FROM kept WHERE kind = 2' "$n" && asks "$killed" 'PRAGMA integrity_check' ok
+}
+for round in $(seq 20); do verdict "killed, round $round" killed; done
+
+# ---- help, version and the walk in docs/USING.md
+
+./mtn --help >"$work/help"
+verdict "help has status 0 and names each command" test $? = 0 -a "$(grep -c '^  put_file \|^  get_file ' "$work/help")" = 2
+row "the version" 0 '' 'mtn 0.1.0 (Sonnavil)\n' --version
+row "help with more words is a store of that name" 2 '' 'usage\n' --help heads
+
+# walk: runs each line that begins with '$ ', and compares what is printed with the lines below it.
+walk() {
+    local top=$PWD
+    mkdir "$work/walk" && cp target/mtn "$work/walk/" && cd "$work/walk" || return 1
+    awk '/^```/ { inside = !inside; next } inside' "$top/docs/USING.md" >script
+    grep '^\$ ' script | sed 's/^\$ //' | while IFS= read -r line; do
+        printf '$ %s\n' "$line"
+        PATH=$PWD:$PATH bash -c "$line" 2>&1
+    done >printed
+    cd "$top" || return 1
+    cmp -s "$work/walk/script" "$work/walk/printed" || { diff "$work/walk/script" "$work/walk/printed" >&2; return 1; }
+}
+verdict "the walk in docs/USING.md" walk
 
 echo "$passed passed, $failed failed"
 [ "$failed" = 0 ]

@@ -25,8 +25,7 @@ enum Line {
     Command { store: String, words: List<Bytes> },
     /// `--help` or `--version` as the only word.
     Text(&'static str),
-    /// No store, or words that are not UTF-8; words outside the grammar are found later, before the store
-    /// is opened.
+    /// No store, or words that are not UTF-8.
     Usage,
 }
 
@@ -61,18 +60,30 @@ fn print(rt: &HostRuntime, text: &str, status: Status) -> Status {
     }
 }
 
+// A command over the store that is named; words outside the grammar open none.
+fn command<T: Threads + Sync>(
+    threads: &T,
+    rt: &HostRuntime,
+    store: &str,
+    words: &[Bytes],
+) -> Status {
+    if !are_words(words) {
+        print(rt, "usage\n", Status::Usage)
+    } else if store == "-" {
+        in_memory(threads, rt, words)
+    } else {
+        in_file(threads, rt, store, words)
+    }
+}
+
 fn status_of<T: Threads + Sync>(threads: &T, rt: &HostRuntime) -> Status {
-    match line_of(rt) {
-        Ok(Line::Text(text)) => print(rt, text, Status::Ok),
-        Ok(Line::Usage) => print(rt, "usage\n", Status::Usage),
-        Ok(Line::Command { words, .. }) if !are_words(words.as_slice()) => {
-            print(rt, "usage\n", Status::Usage)
-        }
-        Ok(Line::Command { store, words }) => match store.as_str() {
-            "-" => in_memory(threads, rt, words.as_slice()),
-            path => in_file(threads, rt, path, words.as_slice()),
-        },
-        Err(NoMemory) => Status::NoMemory,
+    let Ok(line) = line_of(rt) else {
+        return Status::NoMemory;
+    };
+    match line {
+        Line::Text(text) => print(rt, text, Status::Ok),
+        Line::Usage => print(rt, "usage\n", Status::Usage),
+        Line::Command { store, words } => command(threads, rt, store.as_str(), words.as_slice()),
     }
 }
 
