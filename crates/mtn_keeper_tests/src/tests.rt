@@ -1,0 +1,145 @@
+ghost use Rattle.std.specs.Prelude.{◌<◌, length, IsTrue, IfOk};
+ghost use Rattle.sqlite_disk.specs.Memory.{memory_is_usable};
+
+use mtn_keeper::SqliteKeeper;
+use mtn_ports::{Batch, KeepError, Keeper};
+use sqlite::{Connection, Error, FileStore, Files, Options};
+use sqlite_disk::Memory;
+use std::alloc::Global;
+use std::test::Fail;
+
+type FileKeeper = SqliteKeeper<FileStore<Memory>>;
+
+// These say little, so that the proof of a test does not carry the state of each call.
+fn open(alloc: Global, db: Memory) -> Result<Connection<FileStore<Memory>>, Error>
+    requires { IsTrue (memory_is_usable db) }
+{
+    let log = Memory::new(alloc);
+    match Connection::open_files(alloc, Files { log, db }, Options::new(1)) {
+        Ok(connection) => Ok(connection),
+        Err((error, _)) => Err(error),
+    }
+}
+
+fn close(keeper: FileKeeper) -> Result<Memory, Error>
+    ensures { IfOk result (λ db. IsTrue (memory_is_usable db)) }
+{
+    match keeper.into_connection().close_files() {
+        Ok(Files { log: _, db }) => Ok(db),
+        Err((error, _)) => Err(error),
+    }
+}
+
+fn put<K: Keeper>(
+    alloc: Global,
+    keeper: &mut K,
+    table: u8,
+    key: &[u8],
+    body: &[u8],
+) -> Result<(), KeepError>
+    requires { 0 < length key.now }
+{
+    let mut batch = Batch::new(alloc);
+    batch.put(table, key, body)?;
+    keeper.apply(&batch)
+}
+
+// Whether this body stands under the key.
+fn has<K: Keeper>(
+    alloc: Global,
+    keeper: &mut K,
+    table: u8,
+    key: &[u8],
+    body: &[u8],
+) -> Result<bool, KeepError> {
+    let mut out = Vec::new(alloc);
+    let found = keeper.get(table, key, &mut out)?;
+    Ok(found && out.as_slice() == body)
+}
+
+// Whether this key is the next one.
+fn goes_on<K: Keeper>(
+    alloc: Global,
+    keeper: &mut K,
+    table: u8,
+    after: &[u8],
+    key: &[u8],
+) -> Result<bool, KeepError> {
+    let mut next = Vec::new(alloc);
+    let found = keeper.next(table, after, &mut next)?;
+    Ok(found && next.as_slice() == key)
+}
+
+fn ends<K: Keeper>(
+    alloc: Global,
+    keeper: &mut K,
+    table: u8,
+    after: &[u8],
+) -> Result<bool, KeepError> {
+    let mut next = Vec::new(alloc);
+    Ok(!keeper.next(table, after, &mut next)?)
+}
+
+#[test]
+fn a_closed_database_has_its_record_again(rt: HostRuntime) -> Result<(), Fail> {
+    let alloc = rt.alloc();
+    let mut keeper = SqliteKeeper::new(open(alloc, Memory::new(alloc))?)?;
+    put(alloc, &mut keeper, 2, b"key", b"abc")?;
+    let db = close(keeper)?;
+    let mut again = SqliteKeeper::new(open(alloc, db)?)?;
+    assert!(rt; has(alloc, &mut again, 2, b"key", b"abc")?);
+    Ok(())
+}
+
+#[test]
+fn later_records_stand_over_earlier_ones_and_keys_come_in_order(
+    rt: HostRuntime,
+) -> Result<(), Fail> {
+    let alloc = rt.alloc();
+    let mut keeper = SqliteKeeper::new(Connection::open_in_memory(alloc)?)?;
+    let mut batch = Batch::new(alloc);
+    batch.put(2, b"b", b"1")?;
+    batch.put(2, b"a", b"2")?;
+    batch.put(2, b"b", b"3")?;
+    batch.put(3, b"c", b"")?;
+    keeper.apply(&batch)?;
+    put(alloc, &mut keeper, 2, b"a", b"4")?;
+    assert!(rt; has(alloc, &mut keeper, 2, b"a", b"4")?);
+    assert!(rt; has(alloc, &mut keeper, 2, b"b", b"3")?);
+    assert!(rt; has(alloc, &mut keeper, 3, b"c", b"")?);
+    assert!(rt; !has(alloc, &mut keeper, 2, b"c", b"")?);
+    assert!(rt; goes_on(alloc, &mut keeper, 2, b"", b"a")?);
+    assert!(rt; goes_on(alloc, &mut keeper, 2, b"a", b"b")?);
+    assert!(rt; ends(alloc, &mut keeper, 2, b"b")?);
+    Ok(())
+}
+
+// Whether a database is refused in which this text was run.
+fn is_refused(alloc: Global, text: &str) -> Result<bool, Error> {
+    let mut connection = Connection::open_in_memory(alloc)?;
+    connection.execute_batch(text)?;
+    match SqliteKeeper::new(connection) {
+        Ok(_) => Ok(false),
+        Err(cause) => Ok(cause == KeepError::Failed),
+    }
+}
+
+#[test]
+fn a_database_of_others_is_refused(rt: HostRuntime) -> Result<(), Fail> {
+    for (text, want) in [
+        (
+            "CREATE TABLE kept (kind INTEGER NOT NULL, name BLOB NOT NULL, body BLOB NOT NULL, PRIMARY KEY (kind, name)) STRICT",
+            false,
+        ),
+        (
+            "CREATE TABLE kept (kind INTEGER NOT NULL, name BLOB NOT NULL, body BLOB, PRIMARY KEY (kind, name)) STRICT",
+            true,
+        ),
+        ("CREATE TABLE KEPT (a INTEGER) STRICT", true),
+        ("CREATE TABLE other (a INTEGER) STRICT", true),
+        ("BEGIN", true),
+    ] {
+        assert_eq!(rt; is_refused(rt.alloc(), text)?, want, "{text}");
+    }
+    Ok(())
+}
