@@ -9,3 +9,5 @@ mod faults;
 mod files;
 #[cfg(test)]
 mod given;
+#[cfg(test)]
+mod limits;
