@@ -166,8 +166,7 @@ killed() {
     [ "$answered" = 100 ] && return 0
     n=0
     while [ "$n" -lt 100 ] && [ "$(./mtn "$killed" get_file "$(printf $((n + 1)) | sha1sum | cut -d' ' -f1)")" = "$((n + 1))" ]; do n=$((n + 1)); done
-    [ "$n" -ge "$answered" ] && [ "$(sqlite3 "$killed" 'SELECT count(*) FROM sqlite_schema')" = 1 ] \
-        && asks "$killed" 'SELECT count(*) FROM kept WHERE kind = 2' "$n" && asks "$killed" 'PRAGMA integrity_check' ok
+    [ "$n" -ge "$answered" ] && asks "$killed" 'SELECT count(*) FROM kept WHERE kind = 2' "$n" && asks "$killed" 'PRAGMA integrity_check' ok
 }
 for round in $(seq 20); do verdict "killed, round $round" killed; done
 
