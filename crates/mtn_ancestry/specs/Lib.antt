@@ -1,0 +1,4 @@
+pub mod Ancestors
+pub mod Log
+pub mod Sets
+pub mod Places

@@ -1,0 +1,12 @@
+//! The graph of revisions, and what follows from it alone: ancestors and uncommon revisions.
+#![tactic(auto)]
+
+mod flags;
+mod graph;
+mod pos;
+mod set;
+mod sweep;
+
+pub use graph::Graph;
+pub use pos::{LogEntry, ParentList, Pos};
+pub use set::PosSet;
