@@ -5,3 +5,5 @@ pub mod Placing
 pub mod Ancestry
 pub mod Sweeping
 pub mod Answering
+pub mod Reaching
+pub mod Walks

@@ -2,3 +2,4 @@ pub mod Ancestors
 pub mod Log
 pub mod Sets
 pub mod Places
+pub mod Walking

@@ -2,6 +2,7 @@
 #![tactic(auto)]
 
 mod flags;
+mod frontier;
 mod graph;
 mod pos;
 mod set;
