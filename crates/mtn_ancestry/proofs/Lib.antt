@@ -7,3 +7,4 @@ pub mod Sweeping
 pub mod Answering
 pub mod Reaching
 pub mod Walks
+pub mod Advancing

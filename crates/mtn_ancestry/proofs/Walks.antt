@@ -18,7 +18,7 @@ pub with_other : (f : Pending) (at : ℕ) (r : Reach) (x : ℕ) → x ≢ at →
 with_other f at r x n = ap (λ b. cond b (Some r) (f x)) (ne_eqb at x (λ e. n (sym e)))
 
 -- what is single is from one side and not from the other
-single_sides : (o : Option Reach) → IsSingle o → (IsLeftAt o × ¬ IsRightAt o) ⊎ (IsRightAt o × ¬ IsLeftAt o)
+pub single_sides : (o : Option Reach) → IsSingle o → (IsLeftAt o × ¬ IsRightAt o) ⊎ (IsRightAt o × ¬ IsLeftAt o)
 single_sides None s = absurd s
 single_sides (Some Left) s = inl (tt, λ r. r)
 single_sides (Some Right) s = inr (tt, λ l. l)

@@ -3,3 +3,4 @@ pub mod Log
 pub mod Sets
 pub mod Places
 pub mod Walking
+pub mod Outcome

@@ -1,5 +1,5 @@
 -- Where a walk from two positions down to their common ancestors stands.
-use Rattle.std.specs.Prelude.{◌≡◌, ℕ, ◌<◌, ◌≤◌, ◌↔◌, ◌⊎◌, Option, Some, None, Bool, true, false, cond, nat_eq, List, Contains, reverse}
+use Rattle.std.specs.Prelude.{◌≡◌, ℕ, ◌<◌, ◌≤◌, ◌↔◌, ◌⊎◌, Option, Some, None, Bool, true, false, cond, nat_eq, suc, List, [], ◌∷◌, ◌++◌, Contains, reverse}
 use Rattle.std.specs.List.Sorted.{IsStrictlyIncreasing}
 use Rattle.mtn_ancestry.specs.Ancestors.{IsAncestor, IsUncommon}
 use Rattle.std.specs.Ordering.{nat_cmp}
@@ -82,3 +82,44 @@ pub record IsWalked (parents : ℕ → List ℕ) (a b low from : ℕ) (f : Pendi
 pub record IsDescendingFrom (from : ℕ) (items : List ℕ) : Type 0 where
   pub descending : IsStrictlyIncreasing (reverse items)
   pub above : (x : ℕ) → Contains items x → from ≤ x
+
+-- the left list with the position that the walk leaves, if it came there from the left alone
+abbrev pub left_noted : Reach → List ℕ → ℕ → List ℕ
+left_noted Left items at = items ++ at ∷ []
+left_noted Right items at = items
+left_noted Both items at = items
+
+abbrev pub right_noted : Reach → List ℕ → ℕ → List ℕ
+right_noted Left items at = items
+right_noted Right items at = items ++ at ∷ []
+right_noted Both items at = items
+
+-- all uncommon positions are found
+pub record HasFound (parents : ℕ → List ℕ) (a b : ℕ) (left right : List ℕ) : Type 0 where
+  pub left_found : (x : ℕ) → Contains left x ↔ IsUncommon parents a b x
+  pub right_found : (x : ℕ) → Contains right x ↔ IsUncommon parents b a x
+
+-- the walk stands at a position that it is about to leave
+pub record StandsAt (parents : ℕ → List ℕ) (a b low at : ℕ) (reach : Reach) (f : Pending) (left right : List ℕ) : Type 0 where
+  pub reach_at : low ≤ at
+  pub walked : IsWalked parents a b low (suc at) (with_position f at reach) left right
+
+-- the walk goes on at the position `next`, or has found all
+abbrev pub IsUnderWay : (ℕ → List ℕ) → (a b low : ℕ) → Option (ℕ × Reach) → Pending → List ℕ → List ℕ → Type 0
+IsUnderWay parents a b low None f left right = HasFound parents a b left right
+IsUnderWay parents a b low (Some next) f left right = StandsAt parents a b low next.0 next.1 f left right
+
+-- the lists are in order, and all that is pending is below the position where the walk stands
+pub record IsInOrder (at : ℕ) (f : Pending) (left right : List ℕ) : Type 0 where
+  pub below : IsBelow f at
+  pub left_order : IsDescendingFrom (suc at) left
+  pub right_order : IsDescendingFrom (suc at) right
+
+abbrev pub IsOrderly : Option (ℕ × Reach) → Pending → List ℕ → List ℕ → Type 0
+IsOrderly None f left right = IsStrictlyIncreasing (reverse left) × IsStrictlyIncreasing (reverse right)
+IsOrderly (Some next) f left right = IsInOrder next.0 f left right
+
+-- the next position is below this one
+abbrev pub IsNextBelow : Option (ℕ × Reach) → ℕ → Type 0
+IsNextBelow None at = Unit {0}
+IsNextBelow (Some next) at = next.0 < at

@@ -7,7 +7,9 @@ mod graph;
 mod pos;
 mod set;
 mod sweep;
+mod walk;
 
 pub use graph::Graph;
 pub use pos::{LogEntry, ParentList, Pos};
 pub use set::PosSet;
+pub use walk::{Parents, WalkError};
