@@ -8,3 +8,4 @@ pub mod Answering
 pub mod Reaching
 pub mod Walks
 pub mod Advancing
+pub mod Asking

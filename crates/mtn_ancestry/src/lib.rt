@@ -12,4 +12,4 @@ mod walk;
 pub use graph::Graph;
 pub use pos::{LogEntry, ParentList, Pos};
 pub use set::PosSet;
-pub use walk::{Parents, WalkError};
+pub use walk::{uncommon, Parents, WalkError};

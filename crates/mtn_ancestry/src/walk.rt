@@ -7,6 +7,7 @@ ghost use Rattle.std.specs.List.Sorted.{IsStrictlyIncreasing};
 ghost use Rattle.mtn_ancestry.specs.Ancestors.{IsUncommon, ParentsAreEarlier, ReachesFrom};
 ghost use Rattle.mtn_ancestry.specs.Log.{list_of};
 ghost use Rattle.mtn_ancestry.specs.Sets.{IsAscendingListOf};
+ghost use Rattle.mtn_ancestry.specs.Outcome.{IfAsked};
 
 use crate::frontier::{Frontier, Reach};
 use crate::{ParentList, Pos, PosSet};
@@ -146,4 +147,50 @@ fn ascending(alloc: Global, mut items: Vec<Pos>) -> Result<PosSet, NoMemory>
 {
     items.reverse();
     PosSet::new(alloc, items)
+}
+
+/// The uncommon positions of two: the ancestors of `left` that are none of `right`, and the reverse.
+///
+/// Where a graph is told, no position below the least of the uncommon ones and their parents is asked for,
+/// and none twice. So for W positions from there up to the greater of the two, this takes W log W steps.
+/// It answers `Asked` only with an error that the graph answered in this call.
+pub fn uncommon<P: Parents>(
+    alloc: Global,
+    graph: &mut P,
+    left: Pos,
+    right: Pos,
+) -> Result<(PosSet, PosSet), WalkError<P::Error>>
+    requires { (count : ℕ) (parents : ℕ → List ℕ) →
+        P.tells graph.old count parents → (left < count) × (right < count) }
+    ensures left { IfOk result (λ sets. (count : ℕ) (parents : ℕ → List ℕ) →
+        P.tells graph.old count parents → IsAscendingListOf (IsUncommon parents left right) sets.0) }
+    ensures right { IfOk result (λ sets. (count : ℕ) (parents : ℕ → List ℕ) →
+        P.tells graph.old count parents → IsAscendingListOf (IsUncommon parents right left) sets.1) }
+    ensures same_graph { (count : ℕ) (parents : ℕ → List ℕ) →
+        P.tells graph.old count parents ↔ P.tells graph.new count parents }
+    ensures count { (count : ℕ) (parents : ℕ → List ℕ) (low : ℕ) →
+        P.tells graph.old count parents → ReachesFrom parents left right low →
+        P.asked graph.new ≤ P.asked graph.old + (max left right + 1 - low) }
+    ensures stays { P.stays graph.old graph.new }
+    ensures caused { IfErr result (λ e. IfAsked e (P.caused graph.old graph.new)) }
+{
+    if left == right {
+        return Ok((empty(alloc)?, empty(alloc)?));
+    }
+    let (mut walk, at, reach) = Walk::begin(alloc, left, right)?;
+    let mut next = Some((at, reach));
+    while let Some((at, reach)) = next {
+        let parents = match graph.parents(at) {
+            Ok(parents) => parents,
+            Err(e) => return Err(WalkError::Asked(e)),
+        };
+        next = walk.advance(at, reach, &parents)?;
+    }
+    Ok((ascending(alloc, walk.left)?, ascending(alloc, walk.right)?))
+}
+
+fn empty(alloc: Global) -> Result<PosSet, NoMemory>
+    ensures { IfOk result (λ s. s ≡ []) }
+{
+    PosSet::new(alloc, Vec::new(alloc))
 }
