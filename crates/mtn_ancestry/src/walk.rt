@@ -179,7 +179,8 @@ pub fn uncommon<P: Parents>(
     }
     let (mut walk, at, reach) = Walk::begin(alloc, left, right)?;
     let mut next = Some((at, reach));
-    while let Some((at, reach)) = next {
+    while let Some(here) = next {
+        let (at, reach) = here;
         let parents = match graph.parents(at) {
             Ok(parents) => parents,
             Err(e) => return Err(WalkError::Asked(e)),
