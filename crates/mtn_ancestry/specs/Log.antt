@@ -1,5 +1,5 @@
 -- A log, oldest first: each entry has a revision's id and its parents' positions.
-use Rattle.std.specs.Prelude.{◌≡◌, ℕ, List, [], ◌∷◌, Option, Some, None, option_map, slice_get}
+use Rattle.std.specs.Prelude.{◌≡◌, ℕ, List, [], ◌∷◌, Option, Some, None, option_map, slice_get, length}
 use Rattle.mtn_base.specs.declared.id.Id.{Id}
 use Rattle.mtn_ancestry.specs.declared.pos.ParentList.{ParentList}
 use Rattle.mtn_ancestry.specs.declared.pos.ParentList.TheVariants.{Zero, One, Two}
@@ -28,3 +28,9 @@ id_at log r = option_map (λ e. e.id) (slice_get log r)
 pub record IsLog (log : List LogEntry) : Type 0 where
   pub earlier : ParentsAreEarlier (parents_of log)
   pub once : (id : Id) (r q : ℕ) → id_at log r ≡ Some id → id_at log q ≡ Some id → r ≡ q
+
+-- the graph that a log tells: its length, and the parents of each of its revisions
+pub record IsToldBy (log : List LogEntry) (count : ℕ) (graph : ℕ → List ℕ) : Type 0 where
+  pub long : count ≡ length log
+  pub same : (r : ℕ) → graph r ≡ parents_of log r
+  pub earlier : ParentsAreEarlier graph

@@ -15,6 +15,14 @@ pub fn no_flags(alloc: Global, count: usize) -> Result<Vec<bool>, NoMemory>
     Ok(vec![in alloc; false; count]?)
 }
 
+/// Each position is flagged.
+pub fn all_flags(alloc: Global, count: usize) -> Result<Vec<bool>, NoMemory>
+    ensures count { IfOk result (λ f. vec_len f ≡ count) }
+    ensures all { IfOk result (λ f. (x : ℕ) → IsFlagged f.items x ↔ (x < count)) }
+{
+    Ok(vec![in alloc; true; count]?)
+}
+
 /// Exactly these positions are flagged.
 pub fn flags_of(alloc: Global, count: usize, of: &[Pos]) -> Result<Vec<bool>, NoMemory>
     requires { All (λ p. p < count) of.now }
@@ -58,6 +66,17 @@ pub fn flag_parents(flags: &mut [bool], parents: &ParentList)
             flag(flags, p);
             flag(flags, q);
         }
+    }
+}
+
+/// Keeps the flags that are among the others too.
+pub fn keep_flagged(flags: &mut [bool], others: &[bool])
+    requires { length flags.old ≡ length others.now }
+    ensures count { length flags.new ≡ length flags.old }
+    ensures exact { (x : ℕ) → IsFlagged flags.new x ↔ (IsFlagged flags.old x × IsFlagged others.now x) }
+{
+    for at in 0..others.len() {
+        flags[at] = flags[at] && others[at];
     }
 }
 

@@ -1,15 +1,16 @@
 // The whole graph, in memory.
-ghost use Rattle.std.specs.Prelude.{◌≡◌, ℕ, ◌↔◌, ◌<◌, ◌≤◌, [], ◌∷◌, ◌++◌, length, All, Contains, IsTrue, IsSome, IfOk, OnErr, IfSome, OnOk};
+ghost use Rattle.std.specs.Prelude.{◌≡◌, ℕ, ◌↔◌, ◌<◌, ◌≤◌, [], ◌∷◌, ◌++◌, length, All, Contains, IsTrue, IsSome, IfOk, OnErr, IfSome, OnOk, refl};
 ghost use Rattle.mtn_ancestry.specs.Ancestors.{IsAncestor, IsProperAncestor};
 ghost use Rattle.mtn_ancestry.specs.Log.{list_of, parents_of, id_at, IsLog};
 ghost use Rattle.mtn_ancestry.specs.Sets.{IsAscendingListOf};
 
 use crate::flags::{flagged, flags_of, no_flags};
-use crate::sweep::{is_reached, no_ancestors, proper_ancestors, proper_descendents};
-use crate::{LogEntry, ParentList, Pos, PosSet};
+use crate::sweep::{common_ancestors, is_reached, no_ancestors, parents_at, proper_ancestors, proper_descendents};
+use crate::{LogEntry, ParentList, Parents, Pos, PosSet};
 use mtn_base::{Id, NoMemory};
 use std::alloc::Global;
 use std::collections::HashMap;
+use std::convert::Infallible;
 use std::marker::Model;
 
 /// The graph of revisions, which contracts see as the log: its entries, oldest first.
@@ -125,6 +126,17 @@ impl Graph {
         PosSet::new(alloc, flagged(alloc, &flags)?)
     }
 
+    /// The ancestors of every one of these, of which there must be one.
+    pub fn common(&self, alloc: Global, of: &[Pos]) -> Result<PosSet, NoMemory>
+        requires within { All (λ r. r < length self.now) of.now }
+        requires some { 0 < length of.now }
+        ensures { IfOk result (IsAscendingListOf (λ x. (r : ℕ) → Contains of.now r
+            → IsAncestor (parents_of self.now) x r)) }
+    {
+        let flags = common_ancestors(alloc, self.entries(), of)?;
+        PosSet::new(alloc, flagged(alloc, &flags)?)
+    }
+
     /// Those of these that are proper ancestors of no other.
     pub fn erase_ancestors(&self, alloc: Global, of: &[Pos]) -> Result<PosSet, NoMemory>
         requires { All (λ r. r < length self.now) of.now }
@@ -143,4 +155,31 @@ impl Graph {
         let flags = flags_of(alloc, self.entries().len(), of)?;
         flagged(alloc, &flags)
     }
+}
+
+impl Parents for Graph {
+    type Error = Infallible;
+
+    ghost use Rattle.std.specs.Prelude.{⊤};
+    ghost use Rattle.mtn_ancestry.specs.Log.{IsToldBy};
+
+    ghost tells = { IsToldBy };
+
+    ghost asked = { λ _. 0 };
+
+    ghost stays = { λ s t. t ≡ s };
+
+    ghost caused = { λ _ _ _. ⊤ };
+
+    fn parents(&mut self, at: Pos) -> Result<ParentList, Infallible> {
+        Ok(parents_at(self.entries(), at))
+    }
+
+    ghost earlier = { λ s n g t. t.earlier };
+
+    ghost stays_itself = { λ _. refl };
+
+    ghost stays_on = { λ s t u p q. Prim.cc };
+
+    ghost caused_before = { λ s t u e p c. c };
 }

@@ -4,7 +4,7 @@ ghost use Rattle.mtn_ancestry.specs.Ancestors.{IsAncestor, IsProperAncestor, Par
 ghost use Rattle.mtn_ancestry.specs.Log.{list_of, parents_of};
 ghost use Rattle.mtn_ancestry.specs.Sets.{IsFlagged};
 
-use crate::flags::{flag, flag_parents, flag_rest, flags_of, is_flagged, no_flags};
+use crate::flags::{all_flags, flag, flag_parents, flag_rest, flags_of, is_flagged, keep_flagged, no_flags};
 use crate::{LogEntry, ParentList, Pos};
 use mtn_base::NoMemory;
 use std::alloc::Global;
@@ -23,8 +23,8 @@ pub fn flag_all_parents(log: &[LogEntry], of: &[Pos], flags: &mut [bool])
     }
 }
 
-// The parents of the revision at a position.
-fn parents_at(log: &[LogEntry], at: Pos) -> ParentList
+/// The parents of the revision at a position.
+pub fn parents_at(log: &[LogEntry], at: Pos) -> ParentList
     requires { at < length log.now }
     ensures { list_of result ≡ parents_of log.now at }
 {
@@ -86,6 +86,48 @@ fn flag_proper_ancestors(log: &[LogEntry], of: &[Pos], flags: &mut [bool])
         ↔ ((r : ℕ) × Contains of.now r × IsProperAncestor (parents_of log.now) x r) }
 {
     flag_all_parents(log, of, flags);
+    flag_ancestors(log, flags, Pos(0));
+}
+
+/// The flags of the ancestors of every one of these. It sweeps once for each.
+pub fn common_ancestors(alloc: Global, log: &[LogEntry], of: &[Pos]) -> Result<Vec<bool>, NoMemory>
+    requires earlier { ParentsAreEarlier (parents_of log.now) }
+    requires within { All (λ r. r < length log.now) of.now }
+    requires some { 0 < length of.now }
+    ensures count { IfOk result (λ f. vec_len f ≡ length log.now) }
+    ensures exact { IfOk result (λ f. (x : ℕ) → IsFlagged f.items x
+        ↔ ((r : ℕ) → Contains of.now r → IsAncestor (parents_of log.now) x r)) }
+{
+    let mut common = all_flags(alloc, log.len())?;
+    for at in of {
+        let ancestors = own_ancestors(alloc, log, *at)?;
+        keep_flagged(&mut common, &ancestors);
+    }
+    Ok(common)
+}
+
+// The flags of a position and its ancestors.
+fn own_ancestors(alloc: Global, log: &[LogEntry], at: Pos) -> Result<Vec<bool>, NoMemory>
+    requires earlier { ParentsAreEarlier (parents_of log.now) }
+    requires within { at < length log.now }
+    ensures count { IfOk result (λ f. vec_len f ≡ length log.now) }
+    ensures exact { IfOk result (λ f. (x : ℕ) → IsFlagged f.items x
+        ↔ IsAncestor (parents_of log.now) x at) }
+{
+    let mut flags = no_flags(alloc, log.len())?;
+    flag_own_ancestors(log, &mut flags, at);
+    Ok(flags)
+}
+
+fn flag_own_ancestors(log: &[LogEntry], flags: &mut [bool], at: Pos)
+    requires earlier { ParentsAreEarlier (parents_of log.now) }
+    requires room { length flags.old ≡ length log.now }
+    requires within { at < length log.now }
+    requires none { (x : ℕ) → ¬ IsFlagged flags.old x }
+    ensures count { length flags.new ≡ length flags.old }
+    ensures exact { (x : ℕ) → IsFlagged flags.new x ↔ IsAncestor (parents_of log.now) x at }
+{
+    flag(flags, at);
     flag_ancestors(log, flags, Pos(0));
 }
 
