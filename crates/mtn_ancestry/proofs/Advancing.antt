@@ -1,19 +1,18 @@
 -- A whole step of the walk: note the position, come to its parents, and go on to the next.
 use Rattle.std.specs.Prelude.{Contains}
 use Rattle.std.specs.List.Sorted.{IsStrictlyIncreasing}
-use Rattle.std.proofs.Common.{◌≡◌, ◌≢◌, ◌↔◌, ℕ, zero, suc, ◌+◌, ◌-◌, ◌<◌, ◌≤◌, List, [], ◌∷◌, ◌++◌, reverse, ◌⊎◌, cond, Option, Some, None, IfSome, IfNone, length, get_or, refl, sym, ◌∙◌, ap, inl, inr, arith, subst, ⊎_elim, add-one}
+use Rattle.std.proofs.Common.{◌≡◌, ◌≢◌, ◌↔◌, ℕ, zero, suc, ◌-◌, ◌<◌, ◌≤◌, List, [], ◌∷◌, ◌++◌, reverse, ◌⊎◌, Option, Some, None, IfSome, IfNone, get_or, refl, sym, ◌∙◌, ap, inl, inr, arith, subst, ⊎_elim, add-one}
 use Rattle.std.proofs.Math.Decide.{ℕ_discrete}
 use Rattle.std.proofs.lemmas.List.{reverse-append}
 use Rattle.std.proofs.lemmas.List.Elements.{Contains-push_cases, Contains-get_or}
 use Rattle.std.proofs.lemmas.List.Sorted.{Contains-permutation, IsPermutation-reverse, IsPermutation-sym}
-use Rattle.mtn_ancestry.specs.Ancestors.{IsAncestor, IsUncommon, ParentsAreEarlier, ReachesFrom}
-use Rattle.mtn_ancestry.specs.Ancestors.IsAncestor.{itself, through}
+use Rattle.mtn_ancestry.specs.Ancestors.{IsUncommon, ParentsAreEarlier, ReachesFrom}
 use Rattle.mtn_ancestry.specs.Sets.{IsAscendingListOf}
 use Rattle.mtn_ancestry.specs.declared.frontier.Reach.{Reach}
 use Rattle.mtn_ancestry.specs.declared.frontier.Reach.TheVariants.{Left, Right, Both}
 use Rattle.mtn_ancestry.specs.declared.frontier.Frontier.{Frontier}
-use Rattle.mtn_ancestry.specs.Walking.{pending_of, Pending, IsFromLeft, IsFromRight, IsLeftAt, IsRightAt, IsSingle, IsBelow, IsWalked, IsDescendingFrom, with_position, left_noted, right_noted, HasFound, StandsAt, IsUnderWay, IsInOrder, IsOrderly, IsNextBelow}
-use Rattle.mtn_ancestry.proofs.Members.{Contains-nil, Contains-head}
+use Rattle.mtn_ancestry.specs.Walking.{pending_of, Pending, IsFromLeft, IsFromRight, IsLeftAt, IsRightAt, IsSingle, IsBelow, IsWalked, IsDescendingFrom, with_position, left_noted, right_noted, StandsAt, IsUnderWay, IsOrderly, IsNextBelow}
+use Rattle.mtn_ancestry.proofs.Members.{Contains-nil}
 use Rattle.mtn_ancestry.proofs.Ancestry.{IsAncestor-le, ancestor_at}
 use Rattle.mtn_ancestry.proofs.Walks as walks
 use Rattle.mtn_ancestry.proofs.Walks.{stepped, lowered, same_walk, all_found, start_reached, with_here, with_other, single_sides}
@@ -150,7 +149,7 @@ begun_left parents early a b low h floor f lefts rights =
         single_reach = λ x s. elim (ℕ_discrete x a) [
           | yes e ↦ subst (λ y. low ≤ y) (sym e) ra
           | no ne ↦ ⊎_elim (λ p. absurd (lefts x (subst IsLeftAt (with_other f a Left x ne) p.0)))
-            (λ p. subst (λ y. low ≤ y) (sym ((rights x).0 (subst IsRightAt (with_other f a Left x ne) p.0))) rb) (single_sides (with_position f a Left x) s)
+              (λ p. subst (λ y. low ≤ y) (sym ((rights x).0 (subst IsRightAt (with_other f a Left x ne) p.0))) rb) (single_sides (with_position f a Left x) s)
         ];
         left_found = λ x. (λ c. absurd (Contains-nil c), λ p. absurd (omega (arith, p.0, IsAncestor-le early p.1.0)));
         right_found = λ x. (λ c. absurd (Contains-nil c), λ p. absurd (omega (arith, p.0, IsAncestor-le early p.1.0)));
@@ -177,7 +176,7 @@ begun_right parents early a b low h floor f lefts rights =
         single_reach = λ x s. elim (ℕ_discrete x b) [
           | yes e ↦ subst (λ y. low ≤ y) (sym e) rb
           | no ne ↦ ⊎_elim (λ p. subst (λ y. low ≤ y) (sym ((lefts x).0 (subst IsLeftAt (with_other f b Right x ne) p.0))) ra)
-            (λ p. absurd (rights x (subst IsRightAt (with_other f b Right x ne) p.0))) (single_sides (with_position f b Right x) s)
+              (λ p. absurd (rights x (subst IsRightAt (with_other f b Right x ne) p.0))) (single_sides (with_position f b Right x) s)
         ];
         left_found = λ x. (λ c. absurd (Contains-nil c), λ p. absurd (omega (arith, p.0, IsAncestor-le early p.1.0)));
         right_found = λ x. (λ c. absurd (Contains-nil c), λ p. absurd (omega (arith, p.0, IsAncestor-le early p.1.0)));

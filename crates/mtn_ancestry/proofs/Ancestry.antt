@@ -1,6 +1,6 @@
 -- The order of ancestors, and that they can be told.
 use Rattle.std.specs.Prelude.{Contains}
-use Rattle.std.proofs.Common.{◌≡◌, ◌≢◌, ◌↔◌, ℕ, ◌<◌, ◌≤◌, List, ◌⊎◌, refl, sym, inl, inr, arith, subst, ⊎_elim}
+use Rattle.std.proofs.Common.{◌≡◌, ◌↔◌, ℕ, ◌<◌, ◌≤◌, List, ◌⊎◌, refl, sym, inl, inr, arith, subst, ⊎_elim}
 use Rattle.std.proofs.Math.Decide.{ℕ_discrete}
 use Rattle.mtn_ancestry.specs.Ancestors.{IsAncestor, IsProperAncestor, ParentsAreEarlier}
 use Rattle.mtn_ancestry.specs.Ancestors.IsAncestor.{itself, through}
@@ -49,6 +49,6 @@ pub descends : {parents : ℕ → List ℕ} → ParentsAreEarlier parents → (G
     ((r : ℕ) × G r × IsProperAncestor parents r x) ↔ ((p : ℕ) × Contains (parents x) p × (G p ⊎ ((r : ℕ) × G r × IsProperAncestor parents r p)))
 descends {parents} early G x = (
   λ t. let q = proper_cases parents x t.0 t.2 in
-    (q.0, q.1, elim (ℕ_discrete t.0 q.0) [ yes e ↦ inl (subst G e t.1) | no n ↦ inr (t.0, t.1, (n, q.2)) ]),
+      (q.0, q.1, elim (ℕ_discrete t.0 q.0) [ yes e ↦ inl (subst G e t.1) | no n ↦ inr (t.0, t.1, (n, q.2)) ]),
   λ t. ⊎_elim (λ g. (t.0, g, proper_through early t.1 itself)) (λ u. (u.0, u.1, proper_through early t.1 u.2.1)) t.2,
 )

@@ -1,6 +1,5 @@
 -- From flags to the list that a call answers.
-use Rattle.std.specs.Prelude.{Contains}
-use Rattle.std.proofs.Common.{◌≡◌, ◌↔◌, ℕ, List, Bool, Result, Ok, Err, IfOk, Vec, Global, sym, ◌∙◌, subst}
+use Rattle.std.proofs.Common.{◌≡◌, ◌↔◌, ℕ, List, Bool, Result, Ok, Err, IfOk, Vec, Global, sym, subst}
 use Rattle.mtn_base.specs.declared.no_memory.NoMemory.{NoMemory}
 use Rattle.mtn_ancestry.specs.declared.pos.LogEntry.{LogEntry}
 use Rattle.mtn_ancestry.specs.Sets.{IsFlagged, IsAscendingListOf}

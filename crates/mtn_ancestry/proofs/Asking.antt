@@ -1,11 +1,10 @@
 -- A walk over a graph that is asked, from question to question.
-use Rattle.std.specs.Prelude.{Contains, max}
-use Rattle.std.specs.List.Sorted.{IsStrictlyIncreasing}
-use Rattle.std.proofs.Common.{◌≡◌, ◌↔◌, ℕ, zero, suc, ◌+◌, ◌-◌, ◌<◌, ◌≤◌, List, reverse, Option, Some, None, sym, arith, subst, inl, inr}
-use Rattle.mtn_ancestry.specs.Ancestors.{IsAncestor, ParentsAreEarlier, ReachesFrom}
+use Rattle.std.specs.Prelude.{max}
+use Rattle.std.proofs.Common.{◌↔◌, ℕ, suc, ◌+◌, ◌-◌, ◌<◌, ◌≤◌, List, Option, Some, None, sym, arith, subst}
+use Rattle.mtn_ancestry.specs.Ancestors.{ParentsAreEarlier, ReachesFrom}
 use Rattle.mtn_ancestry.specs.declared.frontier.Reach.{Reach}
 use Rattle.mtn_ancestry.specs.declared.frontier.Reach.TheVariants.{Left, Right, Both}
-use Rattle.mtn_ancestry.specs.Walking.{Pending, IsLeftAt, IsRightAt, IsFromLeft, with_position, StandsAt, IsUnderWay, IsInOrder, IsOrderly, IsNextBelow}
+use Rattle.mtn_ancestry.specs.Walking.{Pending, IsLeftAt, IsRightAt, StandsAt, IsUnderWay, IsOrderly, IsNextBelow}
 use Rattle.mtn_ancestry.proofs.Ancestry.{IsAncestor-le}
 use Rattle.mtn_ancestry.proofs.Walks.{with_here}
 
@@ -30,7 +29,6 @@ pub record IsAsking (S : Type 0) (tells : S → ℕ → (ℕ → List ℕ) → T
 
 pub anywhere : (parents : ℕ → List ℕ) (a b : ℕ) → ReachesFrom parents a b 0
 anywhere parents a b = record { uncommon = λ x s. omega arith; parent = λ x p s c. omega arith }
-
 
 -- the position where a walk stands is at most the greater of the two
 pub stands_within : (parents : ℕ → List ℕ) → ParentsAreEarlier parents → (a b low at count : ℕ) (r : Reach) (f : Pending) (left right : List ℕ) →

@@ -1,6 +1,6 @@
 -- One more flag.
 use Rattle.std.specs.Prelude.{Contains}
-use Rattle.std.proofs.Common.{◌≡◌, ℕ, ◌≢◌, ◌↔◌, ◌-◌, ◌<◌, ◌≤◌, List, [], ◌∷◌, ◌++◌, take, drop, ◌⊎◌, Bool, true, false, length, get_or, refl, sym, ◌∙◌, inl, inr, arith, subst, ⊎_elim, get_or-set_same, get_or-set_other}
+use Rattle.std.proofs.Common.{◌≡◌, ℕ, ◌≢◌, ◌↔◌, ◌-◌, ◌<◌, List, [], ◌∷◌, ◌++◌, take, ◌⊎◌, Bool, true, false, length, sym, ◌∙◌, inl, inr, arith, subst, ⊎_elim, get_or-set_same, get_or-set_other}
 use Rattle.std.proofs.Math.ListN.{set}
 use Rattle.std.proofs.lemmas.List.{get_or_past, take-append-le}
 use Rattle.std.proofs.Math.Seq.{take-length}
@@ -51,8 +51,7 @@ pub after_two : (flags mid new : List Bool) (p q x : ℕ) → p < length flags �
     (IsFlagged new x → IsFlagged flags x ⊎ Contains (p ∷ q ∷ []) x) × (IsFlagged flags x ⊎ Contains (p ∷ q ∷ []) x → IsFlagged new x)
 after_two flags mid new p q x h k e d =
     let one = after_one flags mid p x h e in
-    let two = after_one mid new q x k d in
-    (
+    let two = after_one mid new q x k d in (
       λ f. ⊎_elim
           (λ g. ⊎_elim inl (λ c. inr (⊎_elim (λ a. subst (Contains (p ∷ q ∷ [])) a (Contains-head p (q ∷ []))) (λ b. absurd (Contains-nil b)) (Contains-cases p [] x c))) (one.0 g))
           (λ c. inr (Contains-later p (q ∷ []) c)) (two.0 f),

@@ -1,8 +1,8 @@
 -- The table of places while the log grows by an entry.
 use Rattle.std.specs.Prelude.{Contains, slice_get}
-use Rattle.std.proofs.Common.{◌≡◌, ◌≢◌, ◌↔◌, ℕ, zero, suc, ◌+◌, ◌<◌, ◌≤◌, List, [], ◌∷◌, ◌++◌, ◌⊎◌, Bool, true, false, cond, length, Option, Some, None, IfSome, get_or, refl, sym, ◌∙◌, ap, inl, inr, arith, subst, ⊎_elim, nat_eq, length-append}
+use Rattle.std.proofs.Common.{◌≡◌, ℕ, zero, suc, ◌<◌, ◌≤◌, List, [], ◌∷◌, ◌++◌, ◌⊎◌, Bool, true, false, cond, length, Option, Some, None, IfSome, get_or, refl, sym, ◌∙◌, ap, inl, inr, arith, subst, ⊎_elim, nat_eq, length-append}
 use Rattle.std.proofs.Math.Decide.{ℕ_discrete}
-use Rattle.std.proofs.lemmas.Option.{slice_get_past, slice_get_within, slice_get-get_or}
+use Rattle.std.proofs.lemmas.Option.{slice_get_past, slice_get-get_or}
 use Rattle.std.proofs.lemmas.Slice.Eq.{bytes_eq-Decides}
 use Rattle.std.proofs.lemmas.Bool.{false≢true}
 use Rattle.std.specs.Cmp.Lexicographic.{pointwise}
@@ -37,6 +37,7 @@ places log r = three (ℕ_discrete r (length log)) (before r (length log))
     before zero (suc b) = inl (omega arith)
     before (suc a) zero = inr (omega arith)
     before (suc a) (suc b) = ⊎_elim (λ h. inl (omega arith)) (λ h. inr (omega arith)) (before a b)
+
     three : {a b : ℕ} → Dec (a ≡ b) → (a < b) ⊎ (b ≤ a) → (a < b) ⊎ ((a ≡ b) ⊎ (b < a))
     three (yes e) s = inr (inl e)
     three (no n) s = ⊎_elim inl (λ h. inr (inr (omega arith))) s
@@ -46,9 +47,8 @@ pub push_earlier : (log : List LogEntry) (e : LogEntry) → ParentsAreEarlier (p
 push_earlier log e early known r p c =
     ⊎_elim (λ h. early r p (subst (λ o. Contains (entry_parents o) p) (get_before log e r h) c))
     (⊎_elim (λ h. subst (λ n. p < n) (sym h) (known p (subst (λ o. Contains (entry_parents o) p) (ap (slice_get (log ++ e ∷ [])) h ∙ get_last log e) c)))
-      (λ h. absurd (Contains-nil (subst (λ o. Contains (entry_parents o) p) (get_after log e r h) c))))
+    (λ h. absurd (Contains-nil (subst (λ o. Contains (entry_parents o) p) (get_after log e r h) c))))
     (places log r)
-
 
 pub id_last : (log : List LogEntry) (e : LogEntry) → id_at (log ++ e ∷ []) (length log) ≡ Some e.id
 id_last log e = rw get_last refl
@@ -89,19 +89,22 @@ places_pushed log log' e m n h is fresh below now =
       listed = λ id at g. ⊎_elim
           (λ k. let old : id_at log at ≡ Some id = sym (id_before log e at k) ∙ g in now id.0 ∙ other id at old (pointwise nat_eq e.id.0 id.0) refl ∙ h.listed id at old)
           (⊎_elim (λ k. let last : id_at (log ++ e ∷ []) at ≡ Some e.id = ap (id_at (log ++ e ∷ [])) k ∙ id_last log e in
-            let same : e.id ≡ id = cc in now id.0 ∙ here id same (pointwise nat_eq e.id.0 id.0) refl ∙ ap Some (sym k))
-            (λ k. let none = id_after log e at k in cc))
+          let same : e.id ≡ id = cc in now id.0 ∙ here id same (pointwise nat_eq e.id.0 id.0) refl ∙ ap Some (sym k))
+          (λ k. let none = id_after log e at k in cc))
           (places log at);
     })
   where
     bytes : (id : Id) → pointwise nat_eq e.id.0 id.0 ≡ true → e.id ≡ id
     bytes id t = ap (λ (xs : List ℕ). let i : Id = record { 0 = xs } in i) ((bytes_eq-Decides e.id.0 id.0).0 t)
+
     known : (id : Id) (at : ℕ) (b : Bool) → pointwise nat_eq e.id.0 id.0 ≡ b → cond b (Some (length log)) (place_in m id.0) ≡ Some at → id_at (log ++ e ∷ []) at ≡ Some id
     known id at true t g = let k : length log ≡ at = cc in ap (id_at (log ++ e ∷ [])) (sym k) ∙ id_last log e ∙ ap Some (bytes id t)
     known id at false t g = let old = h.known id at g in id_before log e at (id_within log at id old) ∙ old
+
     other : (id : Id) (at : ℕ) → id_at log at ≡ Some id → (b : Bool) → pointwise nat_eq e.id.0 id.0 ≡ b → cond b (Some (length log)) (place_in m id.0) ≡ place_in m id.0
     other id at old true t = absurd (fresh at (old ∙ ap Some (sym (bytes id t))))
     other id at old false t = refl
+
     here : (id : Id) → e.id ≡ id → (b : Bool) → pointwise nat_eq e.id.0 id.0 ≡ b → cond b (Some (length log)) (place_in m id.0) ≡ Some (length log)
     here id same true t = refl
     here id same false t = absurd (false≢true (sym t ∙ (bytes_eq-Decides e.id.0 id.0).1 (ap (λ (i : Id). i.0) same)))

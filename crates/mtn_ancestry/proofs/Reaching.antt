@@ -1,8 +1,7 @@
 -- The frontier of a walk, position by position.
-use Rattle.std.proofs.Common.{◌≡◌, ◌≢◌, ◌↔◌, ℕ, zero, suc, ◌<◌, ◌≤◌, ◌⊎◌, Bool, true, false, cond, Option, Some, None, IsSome, IsTrue, refl, sym, ◌∙◌, ap, inl, inr, arith, subst, ⊎_elim, is_lt, nat_cmp}
+use Rattle.std.proofs.Common.{◌≡◌, ◌≢◌, ◌↔◌, ℕ, zero, suc, ◌<◌, ◌≤◌, ◌⊎◌, Bool, true, false, cond, Option, Some, None, IsSome, refl, sym, ◌∙◌, ap, inl, inr, arith, subst, ⊎_elim, is_lt, nat_cmp}
 use Rattle.std.specs.Ordering.{is_eq}
 use Rattle.std.specs.Cmp.{nat_cmp_is}
-use Rattle.std.specs.declared.cmp.Ordering.{Ordering}
 use Rattle.std.specs.declared.cmp.Ordering.TheVariants.{Less, Equal, Greater}
 use Rattle.std.proofs.Math.Decide.{ℕ_discrete}
 use Rattle.std.proofs.lemmas.Bool.{false≢true}
@@ -83,8 +82,8 @@ pub matched_on : (f g : Pending) (s t : ℕ → Bool) (at : ℕ) (w : Option Rea
 matched_on f g s t at w b m gs ts new x =
     elim (ℕ_discrete x at) [
       | yes e ↦ both x (t x) (g x) b w
-        (ts x ∙ ap (λ y. cond (is_eq (nat_cmp at y)) b (s x)) e ∙ cond_itself at b (s x))
-        (gs x ∙ ap (λ y. cond (is_eq (nat_cmp at y)) w (f x)) e ∙ cond_itself at w (f x)) new
+          (ts x ∙ ap (λ y. cond (is_eq (nat_cmp at y)) b (s x)) e ∙ cond_itself at b (s x))
+          (gs x ∙ ap (λ y. cond (is_eq (nat_cmp at y)) w (f x)) e ∙ cond_itself at w (f x)) new
       | no n ↦ both x (t x) (g x) (s x) (f x) (ts x ∙ cond_other at x b (s x) n) (gs x ∙ cond_other at x w (f x) n) (m x)
     ]
   where
@@ -97,15 +96,14 @@ pub left_on : (f g : Pending) (at : ℕ) (r : Reach) → ((x : ℕ) → g x ≡ 
 left_on f g at r gs x =
     elim (ℕ_discrete x at) [
       | yes e ↦
-        let i : g x ≡ Some (after_reach (f at) r) = gs x ∙ ap (λ y. cond (is_eq (nat_cmp at y)) (Some (after_reach (f at) r)) (f x)) e ∙ cond_itself at (Some (after_reach (f at) r)) (f x) in
-        let h = left_after (f at) r in
-        (
-          λ k. ⊎_elim (λ l. inl (subst (λ y. IsLeftAt (f y)) (sym e) l)) (λ l. inr (e, l)) (h.0 (subst IsLeftAt i k)),
-          λ s. subst IsLeftAt (sym i) (h.1 (⊎_elim (λ l. inl (subst (λ y. IsLeftAt (f y)) e l)) (λ p. inr p.1) s)),
-        )
+          let i : g x ≡ Some (after_reach (f at) r) = gs x ∙ ap (λ y. cond (is_eq (nat_cmp at y)) (Some (after_reach (f at) r)) (f x)) e ∙ cond_itself at (Some (after_reach (f at) r)) (f x) in
+          let h = left_after (f at) r in (
+            λ k. ⊎_elim (λ l. inl (subst (λ y. IsLeftAt (f y)) (sym e) l)) (λ l. inr (e, l)) (h.0 (subst IsLeftAt i k)),
+            λ s. subst IsLeftAt (sym i) (h.1 (⊎_elim (λ l. inl (subst (λ y. IsLeftAt (f y)) e l)) (λ p. inr p.1) s)),
+          )
       | no n ↦
-        let i : g x ≡ f x = gs x ∙ cond_other at x (Some (after_reach (f at) r)) (f x) n in
-        (λ k. inl (subst IsLeftAt i k), ⊎_elim (λ l. subst IsLeftAt (sym i) l) (λ p. absurd (n p.0)))
+          let i : g x ≡ f x = gs x ∙ cond_other at x (Some (after_reach (f at) r)) (f x) n in
+          (λ k. inl (subst IsLeftAt i k), ⊎_elim (λ l. subst IsLeftAt (sym i) l) (λ p. absurd (n p.0)))
     ]
 
 pub right_on : (f g : Pending) (at : ℕ) (r : Reach) → ((x : ℕ) → g x ≡ cond (is_eq (nat_cmp at x)) (Some (after_reach (f at) r)) (f x)) →
@@ -113,13 +111,12 @@ pub right_on : (f g : Pending) (at : ℕ) (r : Reach) → ((x : ℕ) → g x ≡
 right_on f g at r gs x =
     elim (ℕ_discrete x at) [
       | yes e ↦
-        let i : g x ≡ Some (after_reach (f at) r) = gs x ∙ ap (λ y. cond (is_eq (nat_cmp at y)) (Some (after_reach (f at) r)) (f x)) e ∙ cond_itself at (Some (after_reach (f at) r)) (f x) in
-        let h = right_after (f at) r in
-        (
-          λ k. ⊎_elim (λ l. inl (subst (λ y. IsRightAt (f y)) (sym e) l)) (λ l. inr (e, l)) (h.0 (subst IsRightAt i k)),
-          λ s. subst IsRightAt (sym i) (h.1 (⊎_elim (λ l. inl (subst (λ y. IsRightAt (f y)) e l)) (λ p. inr p.1) s)),
-        )
+          let i : g x ≡ Some (after_reach (f at) r) = gs x ∙ ap (λ y. cond (is_eq (nat_cmp at y)) (Some (after_reach (f at) r)) (f x)) e ∙ cond_itself at (Some (after_reach (f at) r)) (f x) in
+          let h = right_after (f at) r in (
+            λ k. ⊎_elim (λ l. inl (subst (λ y. IsRightAt (f y)) (sym e) l)) (λ l. inr (e, l)) (h.0 (subst IsRightAt i k)),
+            λ s. subst IsRightAt (sym i) (h.1 (⊎_elim (λ l. inl (subst (λ y. IsRightAt (f y)) e l)) (λ p. inr p.1) s)),
+          )
       | no n ↦
-        let i : g x ≡ f x = gs x ∙ cond_other at x (Some (after_reach (f at) r)) (f x) n in
-        (λ k. inl (subst IsRightAt i k), ⊎_elim (λ l. subst IsRightAt (sym i) l) (λ p. absurd (n p.0)))
+          let i : g x ≡ f x = gs x ∙ cond_other at x (Some (after_reach (f at) r)) (f x) n in
+          (λ k. inl (subst IsRightAt i k), ⊎_elim (λ l. subst IsRightAt (sym i) l) (λ p. absurd (n p.0)))
     ]

@@ -1,6 +1,6 @@
 -- What a sweep from the newest flagged position down leaves.
 use Rattle.std.specs.Prelude.{Contains}
-use Rattle.std.proofs.Common.{◌≡◌, ◌≢◌, ◌↔◌, ℕ, suc, ◌+◌, ◌<◌, ◌≤◌, List, ◌⊎◌, Bool, length, refl, sym, inl, inr, arith, subst, ⊎_elim}
+use Rattle.std.proofs.Common.{◌≡◌, ◌↔◌, ℕ, ◌+◌, ◌<◌, ◌≤◌, List, ◌⊎◌, Bool, inl, inr, arith, subst, ⊎_elim}
 use Rattle.std.proofs.Math.Decide.{ℕ_discrete}
 use Rattle.mtn_ancestry.specs.Ancestors.{IsAncestor, ParentsAreEarlier}
 use Rattle.mtn_ancestry.specs.Ancestors.IsAncestor.{itself, through}
@@ -36,7 +36,7 @@ swept_more parents early start flags new at next e s is more = record {
   closed = λ r p h f c. elim (ℕ_discrete r next) [
     | yes g ↦ (more p).1 (inr (subst (λ q. Contains (parents q) p) g c))
     | no n ↦ (more p).1 (inl (s.closed r p (omega arith)
-      (⊎_elim (λ k. k) (λ d. absurd (let l : r < next = early next r d in omega arith)) ((more r).0 f)) c))
+        (⊎_elim (λ k. k) (λ d. absurd (let l : r < next = early next r d in omega arith)) ((more r).0 f)) c))
   ];
 }
 

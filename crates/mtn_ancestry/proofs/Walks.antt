@@ -1,6 +1,6 @@
 -- One step of the walk, its start and its end.
 use Rattle.std.specs.Prelude.{Contains}
-use Rattle.std.proofs.Common.{◌≡◌, ◌≢◌, ◌↔◌, ℕ, suc, ◌+◌, ◌-◌, ◌<◌, ◌≤◌, List, [], ◌∷◌, ◌++◌, ◌⊎◌, Bool, true, false, cond, Option, Some, None, nat_eq, refl, sym, ◌∙◌, ap, inl, inr, arith, subst, ⊎_elim, eq-eqb, ne_eqb}
+use Rattle.std.proofs.Common.{◌≡◌, ◌≢◌, ◌↔◌, ℕ, suc, ◌-◌, ◌<◌, ◌≤◌, List, [], ◌∷◌, ◌++◌, ◌⊎◌, cond, Option, Some, None, refl, sym, ◌∙◌, ap, inl, inr, arith, subst, ⊎_elim, eq-eqb, ne_eqb}
 use Rattle.std.proofs.Math.Decide.{ℕ_discrete}
 use Rattle.std.proofs.lemmas.List.Elements.{Contains-push, Contains-append_left, Contains-push_cases}
 use Rattle.mtn_ancestry.specs.Ancestors.{IsAncestor, IsUncommon, ParentsAreEarlier, ReachesFrom}
@@ -8,7 +8,6 @@ use Rattle.mtn_ancestry.specs.Ancestors.IsAncestor.{itself, through}
 use Rattle.mtn_ancestry.specs.declared.frontier.Reach.{Reach}
 use Rattle.mtn_ancestry.specs.declared.frontier.Reach.TheVariants.{Left, Right, Both}
 use Rattle.mtn_ancestry.specs.Walking.{Pending, IsFromLeft, IsFromRight, IsLeftAt, IsRightAt, IsSingle, IsBelow, IsWalked, with_position}
-use Rattle.mtn_ancestry.proofs.Members.{Contains-nil}
 use Rattle.mtn_ancestry.proofs.Ancestry.{IsAncestor-trans, IsAncestor-cases, IsAncestor-le, tell_ancestor}
 
 pub with_here : (f : Pending) (at : ℕ) (r : Reach) → with_position f at r at ≡ Some r
@@ -80,8 +79,8 @@ module _ (parents : ℕ → List ℕ) (early : ParentsAreEarlier parents) (a b l
           let t = w.left_rest x (omega arith) k in
           elim (ℕ_discrete t.0 at) [
             | yes e ↦
-              let l : IsFromLeft r = subst IsLeftAt (ap (with_position f at r) e ∙ with_here f at r) t.1 in
-              ⊎_elim (λ d. absurd (omega arith)) (λ q. (q.0, (lefts q.0).1 (inr (q.1, l)), q.2)) (IsAncestor-cases (subst (IsAncestor parents x) e t.2))
+                let l : IsFromLeft r = subst IsLeftAt (ap (with_position f at r) e ∙ with_here f at r) t.1 in
+                ⊎_elim (λ d. absurd (omega arith)) (λ q. (q.0, (lefts q.0).1 (inr (q.1, l)), q.2)) (IsAncestor-cases (subst (IsAncestor parents x) e t.2))
             | no n ↦ (t.0, (lefts t.0).1 (inl (subst IsLeftAt (with_other f at r t.0 n) t.1)), t.2)
           ]
 
@@ -90,8 +89,8 @@ module _ (parents : ℕ → List ℕ) (early : ParentsAreEarlier parents) (a b l
           let t = w.right_rest x (omega arith) k in
           elim (ℕ_discrete t.0 at) [
             | yes e ↦
-              let l : IsFromRight r = subst IsRightAt (ap (with_position f at r) e ∙ with_here f at r) t.1 in
-              ⊎_elim (λ d. absurd (omega arith)) (λ q. (q.0, (rights q.0).1 (inr (q.1, l)), q.2)) (IsAncestor-cases (subst (IsAncestor parents x) e t.2))
+                let l : IsFromRight r = subst IsRightAt (ap (with_position f at r) e ∙ with_here f at r) t.1 in
+                ⊎_elim (λ d. absurd (omega arith)) (λ q. (q.0, (rights q.0).1 (inr (q.1, l)), q.2)) (IsAncestor-cases (subst (IsAncestor parents x) e t.2))
             | no n ↦ (t.0, (rights t.0).1 (inl (subst IsRightAt (with_other f at r t.0 n) t.1)), t.2)
           ]
 
@@ -127,8 +126,7 @@ module _ (parents : ℕ → List ℕ) (early : ParentsAreEarlier parents) (a b l
     -- the position joins the left list exactly where it came from the left alone
     pub left_noted : r ≡ Left → (x : ℕ) → Contains (left ++ at ∷ []) x ↔ ((at ≤ x) × IsUncommon parents a b x)
     left_noted e x =
-        let u : IsUncommon parents a b at = (is_left (subst IsFromLeft (sym e) tt), not_right (λ k. subst IsFromRight e k)) in
-        (
+        let u : IsUncommon parents a b at = (is_left (subst IsFromLeft (sym e) tt), not_right (λ k. subst IsFromRight e k)) in (
           λ c. ⊎_elim (λ o. let h = (w.left_found x).0 o in (omega (arith, h.0), h.1)) (λ d. (omega (arith, d), subst (IsUncommon parents a b) d u)) (Contains-push_cases left at x c),
           λ p. elim (ℕ_discrete x at) [
             | yes d ↦ subst (Contains (left ++ at ∷ [])) (sym d) (Contains-push left at)
@@ -147,8 +145,7 @@ module _ (parents : ℕ → List ℕ) (early : ParentsAreEarlier parents) (a b l
 
     pub right_noted : r ≡ Right → (x : ℕ) → Contains (right ++ at ∷ []) x ↔ ((at ≤ x) × IsUncommon parents b a x)
     right_noted e x =
-        let u : IsUncommon parents b a at = (is_right (subst IsFromRight (sym e) tt), not_left (λ k. subst IsFromLeft e k)) in
-        (
+        let u : IsUncommon parents b a at = (is_right (subst IsFromRight (sym e) tt), not_left (λ k. subst IsFromLeft e k)) in (
           λ c. ⊎_elim (λ o. let h = (w.right_found x).0 o in (omega (arith, h.0), h.1)) (λ d. (omega (arith, d), subst (IsUncommon parents b a) d u)) (Contains-push_cases right at x c),
           λ p. elim (ℕ_discrete x at) [
             | yes d ↦ subst (Contains (right ++ at ∷ [])) (sym d) (Contains-push right at)
@@ -176,17 +173,23 @@ module _ (parents : ℕ → List ℕ) (early : ParentsAreEarlier parents) (a b l
     single_reach = w.single_reach;
     left_found = λ x. (
       λ c. let p = (w.left_found x).0 c in (omega (arith, p.0), p.1),
-      λ p. (w.left_found x).1 (elim (ℕ_discrete (from - x) 0) [
-        | yes e ↦ omega arith
-        | no n ↦ let t = w.left_rest x (omega arith) p.1.0 in let g : suc at ≤ x = p.0 in absurd (omega (arith, top t.0 (inl t.1), IsAncestor-le early t.2))
-      ], p.1),
+      λ p. (w.left_found x).1 (
+        elim (ℕ_discrete (from - x) 0) [
+          | yes e ↦ omega arith
+          | no n ↦ let t = w.left_rest x (omega arith) p.1.0 in let g : suc at ≤ x = p.0 in absurd (omega (arith, top t.0 (inl t.1), IsAncestor-le early t.2))
+        ],
+        p.1,
+      ),
     );
     right_found = λ x. (
       λ c. let p = (w.right_found x).0 c in (omega (arith, p.0), p.1),
-      λ p. (w.right_found x).1 (elim (ℕ_discrete (from - x) 0) [
-        | yes e ↦ omega arith
-        | no n ↦ let t = w.right_rest x (omega arith) p.1.0 in let g : suc at ≤ x = p.0 in absurd (omega (arith, top t.0 (inr t.1), IsAncestor-le early t.2))
-      ], p.1),
+      λ p. (w.right_found x).1 (
+        elim (ℕ_discrete (from - x) 0) [
+          | yes e ↦ omega arith
+          | no n ↦ let t = w.right_rest x (omega arith) p.1.0 in let g : suc at ≤ x = p.0 in absurd (omega (arith, top t.0 (inr t.1), IsAncestor-le early t.2))
+        ],
+        p.1,
+      ),
     );
   }
 
@@ -205,16 +208,28 @@ module _ (parents : ℕ → List ℕ) (early : ParentsAreEarlier parents) (a b l
   pub all_found : (from : ℕ) (f : Pending) (left right : List ℕ) → IsWalked parents a b low from f left right → ((x : ℕ) → ¬ IsSingle (f x)) →
       ((x : ℕ) → Contains left x ↔ IsUncommon parents a b x) × ((x : ℕ) → Contains right x ↔ IsUncommon parents b a x)
   all_found from f left right w none = (
-    λ x. (λ c. ((w.left_found x).0 c).1, λ u. (w.left_found x).1 (elim (ℕ_discrete (from - x) 0) [
-      | yes e ↦ omega arith
-      | no n ↦ let t = w.left_rest x (omega arith) u.0 in
-        absurd (u.1 (IsAncestor-trans (w.right_ancestors t.0 ((sides_single (f t.0) (none t.0)).0 t.1)) t.2))
-    ], u)),
-    λ x. (λ c. ((w.right_found x).0 c).1, λ u. (w.right_found x).1 (elim (ℕ_discrete (from - x) 0) [
-      | yes e ↦ omega arith
-      | no n ↦ let t = w.right_rest x (omega arith) u.0 in
-        absurd (u.1 (IsAncestor-trans (w.left_ancestors t.0 ((sides_single (f t.0) (none t.0)).1 t.1)) t.2))
-    ], u)),
+    λ x. (
+      λ c. ((w.left_found x).0 c).1,
+      λ u. (w.left_found x).1 (
+        elim (ℕ_discrete (from - x) 0) [
+          | yes e ↦ omega arith
+          | no n ↦ let t = w.left_rest x (omega arith) u.0 in
+              absurd (u.1 (IsAncestor-trans (w.right_ancestors t.0 ((sides_single (f t.0) (none t.0)).0 t.1)) t.2))
+        ],
+        u,
+      ),
+    ),
+    λ x. (
+      λ c. ((w.right_found x).0 c).1,
+      λ u. (w.right_found x).1 (
+        elim (ℕ_discrete (from - x) 0) [
+          | yes e ↦ omega arith
+          | no n ↦ let t = w.right_rest x (omega arith) u.0 in
+              absurd (u.1 (IsAncestor-trans (w.left_ancestors t.0 ((sides_single (f t.0) (none t.0)).1 t.1)) t.2))
+        ],
+        u,
+      ),
+    ),
   )
 
 -- two unlike positions stand where the walk may go

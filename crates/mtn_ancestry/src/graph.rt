@@ -5,7 +5,9 @@ ghost use Rattle.mtn_ancestry.specs.Log.{list_of, parents_of, id_at, IsLog};
 ghost use Rattle.mtn_ancestry.specs.Sets.{IsAscendingListOf};
 
 use crate::flags::{flagged, flags_of, no_flags};
-use crate::sweep::{common_ancestors, is_reached, no_ancestors, parents_at, proper_ancestors, proper_descendents};
+use crate::sweep::{
+    common_ancestors, is_reached, no_ancestors, parents_at, proper_ancestors, proper_descendents,
+};
 use crate::{LogEntry, ParentList, Parents, Pos, PosSet};
 use mtn_base::{Id, NoMemory};
 use std::alloc::Global;

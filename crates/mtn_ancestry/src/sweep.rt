@@ -4,7 +4,9 @@ ghost use Rattle.mtn_ancestry.specs.Ancestors.{IsAncestor, IsProperAncestor, Par
 ghost use Rattle.mtn_ancestry.specs.Log.{list_of, parents_of};
 ghost use Rattle.mtn_ancestry.specs.Sets.{IsFlagged};
 
-use crate::flags::{all_flags, flag, flag_parents, flag_rest, flags_of, is_flagged, keep_flagged, no_flags};
+use crate::flags::{
+    all_flags, flag, flag_parents, flag_rest, flags_of, is_flagged, keep_flagged, no_flags,
+};
 use crate::{LogEntry, ParentList, Pos};
 use mtn_base::NoMemory;
 use std::alloc::Global;

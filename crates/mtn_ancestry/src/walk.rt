@@ -107,7 +107,12 @@ impl Walk {
     }
 
     // Leaves the position where the walk stands, which has these parents, and gives the next.
-    fn advance(&mut self, at: Pos, reach: Reach, parents: &ParentList) -> Result<Option<(Pos, Reach)>, NoMemory>
+    fn advance(
+        &mut self,
+        at: Pos,
+        reach: Reach,
+        parents: &ParentList,
+    ) -> Result<Option<(Pos, Reach)>, NoMemory>
         requires matched { IsMatched self.old.frontier }
         requires order { IsInOrder at (pending_of self.old.frontier) self.old.left.items self.old.right.items }
         requires earlier { (p : ℕ) → Contains (list_of parents.now) p → p < at }

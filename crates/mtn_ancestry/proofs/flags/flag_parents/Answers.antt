@@ -1,5 +1,5 @@
 use Rattle.std.specs.Prelude.{Contains}
-use Rattle.std.proofs.Common.{◌≡◌, ◌↔◌, ◌⊎◌, ℕ, ◌<◌, [], ◌∷◌, length, arith, ap, sym, ◌∙◌, subst, length-set}
+use Rattle.std.proofs.Common.{◌↔◌, ◌⊎◌, ◌<◌, [], ◌∷◌, length, ap, sym, ◌∙◌, subst, length-set}
 use Rattle.mtn_ancestry.specs.Log.{list_of}
 use Rattle.mtn_ancestry.specs.Sets.{IsFlagged}
 use Rattle.mtn_ancestry.proofs.Members.{Contains-head, Contains-later}

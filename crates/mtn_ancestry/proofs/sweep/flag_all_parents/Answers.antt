@@ -1,11 +1,10 @@
 use Rattle.std.specs.Prelude.{Contains}
-use Rattle.std.proofs.Common.{◌≡◌, ◌↔◌, ◌⊎◌, ℕ, ◌+◌, ◌-◌, ◌<◌, ◌≤◌, length, get_or, sym, ◌∙◌, subst, ap, inl, inr, ⊎_elim, arith, below_more}
+use Rattle.std.proofs.Common.{◌≡◌, ◌↔◌, ◌⊎◌, ℕ, ◌<◌, length, get_or, sym, ◌∙◌, subst, ap, inl, inr, ⊎_elim, arith}
 use Rattle.std.proofs.lemmas.List.Elements.{Contains-get_or}
 use Rattle.std.proofs.lemmas.List.{get_or_default}
 use Rattle.std.proofs.Math.Decide.{ℕ_discrete}
-use Rattle.mtn_ancestry.specs.Log.{list_of, parents_of}
+use Rattle.mtn_ancestry.specs.Log.{parents_of}
 use Rattle.mtn_ancestry.specs.Sets.{IsFlagged}
-use Rattle.mtn_ancestry.proofs.Flagging.{flag_within}
 use Rattle.mtn_ancestry.proofs.Members.{Contains-at}
 use Rattle.mtn_ancestry.proofs.sweep.flag_all_parents.Goals as goal
 
@@ -36,6 +35,6 @@ pub returns-clause-exact : goal.returns-clause-exact
 returns-clause-exact c = λ x. (
   c.loop-at.invariant.only x,
   ⊎_elim (c.loop-at.invariant.kept x)
-  (λ t. Contains-at c.args.of.now t.0 (λ r. Contains (parents_of c.args.log.now r) x → IsFlagged c.loop-at.flags x)
-  (λ k h m. c.loop-at.invariant.done k x (omega arith) m) t.1 t.2),
+      (λ t. Contains-at c.args.of.now t.0 (λ r. Contains (parents_of c.args.log.now r) x → IsFlagged c.loop-at.flags x)
+      (λ k h m. c.loop-at.invariant.done k x (omega arith) m) t.1 t.2),
 )

@@ -1,5 +1,5 @@
 use Rattle.std.specs.Prelude.{Contains}
-use Rattle.std.proofs.Common.{◌≡◌, ◌⊎◌, ℕ, ◌<◌, get_or, length}
+use Rattle.std.proofs.Common.{◌⊎◌, ℕ, ◌<◌, get_or}
 use Rattle.mtn_ancestry.specs.Log.{parents_of}
 use Rattle.mtn_ancestry.specs.Sets.{IsFlagged}
 use Rattle.mtn_ancestry.proofs.sweep.flag_all_parents.Given as goal

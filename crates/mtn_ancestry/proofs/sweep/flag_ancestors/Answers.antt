@@ -1,10 +1,10 @@
 use Rattle.std.specs.Prelude.{Contains}
-use Rattle.std.proofs.Common.{◌≡◌, ◌↔◌, ◌⊎◌, ℕ, ◌+◌, ◌-◌, ◌<◌, ◌≤◌, length, sym, ◌∙◌, subst, ap, arith}
-use Rattle.mtn_ancestry.specs.Log.{list_of, parents_of}
+use Rattle.std.proofs.Common.{◌≡◌, ◌↔◌, ◌⊎◌, ℕ, ◌-◌, ◌<◌, length, sym, subst, arith}
+use Rattle.mtn_ancestry.specs.Log.{parents_of}
 use Rattle.mtn_ancestry.specs.Sets.{IsFlagged}
 use Rattle.mtn_ancestry.proofs.Flagging.{flag_within}
 use Rattle.mtn_ancestry.proofs.Placing.{parents_read}
-use Rattle.mtn_ancestry.proofs.Sweeping.{swept_start, swept_more, swept_pass, swept_all}
+use Rattle.mtn_ancestry.proofs.Sweeping.{swept_start, swept_more, swept_all}
 use Rattle.mtn_ancestry.proofs.sweep.flag_ancestors.Goals as goal
 
 pub loop-at-init : goal.loop-at-init

@@ -1,4 +1,4 @@
-use Rattle.std.proofs.Common.{◌≡◌, ◌≤◌, length}
+use Rattle.std.proofs.Common.{◌≤◌, length}
 use Rattle.mtn_ancestry.specs.Log.{parents_of}
 use Rattle.mtn_ancestry.proofs.Sweeping.{IsSwept}
 use Rattle.mtn_ancestry.proofs.sweep.flag_ancestors.Given as goal

@@ -1,4 +1,4 @@
-use Rattle.std.proofs.Common.{◌≡◌, ◌↔◌, ℕ, ◌<◌, ◌≤◌, length}
+use Rattle.std.proofs.Common.{◌↔◌, ℕ, ◌<◌}
 use Rattle.mtn_ancestry.specs.Ancestors.{IsProperAncestor}
 use Rattle.mtn_ancestry.specs.Log.{parents_of}
 use Rattle.mtn_ancestry.specs.Sets.{IsFlagged}

@@ -1,4 +1,4 @@
-use Rattle.std.proofs.Common.{◌≡◌, ℕ, Some, cond, sym, ◌∙◌, ap, subst, nat_cmp}
+use Rattle.std.proofs.Common.{◌≡◌, ℕ, Some, cond, ◌∙◌, ap, nat_cmp}
 use Rattle.std.specs.Ordering.{is_eq}
 use Rattle.std.specs.BTreeSet.{contains}
 use Rattle.mtn_ancestry.specs.Walking.{pending_of, after_reach, is_single}

@@ -1,4 +1,4 @@
-use Rattle.std.proofs.Common.{◌≡◌, ℕ, ◌<◌, ◌≤◌, Bool, true, false, None, sym, ◌∙◌, ap, subst, nat_cmp}
+use Rattle.std.proofs.Common.{ℕ, false, None, ◌∙◌, nat_cmp}
 use Rattle.std.proofs.lemmas.Bool.{false≢true}
 use Rattle.std.specs.BTreeSet.{contains}
 use Rattle.mtn_ancestry.specs.Walking.{pending_of, IsSingle}

@@ -1,4 +1,4 @@
-use Rattle.std.proofs.Common.{◌≡◌, ℕ, Option, Some, IfSome, sym, ◌∙◌, subst, ap}
+use Rattle.std.proofs.Common.{◌≡◌, Some, IfSome, sym, ◌∙◌, subst}
 use Rattle.mtn_ancestry.specs.Log.{id_at}
 use Rattle.mtn_ancestry.proofs.Placing.{found_place}
 use Rattle.mtn_ancestry.proofs.graph.Graph.find.Goals as goal

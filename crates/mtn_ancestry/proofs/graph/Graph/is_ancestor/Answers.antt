@@ -1,4 +1,4 @@
-use Rattle.std.proofs.Common.{◌≤◌, ◌<◌, sym, subst, arith, rules}
+use Rattle.std.proofs.Common.{◌<◌, subst, arith}
 use Rattle.std.proofs.lemmas.Grind.{common_steps}
 use Rattle.std.proofs.lemmas.Bool.{false≢true}
 use Rattle.mtn_ancestry.specs.Log.{IsLog}

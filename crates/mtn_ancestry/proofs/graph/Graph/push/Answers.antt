@@ -1,5 +1,5 @@
 use Rattle.std.specs.Prelude.{Contains}
-use Rattle.std.proofs.Common.{◌≡◌, ◌<◌, ℕ, Some, cond, ◌∷◌, [], ◌++◌, sym, ◌∙◌, subst, ap, length, nat_eq, rules, arith}
+use Rattle.std.proofs.Common.{◌≡◌, ◌<◌, ℕ, Some, cond, ◌∷◌, [], ◌++◌, sym, ◌∙◌, subst, ap, length, nat_eq, rules}
 use Rattle.std.specs.Cmp.Lexicographic.{pointwise}
 use Rattle.mtn_ancestry.specs.Log.{id_at, list_of}
 use Rattle.mtn_ancestry.proofs.Placing.{places_kept, places_pushed, place_in}

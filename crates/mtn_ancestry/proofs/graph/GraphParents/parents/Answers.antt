@@ -1,7 +1,7 @@
 use Rattle.std.specs.Prelude.{Contains}
-use Rattle.std.proofs.Common.{◌≡◌, ℕ, List, ◌<◌, length, refl, sym, ◌∙◌, subst}
+use Rattle.std.proofs.Common.{◌≡◌, List, ◌<◌, length, refl, sym, ◌∙◌, subst}
 use Rattle.mtn_ancestry.specs.declared.pos.LogEntry.{LogEntry}
-use Rattle.mtn_ancestry.specs.Log.{list_of, parents_of, IsToldBy, IsLog}
+use Rattle.mtn_ancestry.specs.Log.{parents_of, IsLog}
 use Rattle.mtn_ancestry.proofs.graph.GraphParents.parents.Goals as goal
 
 pub parents_at-requires : goal.parents_at-requires

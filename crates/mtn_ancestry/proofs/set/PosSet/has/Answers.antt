@@ -1,6 +1,6 @@
 use Rattle.std.specs.Prelude.{Contains}
 use Rattle.std.specs.List.Sorted.{IsStrictlyIncreasing}
-use Rattle.std.proofs.Common.{◌≡◌, ℕ, ◌-◌, ◌<◌, ◌≤◌, List, Bool, true, false, length, get_or, refl, sym, ◌∙◌, subst, arith, Result, Ok, Err, IsTrue, is_ok}
+use Rattle.std.proofs.Common.{◌≡◌, ℕ, ◌-◌, ◌<◌, ◌≤◌, List, length, get_or, refl, sym, ◌∙◌, subst, arith, Result, Ok, Err, IsTrue, is_ok}
 use Rattle.std.proofs.Math.Decide.{ℕ_discrete}
 use Rattle.std.specs.List.Sorted.{IsBinarySearchResult}
 use Rattle.std.specs.Ordering.{nat_cmp}
@@ -20,13 +20,15 @@ found : (xs : List ℕ) (x : ℕ) (r : Result ℕ ℕ) → IsBinarySearchResult 
     (IsTrue (is_ok r) → Contains xs x) × (Contains xs x → IsTrue (is_ok r))
 found xs x (Ok i) b inc = let s = searched xs x (Ok i) b (rising xs inc) in (λ _. (i, s.0, get_or_default xs i x 0 s.0 ∙ s.1), λ _. refl)
 found xs x (Err i) b inc =
-    let s = searched xs x (Err i) b (rising xs inc) in
-    (λ h. cc, λ c. absurd (
-      let at : get_or xs c.0 0 ≡ x = get_or_default xs c.0 0 x c.1 ∙ c.2 in
-      elim (ℕ_discrete (i - c.0) 0) [
-        | yes e ↦ let low : i ≤ c.0 = omega arith in omega (arith, s.2 c.0 low c.1)
-        | no n ↦ let low : c.0 < i = omega arith in omega (arith, s.1 c.0 low)
-      ]))
+    let s = searched xs x (Err i) b (rising xs inc) in (
+      λ h. cc,
+      λ c. absurd (
+          let at : get_or xs c.0 0 ≡ x = get_or_default xs c.0 0 x c.1 ∙ c.2 in
+          elim (ℕ_discrete (i - c.0) 0) [
+            | yes e ↦ let low : i ≤ c.0 = omega arith in omega (arith, s.2 c.0 low c.1)
+            | no n ↦ let low : c.0 < i = omega arith in omega (arith, s.1 c.0 low)
+          ]),
+    )
 
 pub returns : goal.returns
 returns c =

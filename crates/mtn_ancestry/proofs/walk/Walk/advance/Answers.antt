@@ -1,8 +1,8 @@
 use Rattle.std.specs.Prelude.{Contains}
-use Rattle.std.proofs.Common.{◌≡◌, ◌↔◌, ◌⊎◌, ℕ, List, sym, ◌∙◌, ap, subst}
+use Rattle.std.proofs.Common.{◌↔◌, ◌⊎◌, ℕ, List, sym, subst}
 use Rattle.mtn_ancestry.specs.Log.{list_of}
 use Rattle.mtn_ancestry.specs.declared.frontier.Frontier.{Frontier}
-use Rattle.mtn_ancestry.specs.Walking.{Pending, pending_of, IsBelow, IsLeftAt, IsRightAt, IsFromLeft, IsFromRight, IsUnderWay, IsOrderly, left_noted, right_noted}
+use Rattle.mtn_ancestry.specs.Walking.{pending_of, IsBelow, IsLeftAt, IsRightAt, IsFromLeft, IsFromRight, IsUnderWay, IsOrderly, left_noted, right_noted}
 use Rattle.mtn_ancestry.proofs.Walks.{stepped}
 use Rattle.mtn_ancestry.proofs.Advancing.{Pops, next_below, under_way, below_after, orderly, found_left, found_right}
 use Rattle.mtn_ancestry.proofs.walk.Walk.advance.Goals as goal
@@ -50,11 +50,11 @@ returns-clause-walked c = λ graph a b low early floor is stands.
     let left = c.args.self.now.left.items in
     let right = c.args.self.now.right.items in
     let w = stepped graph early a b low c.args.at f c.args.reach left right c.requires.order.below stands.walked (pending_of c.add_all.new.self)
-        (subst (λ (ps : List ℕ). (x : ℕ) → IsLeftAt (pending_of c.add_all.new.self x) ↔ (IsLeftAt (f x) ⊎ (Contains ps x × IsFromLeft c.args.reach))) is (lefts c))
-        (subst (λ (ps : List ℕ). (x : ℕ) → IsRightAt (pending_of c.add_all.new.self x) ↔ (IsRightAt (f x) ⊎ (Contains ps x × IsFromRight c.args.reach))) is (rights c))
-        floor (left_noted c.args.reach left c.args.at) (right_noted c.args.reach right c.args.at)
-        (found_left graph early a b low c.args.at f c.args.reach left right c.requires.order.below stands.walked)
-        (found_right graph early a b low c.args.at f c.args.reach left right c.requires.order.below stands.walked) in
+    (subst (λ (ps : List ℕ). (x : ℕ) → IsLeftAt (pending_of c.add_all.new.self x) ↔ (IsLeftAt (f x) ⊎ (Contains ps x × IsFromLeft c.args.reach))) is (lefts c))
+    (subst (λ (ps : List ℕ). (x : ℕ) → IsRightAt (pending_of c.add_all.new.self x) ↔ (IsRightAt (f x) ⊎ (Contains ps x × IsFromRight c.args.reach))) is (rights c))
+    floor (left_noted c.args.reach left c.args.at) (right_noted c.args.reach right c.args.at)
+    (found_left graph early a b low c.args.at f c.args.reach left right c.requires.order.below stands.walked)
+    (found_right graph early a b low c.args.at f c.args.reach left right c.requires.order.below stands.walked) in
     subst (λ (l : List ℕ). IsUnderWay graph a b low c.pop.result (pending_of c.pop.new.self) l c.note.new.self.right.items) (sym c.in_ok-note.ensures.left)
     (subst (λ (l : List ℕ). IsUnderWay graph a b low c.pop.result (pending_of c.pop.new.self) (left_noted c.args.reach left c.args.at) l) (sym c.in_ok-note.ensures.right)
     (under_way graph early a b low c.args.at (pending_of c.add_all.new.self) (pending_of c.pop.new.self) c.pop.result
