@@ -1,0 +1,11 @@
+pub mod Members
+pub mod Flagging
+pub mod Listing
+pub mod Placing
+pub mod Ancestry
+pub mod Sweeping
+pub mod Answering
+pub mod Reaching
+pub mod Walks
+pub mod Advancing
+pub mod Asking

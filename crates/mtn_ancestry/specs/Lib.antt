@@ -1,0 +1,6 @@
+pub mod Ancestors
+pub mod Log
+pub mod Sets
+pub mod Places
+pub mod Walking
+pub mod Outcome

@@ -1,0 +1,106 @@
+// Makes a graph of a root and as many diamonds as the first word says, each a fork of two revisions and
+// their merge, and asks it for what `bench/ancestry.sh` compares with git. Under a second word it prints
+// how long each question took, in microseconds.
+#![tactic(auto)]
+
+ghost use Rattle.std.specs.Prelude.{◌≡◌, ◌<◌, ◌+◌, All, IsTrue, length};
+
+use mtn_ancestry::{Graph, ParentList, Pos, uncommon};
+use mtn_base::{Id, NoMemory};
+use std::alloc::Global;
+use std::env;
+use std::io;
+use std::process::ExitCode;
+use std::time::Instant;
+
+// Appends a revision whose parents stand in the graph.
+fn add(graph: &mut Graph, parents: ParentList) -> Result<(), NoMemory> {
+    let len = graph.len();
+    let mut bytes = [0; 20];
+    bytes[..8].copy_from_slice(&len.to_be_bytes());
+    let id = Id(bytes);
+    if graph.find(id).is_some() {
+        return Ok(());
+    }
+    match parents {
+        ParentList::Two(p, q) => {
+            if p.0 < len && q.0 < len {
+                graph.push(id, ParentList::Two(p, q))?;
+            }
+        }
+        ParentList::One(p) => {
+            if p.0 < len {
+                graph.push(id, ParentList::One(p))?;
+            }
+        }
+        ParentList::Zero => {
+            graph.push(id, ParentList::Zero)?;
+        }
+    }
+    Ok(())
+}
+
+fn diamonds(alloc: Global, count: u64) -> Result<Graph, NoMemory> {
+    let mut graph = Graph::new(alloc);
+    add(&mut graph, ParentList::Zero)?;
+    for _ in 0..count {
+        let last = graph.len().saturating_sub(1);
+        add(&mut graph, ParentList::One(Pos(last)))?;
+        add(&mut graph, ParentList::One(Pos(last)))?;
+        let fork = (last.saturating_add(1), last.saturating_add(2));
+        add(&mut graph, ParentList::Two(Pos(fork.0), Pos(fork.1)))?;
+    }
+    Ok(graph)
+}
+
+fn are_within(graph: &Graph, of: &[Pos]) -> bool
+    ensures { IsTrue result → All (λ p. p < length graph.now) of.now }
+{
+    let len = graph.len();
+    for at in of {
+        if len <= at.0 {
+            return false;
+        }
+    }
+    true
+}
+
+fn main(rt: HostRuntime) -> io::Result<ExitCode> {
+    let mut words = env::args(&rt)?;
+    let _program = words.next();
+    let count = match words.next() {
+        Some(word) => word.as_str().parse::<u64>().unwrap_or(0),
+        None => 0,
+    };
+    let Ok(mut graph) = diamonds(rt.alloc(), count) else {
+        return Ok(ExitCode::FAILURE);
+    };
+    let len = graph.len();
+    if len < 4 {
+        return Ok(ExitCode::FAILURE);
+    }
+    let newest = [Pos(len - 1)];
+    if !are_within(&graph, &newest) {
+        return Ok(ExitCode::FAILURE);
+    }
+    let start = Instant::now(&rt)?;
+    let Ok(is_old) = graph.is_ancestor(rt.alloc(), Pos(0), Pos(len - 1)) else {
+        return Ok(ExitCode::FAILURE);
+    };
+    let first = start.elapsed(&rt)?.as_micros();
+    let Ok(ancestors) = graph.ancestors(rt.alloc(), &newest) else {
+        return Ok(ExitCode::FAILURE);
+    };
+    let second = start.elapsed(&rt)?.as_micros();
+    let Ok(sets) = uncommon(rt.alloc(), &mut graph, Pos(len - 3), Pos(len - 2)) else {
+        return Ok(ExitCode::FAILURE);
+    };
+    let third = start.elapsed(&rt)?.as_micros();
+    println!(rt; "is_ancestor {is_old}")?;
+    println!(rt; "ancestors {}", ancestors.as_slice().len())?;
+    println!(rt; "uncommon {} {}", sets.0.as_slice().len(), sets.1.as_slice().len())?;
+    if words.next().is_some() {
+        println!(rt; "after {first} {second} {third}")?;
+    }
+    Ok(ExitCode::SUCCESS)
+}

@@ -1,0 +1,4 @@
+pub mod Marks
+pub mod Ways
+pub mod Rule
+pub mod ScalarLog
