@@ -1,0 +1,100 @@
+-- What a binary search finds in an index by slot.
+use Rattle.std.specs.Prelude.{find, map, slice_get}
+use Rattle.std.specs.Option.{option_map_or}
+use Rattle.std.specs.List.{All, Contains}
+use Rattle.std.specs.List.Sorted.{IsBinarySearchResult, IsSearchInRange}
+use Rattle.std.specs.declared.cmp.Ordering.{Ordering}
+use Rattle.std.specs.declared.cmp.Ordering.TheVariants.{Less, Equal, Greater}
+use Rattle.std.specs.Ordering.{is_lt, ordering_then, ordering_reverse}
+use Rattle.std.specs.Cmp.{IsTotalOrder, on_total, then_total, tied_itself}
+use Rattle.std.proofs.Common.{◌≡◌, ℕ, ◌<◌, ◌≤◌, List, length, get_or, Option, Some, None, Err, refl, sym, ◌∙◌, ap, arith, inl, inr}
+use Rattle.std.proofs.lemmas.Bool.{cases_lt}
+use Rattle.std.proofs.lemmas.List.Sorted.{searchable_from_sorted}
+use Rattle.std.proofs.lemmas.List.Elements.{All-get_or, at_from_Contains}
+use Rattle.mtn_base.specs.Names.{bytes_cmp, name_cmp}
+use Rattle.mtn_base.specs.declared.name.NodeName.{NodeName}
+use Rattle.mtn_roster.specs.declared.entry.Entry.{Entry}
+use Rattle.mtn_roster.specs.declared.entry.Slot.{Slot}
+use Rattle.mtn_roster.specs.declared.entry.Slot.TheVariants.{Root, Below}
+use Rattle.mtn_roster.specs.Tree.{Tree, at_slot, entry_of, rises, IsSane}
+use Rattle.mtn_roster.specs.Index.{IsIndex, slot_cmp, slot_in}
+use Rattle.mtn_roster.proofs.Forest.{IsForest, at_slot-is, at_slot-of, split_of}
+use Rattle.mtn_roster.proofs.Looking.{bytes_total, names_total, exact_names, exact_bytes}
+use Rattle.mtn_roster.proofs.Ordered.{forest_of}
+use Rattle.mtn_roster.proofs.Searching.{taken, place_of, sorted_of_rises}
+
+abbrev pair_cmp : NodeName × List ℕ → NodeName × List ℕ → Ordering
+pair_cmp x y = ordering_then (name_cmp x.0 y.0) (bytes_cmp x.1 y.1)
+
+pairs_total : IsTotalOrder pair_cmp
+pairs_total = then_total (on_total (λ (x : NodeName × List ℕ). x.0) names_total) (on_total (λ (x : NodeName × List ℕ). x.1) bytes_total)
+
+anti : (s r : Slot) → slot_cmp s r ≡ ordering_reverse (slot_cmp r s)
+anti Root Root = refl
+anti Root (Below q b) = refl
+anti (Below p a) Root = refl
+anti (Below p a) (Below q b) = pairs_total.antisymm (p, a) (q, b)
+
+chain : (x y z : Slot) → slot_cmp x y ≡ Less → slot_cmp y z ≡ Less → slot_cmp x z ≡ Less
+chain Root Root z h g = absurd cc
+chain Root (Below q b) Root h g = absurd cc
+chain Root (Below q b) (Below r c) h g = refl
+chain (Below p a) Root z h g = absurd cc
+chain (Below p a) (Below q b) Root h g = absurd cc
+chain (Below p a) (Below q b) (Below r c) h g = pairs_total.trans (p, a) (q, b) (r, c) h g
+
+tie : (x y z : Slot) → slot_cmp x y ≡ Equal → slot_cmp x z ≡ slot_cmp y z
+tie Root Root z h = refl
+tie Root (Below q b) z h = absurd cc
+tie (Below p a) Root z h = absurd cc
+tie (Below p a) (Below q b) Root h = refl
+tie (Below p a) (Below q b) (Below r c) h = pairs_total.congr (p, a) (q, b) (r, c) h
+
+pub slots_total : IsTotalOrder slot_cmp
+slots_total = record { antisymm = anti; trans = chain; congr = tie }
+
+parts : (a b : Ordering) → ordering_then a b ≡ Equal → (a ≡ Equal) × (b ≡ Equal)
+parts Less b h = absurd cc
+parts Equal b h = (refl, h)
+parts Greater b h = absurd cc
+
+pub exact_slots : (s r : Slot) → slot_cmp s r ≡ Equal → s ≡ r
+exact_slots Root Root h = refl
+exact_slots Root (Below q b) h = absurd cc
+exact_slots (Below p a) Root h = absurd cc
+exact_slots (Below p a) (Below q b) h =
+    let t = parts (name_cmp p q) (bytes_cmp a b) h in
+    λ i. Below (exact_names p q t.0 i) (exact_bytes a b t.1 i)
+
+none_there : (t : Tree) (s : Slot) → ((e : Entry) → at_slot t s ≡ Some e → ⊥) → None ≡ at_slot t s
+none_there t s h = elim (at_slot t s) as (λ o. at_slot t s ≡ o → None ≡ o) [ None ↦ λ e. refl | Some x ↦ λ e. absurd (h x e) ] refl
+
+module _ (t : Tree) (sane : IsSane t) (ks : List ℕ) (index : IsIndex t ks) (s : Slot) where
+  -- the entry at a place of that slot
+  pub found_at : (i : ℕ) → i < length ks → ((d : ℕ) → slot_cmp (slot_in t (get_or ks i d)) s ≡ Equal) → slice_get t (get_or ks i 0) ≡ at_slot t s
+  found_at i lt h =
+      let k = get_or ks i 0 in
+      let low : k < length t = All-get_or (λ k. k < length t) ks i 0 lt index.within in
+      let r = taken t k low in
+      let e : Entry = r.0 in
+      let f = forest_of t sane in
+      let slot : e.slot ≡ s = ap (λ o. option_map_or (λ (e : Entry). e.slot) o Root) (sym r.1) ∙ exact_slots (slot_in t k) s (h 0) in
+      r.1 ∙ sym (at_slot-of t f e.name e (f.distinct e r.2)) ∙ ap (at_slot t) slot
+
+  -- and none, where the search misses
+  pub absent_at : (i : ℕ) → i ≤ length ks → IsBinarySearchResult (λ k. slot_cmp (slot_in t k) s) ks (Err i) → None ≡ at_slot t s
+  absent_at i le at =
+      let p = at (searchable_from_sorted slots_total (slot_in t) ks s (λ k d a b. sorted_of_rises slot_cmp (slot_in t) slots_total ks index.rising k d b)) in
+      none_there t s (λ e g.
+          let f = forest_of t sane in
+          let w = at_slot-is t f s e g in
+          let q = place_of t e (split_of t e.name e w.1) in
+          let r = taken t q.0 q.1 in
+          let same : slot_in t q.0 ≡ s = ap (λ o. option_map_or (λ (e : Entry). e.slot) o Root) r.1 ∙ ap (λ (e : Entry). e.slot) (sym (r.3 e) ∙ q.2 e) ∙ w.0 in
+          let equal : slot_cmp (slot_in t q.0) s ≡ Equal = ap (λ x. slot_cmp x s) same ∙ tied_itself slots_total s in
+          let j = at_from_Contains ks q.0 (index.all q.0 q.1) in
+          let here : slot_cmp (slot_in t (get_or ks j.0 0)) s ≡ Equal = ap (λ k. slot_cmp (slot_in t k) s) (j.2 0) ∙ equal in
+          elim (cases_lt j.0 i) [
+            | inl lt ↦ absurd (let a = p.0 j.0 0 (omega arith) lt in cc)
+            | inr ge ↦ absurd (let a = p.1 j.0 0 ge j.1 in cc)
+          ])

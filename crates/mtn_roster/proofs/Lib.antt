@@ -1,0 +1,14 @@
+pub mod Finding
+pub mod Tests
+pub mod Forest
+pub mod Looking
+pub mod Ordered
+pub mod Members
+pub mod Searching
+pub mod BySlot
+pub mod IndexMade
+pub mod SortedIs
+pub mod NamesSorted
+pub mod BuildLemmas
+pub mod Telling
+pub mod Pathing

@@ -1,0 +1,12 @@
+//! Trees that are always sane.
+#![tactic(auto)]
+
+mod build;
+mod entry;
+mod index;
+mod roster;
+mod sane;
+
+pub use build::BuildError;
+pub use entry::{Attr, Body, Entry, Slot};
+pub use roster::Roster;
