@@ -1,7 +1,7 @@
 -- Elements of joined and filtered lists.
-use Rattle.std.specs.Prelude.{filter_map}
+use Rattle.std.specs.Prelude.{filter_map, slice_get}
 use Rattle.std.specs.List.{cons_option}
-use Rattle.std.proofs.Common.{◌≡◌, List, [], ◌∷◌, ◌++◌, Option, Some, None, refl, sym, ◌∙◌, ap, subst, ◌⊎◌, inl, inr, append_assoc}
+use Rattle.std.proofs.Common.{ℕ, zero, suc, ◌<◌, length, get_or, arith, ◌≡◌, List, [], ◌∷◌, ◌++◌, Option, Some, None, refl, sym, ◌∙◌, ap, subst, ◌⊎◌, inl, inr, append_assoc}
 use Rattle.mtn_roster.proofs.Finding.{Split, later}
 
 pub head : {X : Type 0} (x : X) (xs : List X) → Split (x ∷ xs) x
@@ -50,3 +50,22 @@ module _ {X Y : Type 0} (h : X → Option Y) where
       go : (before : List X) → Split (filter_map h (before ++ x ∷ s.rest)) y
       go [] = subst (λ o. Split (cons_option o (filter_map h s.rest)) y) (sym e) (head y (filter_map h s.rest))
       go (b ∷ before) = elim (h b) as (λ o. Split (cons_option o (filter_map h (before ++ x ∷ s.rest))) y) [ None ↦ go before | Some w ↦ later w (filter_map h (before ++ x ∷ s.rest)) y (go before) ]
+
+-- the element at a place
+module _ {X : Type 0} where
+  pub taken : (xs : List X) (i : ℕ) → i < length xs → (x : X) × (slice_get xs i ≡ Some x) × Split xs x × ((d : X) → get_or xs i d ≡ x)
+  taken [] i h = absurd (omega (arith, h))
+  taken (x ∷ xs) zero h = (x, refl, record { before = []; rest = xs; is = refl }, λ d. refl)
+  taken (x ∷ xs) (suc i) h = let r = taken xs i (omega (arith, h)) in (r.0, r.1, later x xs r.0 r.2, r.3)
+
+  pub placed_at : (before rest : List X) (x : X) → (length before < length (before ++ x ∷ rest)) × ((d : X) → get_or (before ++ x ∷ rest) (length before) d ≡ x)
+  placed_at [] rest x = (omega arith, λ d. refl)
+  placed_at (b ∷ before) rest x = let r = placed_at before rest x in (omega (arith, r.0), λ d. r.1 d)
+
+  pub place_of : (xs : List X) (x : X) → Split xs x → (i : ℕ) × (i < length xs) × ((d : X) → get_or xs i d ≡ x)
+  place_of xs x s = let r = placed_at s.before s.rest x in (length s.before, subst (λ l. length s.before < length l) (sym s.is) r.0, λ d. ap (λ l. get_or l (length s.before) d) s.is ∙ r.1 d)
+
+pub any_default : {X : Type 0} (xs : List X) (i : ℕ) (d e : X) → i < length xs → get_or xs i d ≡ get_or xs i e
+any_default [] i d e h = absurd (omega (arith, h))
+any_default (x ∷ xs) zero d e h = refl
+any_default (x ∷ xs) (suc i) d e h = any_default xs i d e (omega (arith, h))

@@ -1,8 +1,8 @@
 -- The path of a node of a sane tree.
 use Rattle.std.specs.Prelude.{option_and_then, reverse}
 use Rattle.std.specs.Option.{option_map_or}
-use Rattle.std.proofs.Common.{◌≡◌, ℕ, suc, ◌<◌, ◌≤◌, List, [], ◌∷◌, ◌++◌, length, Some, refl, sym, ◌∙◌, ap, subst, ⊎_elim, arith, length-append}
-use Rattle.std.proofs.lemmas.List.{reverse-append, reverse-reverse}
+use Rattle.std.proofs.Common.{◌≡◌, ℕ, suc, ◌+◌, ◌<◌, ◌≤◌, List, [], ◌∷◌, ◌++◌, length, take, drop, get_or, Option, Some, None, refl, sym, ◌∙◌, ap, subst, ⊎_elim, arith, length-append, append_assoc, append-nil}
+use Rattle.std.proofs.lemmas.List.{reverse-append, reverse-reverse, take_more, take-append-drop}
 use Rattle.mtn_base.specs.declared.name.NodeName.{NodeName}
 use Rattle.mtn_roster.specs.declared.entry.Entry.{Entry}
 use Rattle.mtn_roster.specs.declared.entry.Slot.{Slot}
@@ -83,3 +83,24 @@ module _ (t : Tree) (o : IsForest t) where
   -- who stands at a path has it
   pub path_of-at : (p : List (List ℕ)) (e : Entry) → node_at t p ≡ Some e → path_of t e ≡ p
   path_of-at p e h = path_up-is t (reverse p) e (omega (arith, path_fits (reverse p) e h)) h ∙ reverse-reverse p
+
+-- below a path where nothing stands nothing stands
+pub node_at-push : (t : Tree) (p : List (List ℕ)) (name : List ℕ) → node_at t (p ++ name ∷ []) ≡ option_and_then (child_of t name) (node_at t p)
+node_at-push t p name = ap (node_up t) (reverse-append p (name ∷ []))
+
+pub node_at-none : (t : Tree) (p q : List (List ℕ)) → node_at t p ≡ None → node_at t (p ++ q) ≡ None
+node_at-none t p [] h = ap (node_at t) (append-nil p) ∙ h
+node_at-none t p (name ∷ q) h =
+    ap (node_at t) (sym (append_assoc p (name ∷ []) q))
+    ∙ node_at-none t (p ++ name ∷ []) q (node_at-push t p name ∙ ap (option_and_then (child_of t name)) h)
+
+-- one component further
+pub node_at-more : (t : Tree) (comps : List (List ℕ)) (i : ℕ) (name : List ℕ) (e : Entry) → i < length comps → name ≡ get_or comps i name →
+    node_at t (take i comps) ≡ Some e → node_at t (take (i + 1) comps) ≡ child_of t name e
+node_at-more t comps i name e low is at =
+    ap (node_at t) (take_more comps i name low ∙ ap (λ c. take i comps ++ c ∷ []) (sym is))
+    ∙ node_at-push t (take i comps) name ∙ ap (option_and_then (child_of t name)) at
+
+-- and no further
+pub node_at-lost : (t : Tree) (comps : List (List ℕ)) (i : ℕ) → node_at t (take i comps) ≡ None → node_at t comps ≡ None
+node_at-lost t comps i h = ap (node_at t) (sym (take-append-drop i comps)) ∙ node_at-none t (take i comps) (drop i comps) h

@@ -16,23 +16,10 @@ use Rattle.mtn_base.specs.declared.name.NodeName.{NodeName}
 use Rattle.mtn_roster.specs.declared.entry.Entry.{Entry}
 use Rattle.mtn_roster.specs.Tree.{Tree, entry_of, rises}
 use Rattle.mtn_roster.proofs.Finding.{Split, later}
+use Rattle.mtn_roster.proofs.Members.{taken, place_of}
 use Rattle.mtn_roster.proofs.Forest.{name_of, split_of}
 use Rattle.mtn_roster.proofs.Looking.{names_total, exact_names}
 use Rattle.mtn_roster.proofs.Ordered.{distinct_of}
-
--- the element at a place
-module _ {X : Type 0} where
-  pub taken : (xs : List X) (i : ℕ) → i < length xs → (x : X) × (slice_get xs i ≡ Some x) × Split xs x × ((d : X) → get_or xs i d ≡ x)
-  taken [] i h = absurd (omega (arith, h))
-  taken (x ∷ xs) zero h = (x, refl, record { before = []; rest = xs; is = refl }, λ d. refl)
-  taken (x ∷ xs) (suc i) h = let r = taken xs i (omega (arith, h)) in (r.0, r.1, later x xs r.0 r.2, r.3)
-
-  pub placed_at : (before rest : List X) (x : X) → (length before < length (before ++ x ∷ rest)) × ((d : X) → get_or (before ++ x ∷ rest) (length before) d ≡ x)
-  placed_at [] rest x = (omega arith, λ d. refl)
-  placed_at (b ∷ before) rest x = let r = placed_at before rest x in (omega (arith, r.0), λ d. r.1 d)
-
-  pub place_of : (xs : List X) (x : X) → Split xs x → (i : ℕ) × (i < length xs) × ((d : X) → get_or xs i d ≡ x)
-  place_of xs x s = let r = placed_at s.before s.rest x in (length s.before, subst (λ l. length s.before < length l) (sym s.is) r.0, λ d. ap (λ l. get_or l (length s.before) d) s.is ∙ r.1 d)
 
 no_lt : (r : Ordering) → is_lt r ≡ true → is_lt (ordering_reverse r) ≡ false
 no_lt Less h = refl

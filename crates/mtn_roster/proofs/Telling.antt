@@ -1,36 +1,30 @@
--- The test of sanity tells it.
-use Rattle.std.specs.Prelude.{◌&&◌, not, map, IsTrue}
-use Rattle.std.specs.List.{list_any, list_all}
-use Rattle.std.specs.Ordering.{is_lt}
+-- The tests of sanity tell it.
+use Rattle.std.specs.Prelude.{◌&&◌, not, map, IsTrue, slice_get}
+use Rattle.std.specs.Option.{option_map_or}
+use Rattle.std.specs.List.{list_all, IsDistinct}
 use Rattle.std.specs.Cmp.{first_so, second_so, tied_itself}
 use Rattle.std.specs.Cmp.Lexicographic.{bytes_decides}
-use Rattle.std.proofs.Common.{◌≡◌, ℕ, ◌≤◌, Bool, true, false, List, [], ◌∷◌, ◌++◌, length, Option, Some, refl, sym, ◌∙◌, ap, subst, inl, inr, ⊎_elim, arith}
+use Rattle.std.specs.declared.cmp.Ordering.TheVariants.{Less, Equal}
+use Rattle.std.proofs.Common.{◌≡◌, ◌≢◌, ℕ, zero, suc, ◌<◌, ◌≤◌, Bool, true, false, List, [], ◌∷◌, ◌++◌, length, get_or, Option, Some, None, refl, sym, ◌∙◌, ap, subst, inl, inr, ⊎_elim, arith}
+use Rattle.std.proofs.lemmas.Map.Keys.{IsDistinct-from_apart}
 use Rattle.mtn_base.specs.Names.{same_bytes, name_cmp}
 use Rattle.mtn_base.specs.declared.name.NodeName.{NodeName}
 use Rattle.mtn_roster.specs.declared.entry.Entry.{Entry}
 use Rattle.mtn_roster.specs.declared.entry.Slot.{Slot}
 use Rattle.mtn_roster.specs.declared.entry.Slot.TheVariants.{Root, Below}
-use Rattle.mtn_roster.specs.Tree.{Tree, is_some_with, rises, entry_of, at_slot, root_of, node_up, is_dir, same_slot, mtn, EndsAtRoot, IsSaneMap}
+use Rattle.mtn_roster.specs.Tree.{Tree, is_some_with, rises, entry_of, at_slot, root_of, node_up, is_dir, is_root_slot, same_slot, mtn, EndsAtRoot, IsSaneMap}
 use Rattle.mtn_roster.specs.Tree.EndsAtRoot.{top, under}
-use Rattle.mtn_roster.specs.Building.{is_root_slot, slots_differ, hangs_well, climbs, is_sane}
-use Rattle.mtn_roster.proofs.Finding.{passing_some, Split, later, found, none_passes, some_passes}
-use Rattle.mtn_roster.proofs.Members.{head, split_cons}
+use Rattle.mtn_roster.specs.Index.{IsIndex, slot_in}
+use Rattle.mtn_roster.specs.Building.{SlotsDiffer, hangs_well, IsUp, AreUps, climbed}
+use Rattle.mtn_roster.proofs.Finding.{Split, later, found, finds_some, passing_some}
+use Rattle.mtn_roster.proofs.Members.{head, taken}
 use Rattle.mtn_roster.proofs.Tests.{told, both_true, same_slot-is, same_slot-self}
 use Rattle.mtn_roster.proofs.Forest.{IsForest, name_of, split_of, same_some, at_slot-is, at_slot-of, node_below, node_there}
-use Rattle.mtn_roster.proofs.Ordered.{distinct_of, all_at}
+use Rattle.mtn_roster.proofs.Ordered.{distinct_of}
 use Rattle.mtn_roster.proofs.Looking.{names_total}
+use Rattle.mtn_roster.proofs.Sorting.{less_at}
+use Rattle.mtn_roster.proofs.BySlot.{slot_is, standing, one_place}
 use Rattle.mtn_roster.proofs.Pathing.{climb, path_fits}
-
-all_of : {X : Type 0} (p : X → Bool) (xs : List X) (x : X) → list_all p xs ≡ true → Split xs x → p x ≡ true
-all_of {X} p xs x h s = go s.before (ap (list_all p) (sym s.is) ∙ h)
-  where
-    go : (before : List X) → list_all p (before ++ x ∷ s.rest) ≡ true → p x ≡ true
-    go [] g = first_so _ _ g
-    go (b ∷ before) g = go before (second_so (p b) _ g)
-
-all_by : {X : Type 0} (p : X → Bool) (xs : List X) → ((x : X) → Split xs x → p x ≡ true) → list_all p xs ≡ true
-all_by p [] h = refl
-all_by p (x ∷ xs) h = both_true _ _ (h x (head x xs)) (all_by p xs (λ y s. h y (later x xs y s)))
 
 is_some_at : {A : Type 0} (f : A → Bool) (o : Option A) (a : A) → o ≡ Some a → f a ≡ true → is_some_with f o ≡ true
 is_some_at f o a e h = ap (is_some_with f) e ∙ h
@@ -39,75 +33,61 @@ untrue : (b : Bool) → not b ≡ true → b ≡ false
 untrue true h = absurd cc
 untrue false h = refl
 
--- entries of a list with differing slots
-one_of : (es : List Entry) → slots_differ es ≡ true → (e f : Entry) → Split es e → Split es f → e.slot ≡ f.slot → e ≡ f
-one_of [] h e f s t g = absurd (none s.before s.rest s.is)
-  where
-    none : (before rest : List Entry) → [] ≡ before ++ e ∷ rest → ⊥
-    none [] rest k = cc
-    none (b ∷ before) rest k = cc
-one_of (d ∷ es) h e f s t g =
-    let apart = untrue _ (first_so _ _ h) in
-    let no : (x y : Entry) → d ≡ x → Split es y → x.slot ≡ y.slot → ⊥ = λ x y same u k.
-    let a = none_passes (λ z. same_slot z.slot d.slot) es y apart u in
-    let b : same_slot y.slot d.slot ≡ true = ap (same_slot y.slot) (ap (λ (z : Entry). z.slot) same ∙ k) ∙ same_slot-self y.slot in
-    let c : true ≡ false = sym b ∙ a in cc in
-    elim (split_cons d es e s) [
-      | inl p ↦ elim (split_cons d es f t) [ inl q ↦ sym p ∙ q | inr v ↦ absurd (no e f p v g) ]
-      | inr u ↦ elim (split_cons d es f t) [ inl q ↦ absurd (no f e q u (sym g)) | inr v ↦ one_of es (second_so _ _ h) e f u v g ]
-    ]
+root_is : (q : Slot) → is_root_slot q ≡ true → q ≡ Root
+root_is Root g = refl
+root_is (Below a b) g = absurd cc
 
-module _ (t : Tree) (rising : rises name_cmp (map (λ e. e.name) t) ≡ true) where
+module _ (t : Tree) (rising : rises name_cmp (map (λ (e : Entry). e.name) t) ≡ true) where
   there : (e : Entry) → Split t e → entry_of t e.name ≡ Some e
   there = distinct_of t rising
 
-  chain_by : (steps : List Entry) (s : Slot) → climbs steps t s ≡ true → EndsAtRoot (entry_of t) s
-  chain_by steps Root h = top
-  chain_by [] (Below parent name) h = absurd cc
-  chain_by (step ∷ steps) (Below parent name) h =
-      let d = passing_some (λ d. climbs steps t d.slot) (entry_of t parent) h in
-      under d.1 (chain_by steps d.0.slot d.2)
+  module _ (ks : List ℕ) (index : IsIndex t ks) (r : ℕ) (low : r < length t) (e : Entry) (at : slice_get t r ≡ Some e) (is : root_of t ≡ Some e) (ups : List ℕ) (up : AreUps t ups) where
+    root_slot : e.slot ≡ Root
+    root_slot = same_slot-is e.slot Root (found (λ (f : Entry). same_slot f.slot Root) t e is).passes
 
-  module _ (h : is_sane t ≡ true) where
-    h1 : is_some_with is_dir (root_of t) ≡ true
-    h1 = first_so _ _ (first_so _ _ (first_so _ _ h))
+    step_up : (s : Slot) (k u : ℕ) → IsUp t s k u → (u < length t → EndsAtRoot (entry_of t) (slot_in t u)) → EndsAtRoot (entry_of t) s
+    step_up Root k u h ends = top
+    step_up (Below parent name) k u h ends =
+        let d = taken t u h.0 in
+        under (sym h.1 ∙ d.1) (subst (EndsAtRoot (entry_of t)) (slot_is t u d.0 d.1) (ends h.0))
 
-    h2 : slots_differ t ≡ true
-    h2 = second_so (is_some_with is_dir (root_of t)) _ (first_so _ _ (first_so _ _ h))
-
-    h3 : list_all (λ e. hangs_well t e.slot) t ≡ true
-    h3 = second_so (is_some_with is_dir (root_of t) && slots_differ t) _ (first_so _ _ h)
-
-    h4 : list_all (λ e. climbs t t e.slot) t ≡ true
-    h4 = second_so (is_some_with is_dir (root_of t) && slots_differ t && list_all (λ e. hangs_well t e.slot) t) _ h
+    chain_by : (n k : ℕ) → k < length t → climbed ups n k ≡ r → EndsAtRoot (entry_of t) (slot_in t k)
+    chain_by zero k lk h = subst (EndsAtRoot (entry_of t)) (sym (ap (slot_in t) h ∙ slot_is t r e at ∙ root_slot)) top
+    chain_by (suc n) k lk h = step_up (slot_in t k) k (get_or ups k 0) (up.each k lk) (λ low. chain_by n (get_or ups k 0) low h)
 
     slots : (n m : NodeName) (e f : Entry) → entry_of t n ≡ Some e → entry_of t m ≡ Some f → e.slot ≡ f.slot → n ≡ m
     slots n m e f p q g =
-        sym (name_of t n e p) ∙ ap (λ (x : Entry). x.name) (one_of t h2 e f (split_of t n e p) (split_of t m f q) g) ∙ name_of t m f q
+        let a = standing t e (split_of t n e p) in
+        let b = standing t f (split_of t m f q) in
+        let one : a.0 ≡ b.0 = one_place t ks index a.0 b.0 a.1 b.1 (slot_is t a.0 e a.2 ∙ g ∙ sym (slot_is t b.0 f b.2)) in
+        let same : e ≡ f = same_some a.2 (ap (slice_get t) one ∙ b.2) in
+        sym (name_of t n e p) ∙ ap (λ (x : Entry). x.name) same ∙ name_of t m f q
 
-    parent : (n p : NodeName) (e : Entry) (name : List ℕ) → entry_of t n ≡ Some e → e.slot ≡ Below p name →
-        (d : Entry) × (entry_of t p ≡ Some d) × ((is_dir d && not (is_root_slot d.slot && same_bytes name mtn)) ≡ true)
-    parent n p e name at is =
-        passing_some (λ d. is_dir d && not (is_root_slot d.slot && same_bytes name mtn)) (entry_of t p)
-        (ap (hangs_well t) (sym is) ∙ all_of (λ e. hangs_well t e.slot) t e h3 (split_of t n e at))
+    module _ (dir : is_dir e ≡ true) (well : (k : ℕ) → k < length t → hangs_well t (slot_in t k) ≡ true) (reach : (k : ℕ) → k < length ups → (n : ℕ) × (climbed ups n k ≡ r)) where
+      parent : (n p : NodeName) (f : Entry) (name : List ℕ) → entry_of t n ≡ Some f → f.slot ≡ Below p name →
+          (d : Entry) × (entry_of t p ≡ Some d) × ((is_dir d && not (is_root_slot d.slot && same_bytes name mtn)) ≡ true)
+      parent n p f name has hangs =
+          let a = standing t f (split_of t n f has) in
+          passing_some (λ d. is_dir d && not (is_root_slot d.slot && same_bytes name mtn)) (entry_of t p)
+          (ap (hangs_well t) (sym hangs ∙ sym (slot_is t a.0 f a.2)) ∙ well a.0 a.1)
 
-    pub sane_by_test : IsSaneMap (entry_of t)
-    sane_by_test = record {
-      root =
-          let r = passing_some is_dir (root_of t) h1 in
-          let f = found (λ e. same_slot e.slot Root) t r.0 r.1 in
-          (r.0.name, r.0, there r.0 f.at, same_slot-is r.0.slot Root f.passes, r.2);
-      one_root = λ n m e f p q a b. slots n m e f p q (a ∙ sym b);
-      parents = λ n p e name at is. let d = parent n p e name at is in (d.0, d.1, first_so _ _ d.2);
-      slots = slots;
-      rooted = λ n e at. chain_by t e.slot (all_of (λ e. climbs t t e.slot) t e h4 (split_of t n e at));
-      not_mtn = λ n m e r at ar root is.
-          let d = parent n m e mtn at is in
-          let same : d.0 ≡ r = same_some d.1 ar in
-          let k : (is_root_slot d.0.slot && same_bytes mtn mtn) ≡ false = untrue _ (second_so (is_dir d.0) _ d.2) in
-          let g : (is_root_slot d.0.slot && same_bytes mtn mtn) ≡ true = both_true _ _ (ap is_root_slot (ap (λ (x : Entry). x.slot) same ∙ root)) refl in
-          let z : true ≡ false = sym g ∙ k in cc;
-    }
+      pub sane_by_test : IsSaneMap (entry_of t)
+      sane_by_test = record {
+        root = (e.name, e, there e (found (λ (f : Entry). same_slot f.slot Root) t e is).at, root_slot, dir);
+        one_root = λ n m e f p q a b. slots n m e f p q (a ∙ sym b);
+        parents = λ n p e name at is. let d = parent n p e name at is in (d.0, d.1, first_so _ _ d.2);
+        slots = slots;
+        rooted = λ n f has.
+            let a = standing t f (split_of t n f has) in
+            let c = reach a.0 (omega (arith, a.1, up.long)) in
+            subst (EndsAtRoot (entry_of t)) (slot_is t a.0 f a.2) (chain_by c.0 a.0 a.1 c.1);
+        not_mtn = λ n m e r at ar root is.
+            let d = parent n m e mtn at is in
+            let same : d.0 ≡ r = same_some d.1 ar in
+            let k : (is_root_slot d.0.slot && same_bytes mtn mtn) ≡ false = untrue _ (second_so (is_dir d.0) _ d.2) in
+            let g : (is_root_slot d.0.slot && same_bytes mtn mtn) ≡ true = both_true _ _ (ap is_root_slot (ap (λ (x : Entry). x.slot) same ∙ root)) refl in
+            let z : true ≡ false = sym g ∙ k in cc;
+      }
 
   module _ (s : IsSaneMap (entry_of t)) where
     forest : IsForest t
@@ -123,28 +103,25 @@ module _ (t : Tree) (rising : rises name_cmp (map (λ e. e.name) t) ≡ true) wh
       not_mtn = s.not_mtn;
     }
 
-    -- a later entry has another name, so another slot
-    differ : (es : List Entry) → ((e : Entry) → Split es e → Split t e) → rises name_cmp (map (λ e. e.name) es) ≡ true → slots_differ es ≡ true
-    differ [] at r = refl
-    differ (e ∷ es) at r =
-        let low = first_so (list_all (λ l. is_lt (name_cmp e.name l)) (map (λ (f : Entry). f.name) es)) _ r in
-        let rest = second_so (list_all (λ l. is_lt (name_cmp e.name l)) (map (λ (f : Entry). f.name) es)) _ r in
-        both_true _ _ (⊎_elim
-        (λ a.
-        let f = some_passes (λ f. same_slot f.slot e.slot) es a in
-        let lt = all_at (λ l. is_lt (name_cmp e.name l)) (λ (x : Entry). x.name) es f.0 low f.1.at in
-        let n : f.0.name ≡ e.name = s.slots f.0.name e.name f.0 e (there f.0 (at f.0 (later e es f.0 f.1.at))) (there e (at e (head e es))) (same_slot-is f.0.slot e.slot f.1.passes) in
-        let q : is_lt (name_cmp e.name f.0.name) ≡ false = ap (λ m. is_lt (name_cmp e.name m)) n ∙ ap is_lt (tied_itself names_total e.name) in
-        let z : true ≡ false = sym lt ∙ q in absurd cc)
-        (λ b. ap not b) (told (list_any (λ f. same_slot f.slot e.slot) es)))
-        (differ es (λ x u. at x (later e es x u)) rest)
+    -- no two places have the same slot
+    pub slots_by_sane : SlotsDiffer t
+    slots_by_sane = IsDistinct-from_apart (λ (e : Entry) (f : Entry). same_slot e.slot f.slot) t (λ i j d lt low.
+        let li : i < length t = omega arith in
+        let a = taken t i li in
+        let b = taken t j low in
+        let e = get_or t i d in
+        let f = get_or t j d in
+        elim (same_slot e.slot f.slot) as (λ b. same_slot e.slot f.slot ≡ b → b ≡ false) [
+          | false ↦ λ q. refl
+          | true ↦ λ q. absurd (
+              let name : e.name ≡ f.name = s.slots e.name f.name e f (there e (subst (Split t) (sym (a.3 d)) a.2)) (there f (subst (Split t) (sym (b.3 d)) b.2)) (same_slot-is e.slot f.slot q) in
+              let less = less_at name_cmp (λ (e : Entry). e.name) names_total t i j d rising lt low in
+              let equal : name_cmp e.name f.name ≡ Equal = ap (name_cmp e.name) (sym name) ∙ tied_itself names_total e.name in
+              cc)
+        ] refl)
 
-    climbs_by : (steps : List Entry) (up : List (List ℕ)) (e : Entry) → length up ≤ length steps → node_up t up ≡ Some e → climbs steps t e.slot ≡ true
-    climbs_by steps [] e h at = ap (climbs steps t) (at_slot-is t forest Root e at).0
-    climbs_by [] (name ∷ up) e h at = absurd (omega arith)
-    climbs_by (step ∷ steps) (name ∷ up) e h at =
-        let d = node_below t forest name up e at in
-        ap (climbs (step ∷ steps) t) d.2 ∙ is_some_at (λ f. climbs steps t f.slot) (entry_of t d.0.name) d.0 (node_there t forest up d.0 d.1) (climbs_by steps up d.0 (omega arith) d.1)
+    pub root_by_sane : root_of t ≡ Some s.root.1
+    root_by_sane = ap (at_slot t) (sym s.root.3) ∙ at_slot-of t forest s.root.0 s.root.1 s.root.2
 
     well : (e : Entry) → entry_of t e.name ≡ Some e → (q : Slot) → e.slot ≡ q → hangs_well t q ≡ true
     well e at Root is = refl
@@ -156,18 +133,33 @@ module _ (t : Tree) (rising : rises name_cmp (map (λ e. e.name) t) ≡ true) wh
         let n : name ≡ mtn = (bytes_decides name mtn).0 (second_so (is_root_slot d.0.slot) _ a) in
         absurd (s.not_mtn e.name p e d.0 at d.1 (root_is d.0.slot (first_so _ _ a)) (is ∙ ap (Below p) n)))
         (λ b. ap not b) (told (is_root_slot d.0.slot && same_bytes name mtn))))
-      where
-        root_is : (q : Slot) → is_root_slot q ≡ true → q ≡ Root
-        root_is Root g = refl
-        root_is (Below a b) g = absurd cc
 
-    pub test_by_sane : is_sane t ≡ true
-    test_by_sane =
-        let r = at_slot-of t forest s.root.0 s.root.1 s.root.2 in
-        both_true _ _ (both_true _ _ (both_true _ _
-        (is_some_at is_dir (root_of t) s.root.1 (ap (at_slot t) (sym s.root.3) ∙ r) s.root.4)
-        (differ t (λ e u. u) rising))
-        (all_by (λ e. hangs_well t e.slot) t (λ e u. well e (there e u) e.slot refl)))
-        (all_by (λ e. climbs t t e.slot) t (λ e u.
-        let c = climb t forest (s.rooted e.name e (there e u)) e (there e u) refl in
-        climbs_by t c.0 e (omega (arith, path_fits t forest c.0 e c.1)) c.1))
+    pub well_by_sane : (k : ℕ) → k < length t → hangs_well t (slot_in t k) ≡ true
+    well_by_sane k low =
+        let a = taken t k low in
+        well a.0 (there a.0 a.2) (slot_in t k) (sym (slot_is t k a.0 a.1))
+
+    module _ (ks : List ℕ) (index : IsIndex t ks) (r : ℕ) (low : r < length t) (e : Entry) (at : slice_get t r ≡ Some e) (is : root_of t ≡ Some e) (ups : List ℕ) (up : AreUps t ups) where
+      root_here : slot_in t r ≡ Root
+      root_here = slot_is t r e at ∙ same_slot-is e.slot Root (found (λ (f : Entry). same_slot f.slot Root) t e is).passes
+
+      stays : (n : ℕ) → climbed ups n r ≡ r
+      stays zero = refl
+      stays (suc n) = let u : get_or ups r 0 ≡ r = subst (λ s. IsUp t s r (get_or ups r 0)) root_here (up.each r low) in ap (climbed ups n) u ∙ stays n
+
+      leads : (vp : List (List ℕ)) (f : Entry) (k n : ℕ) → k < length t → slice_get t k ≡ Some f → node_up t vp ≡ Some f → length vp ≤ n → climbed ups n k ≡ r
+      leads [] f k n lk has on h =
+          let one : k ≡ r = one_place t ks index k r lk low (slot_is t k f has ∙ (at_slot-is t forest Root f on).0 ∙ sym root_here) in
+          ap (climbed ups n) one ∙ stays n
+      leads (name ∷ vp) f k zero lk has on h = absurd (omega (arith, h))
+      leads (name ∷ vp) f k (suc n) lk has on h =
+          let d = node_below t forest name vp f on in
+          let u : IsUp t (Below d.0.name name) k (get_or ups k 0) = subst (λ s. IsUp t s k (get_or ups k 0)) (slot_is t k f has ∙ d.2) (up.each k lk) in
+          leads vp d.0 (get_or ups k 0) n u.0 (u.1 ∙ node_there t forest vp d.0 d.1) d.1 (omega (arith, h))
+
+      pub reach_by_sane : (k n : ℕ) → k < length ups → length ups ≤ n → climbed ups n k ≡ r
+      reach_by_sane k n lk far =
+          let lt : k < length t = omega (arith, up.long) in
+          let a = taken t k lt in
+          let c = climb t forest (s.rooted a.0.name a.0 (there a.0 a.2)) a.0 (there a.0 a.2) refl in
+          leads c.0 a.0 k n lt a.1 c.1 (omega (arith, path_fits t forest c.0 a.0 c.1, up.long))

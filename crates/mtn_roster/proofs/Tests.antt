@@ -3,7 +3,7 @@ use Rattle.std.specs.Prelude.{◌&&◌}
 use Rattle.std.proofs.Common.{◌≡◌, ℕ, Bool, true, false, List, refl, ap, ◌∙◌, ◌⊎◌, inl, inr}
 use Rattle.std.specs.Cmp.{first_so, second_so}
 use Rattle.std.specs.Cmp.Lexicographic.{pointwise_decides, bytes_decides}
-use Rattle.mtn_base.specs.Names.{same_id, same_path, same_name}
+use Rattle.mtn_base.specs.Names.{same_bytes, same_id, same_path, same_name}
 use Rattle.mtn_base.specs.declared.id.Id.{Id}
 use Rattle.mtn_base.specs.declared.name.NodeName.{NodeName}
 use Rattle.mtn_roster.specs.declared.entry.Slot.{Slot}
@@ -45,3 +45,9 @@ same_slot-is (Below p a) (Below q b) h = λ i. Below (same_name-is p q (first_so
 pub same_slot-self : (a : Slot) → same_slot a a ≡ true
 same_slot-self Root = refl
 same_slot-self (Below p a) = both_true _ _ (same_name-self p) ((bytes_decides a a).1 refl)
+
+pub same_bytes-is : (a b : List ℕ) → same_bytes a b ≡ true → a ≡ b
+same_bytes-is a b h = (bytes_decides a b).0 h
+
+pub same_bytes-self : (a : List ℕ) → same_bytes a a ≡ true
+same_bytes-self a = (bytes_decides a a).1 refl

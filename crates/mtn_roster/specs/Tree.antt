@@ -39,6 +39,10 @@ same_slot Root (Below q b) = false
 same_slot (Below p a) Root = false
 same_slot (Below p a) (Below q b) = same_name p q && same_bytes a b
 
+abbrev pub is_root_slot : Slot → Bool
+is_root_slot Root = true
+is_root_slot (Below parent name) = false
+
 -- the node that hangs there
 abbrev pub at_slot : Tree → Slot → Option Entry
 at_slot t s = find (λ e. same_slot e.slot s) t
@@ -88,10 +92,14 @@ with_attr = placed bytes_cmp (λ a. a.key)
 abbrev pub with_entry : Entry → Tree → Tree
 with_entry = placed name_cmp (λ e. e.name)
 
+-- the elements in the order of their keys
+abbrev pub ordered : {X K : Type 0} → (K → K → Ordering) → (X → K) → List X → List X
+ordered cmp key [] = []
+ordered cmp key (x ∷ xs) = placed cmp key x (ordered cmp key xs)
+
 -- entries as a tree
 abbrev pub in_order : List Entry → Tree
-in_order [] = []
-in_order (e ∷ es) = with_entry e (in_order es)
+in_order = ordered name_cmp (λ e. e.name)
 
 -- each key is above the one before it
 abbrev pub rises : {K : Type 0} → (K → K → Ordering) → List K → Bool

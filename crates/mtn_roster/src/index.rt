@@ -1,10 +1,11 @@
 // The places of entries by slot.
-ghost use Rattle.std.specs.Prelude.{◌≡◌, option_copied, slice_get, IfOk};
+ghost use Rattle.std.specs.Prelude.{◌≡◌, ◌<◌, ◌↔◌, length, option_and_then, slice_get, IsTrue, IfSome, IfOk, OnOk, IsErrOf};
 ghost use Rattle.mtn_roster.specs.declared.entry.Slot.TheVariants.{Root, Below};
-ghost use Rattle.mtn_roster.specs.Tree.{IsSane, root_of, child_of};
-ghost use Rattle.mtn_roster.specs.Index.{IsIndex, slot_cmp, slot_in};
+ghost use Rattle.mtn_roster.specs.Tree.{root_of, child_of};
+ghost use Rattle.mtn_roster.specs.Index.{ArePlaces, IsIndex, slot_cmp, slot_in};
+ghost use Rattle.mtn_roster.specs.Building.{SlotsDiffer};
 
-use crate::{Entry, Slot};
+use crate::{BuildError, Entry, Slot};
 use mtn_base::{Comp, NoMemory};
 use std::alloc::Global;
 use std::cmp::Ordering;
@@ -37,35 +38,26 @@ fn compare_child(entries: &[Entry], at: usize, above: &Entry, name: &Comp) -> Or
     }
 }
 
-fn entry_at(entries: &[Entry], at: usize) -> Option<&Entry>
-    ensures { option_copied result ≡ slice_get entries.now at }
-{
-    entries.get(at)
-}
-
-pub fn root_indexed<'a>(entries: &'a [Entry], by_slot: &[usize]) -> Option<&'a Entry>
-    requires sane { IsSane entries.now }
+/// The place of the root.
+pub fn root_place(entries: &[Entry], by_slot: &[usize]) -> Option<usize>
     requires index { IsIndex entries.now by_slot.now }
-    ensures { option_copied result ≡ root_of entries.now }
+    ensures within { IfSome result (λ at. at < length entries.now) }
+    ensures entry { option_and_then (slice_get entries.now) result ≡ root_of entries.now }
 {
     match by_slot.binary_search_by(|at| compare_root(entries, *at)) {
-        Ok(i) => entry_at(entries, by_slot[i]),
+        Ok(i) => Some(by_slot[i]),
         Err(_) => None,
     }
 }
 
-pub fn child_indexed<'a>(
-    entries: &'a [Entry],
-    by_slot: &[usize],
-    above: &Entry,
-    name: &Comp,
-) -> Option<&'a Entry>
-    requires sane { IsSane entries.now }
+/// The place of the child of that name.
+pub fn child_place(entries: &[Entry], by_slot: &[usize], above: &Entry, name: &Comp) -> Option<usize>
     requires index { IsIndex entries.now by_slot.now }
-    ensures { option_copied result ≡ child_of entries.now name.now above.now }
+    ensures within { IfSome result (λ at. at < length entries.now) }
+    ensures entry { option_and_then (slice_get entries.now) result ≡ child_of entries.now name.now above.now }
 {
     match by_slot.binary_search_by(|at| compare_child(entries, *at, above, name)) {
-        Ok(i) => entry_at(entries, by_slot[i]),
+        Ok(i) => Some(by_slot[i]),
         Err(_) => None,
     }
 }
@@ -104,15 +96,35 @@ fn compare_places(entries: &[Entry], first: usize, second: usize) -> Ordering
     }
 }
 
-/// The index of a sane tree.
-pub fn index_of(alloc: Global, entries: &[Entry]) -> Result<Vec<usize>, NoMemory>
-    requires sane { IsSane entries.now }
-    ensures { IfOk result (λ by_slot. IsIndex entries.now by_slot.items) }
+fn places_of(alloc: Global, count: usize) -> Result<Vec<usize>, NoMemory>
+    ensures { IfOk result (λ places. ArePlaces count places.items) }
 {
-    let mut places = Vec::with_capacity(alloc, entries.len())?;
-    for i in 0..entries.len() {
-        places.push(i)?;
+    let mut places = Vec::with_capacity(alloc, count)?;
+    for at in 0..count {
+        places.push(at)?;
     }
+    Ok(places)
+}
+
+/// Puts the places of entries in the order of their slots, and says whether these are apart.
+fn sort_places(entries: &[Entry], places: &mut Vec<usize>) -> bool
+    requires { ArePlaces (length entries.now) places.old.items }
+    ensures apart { IsTrue result ↔ SlotsDiffer entries.now }
+    ensures index { IsTrue result → IsIndex entries.now places.new.items }
+{
     places.sort_unstable_by(|first, second| compare_places(entries, *first, *second));
+    places.is_sorted_by(|first, second| compare_places(entries, *first, *second).is_lt())
+}
+
+/// The places of entries in the order of their slots; Insane where two have the same.
+pub fn index_of(alloc: Global, entries: &[Entry]) -> Result<Vec<usize>, BuildError>
+    ensures index { IfOk result (λ by_slot. IsIndex entries.now by_slot.items) }
+    ensures apart { OnOk result (SlotsDiffer entries.now) }
+    ensures insane { IsErrOf result BuildError.Insane → SlotsDiffer entries.now → ⊥ }
+{
+    let mut places = places_of(alloc, entries.len())?;
+    if !sort_places(entries, &mut places) {
+        return Err(BuildError::Insane);
+    }
     Ok(places)
 }
