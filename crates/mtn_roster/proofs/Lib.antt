@@ -13,3 +13,9 @@ pub mod Building
 pub mod KeysInOrder
 pub mod Indexing
 pub mod Climbing
+pub mod Running
+pub mod Paths
+pub mod Walking
+pub mod Leading
+pub mod Stops
+pub mod Naming

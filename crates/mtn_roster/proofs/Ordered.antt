@@ -1,21 +1,16 @@
 -- Lists that are kept in order by a key, and the order of the new tree.
-use Rattle.std.specs.Prelude.{filter_map, find, map, reverse, IsTrue}
-use Rattle.std.specs.List.{list_all, cons_option}
-use Rattle.std.specs.declared.cmp.Ordering.{Ordering}
-use Rattle.std.specs.declared.cmp.Ordering.TheVariants.{Less, Equal, Greater}
-use Rattle.std.specs.Ordering.{is_lt, ordering_reverse}
-use Rattle.std.specs.Cmp.{IsTotalOrder, first_so, second_so, tied_itself}
-use Rattle.std.specs.FinMap.Entries.{by_order}
-use Rattle.std.proofs.Common.{◌≡◌, Bool, true, false, cond, List, [], ◌∷◌, ◌++◌, Option, Some, None, refl, sym, ◌∙◌, ap, subst, inl, inr}
-use Rattle.mtn_base.specs.Names.{bytes_cmp, name_cmp, same_name}
-use Rattle.mtn_base.specs.declared.id.Id.{Id}
+use Rattle.std.specs.Prelude.{map, IsTrue}
+use Rattle.std.specs.List.{list_all}
+use Rattle.std.specs.declared.cmp.Ordering.TheVariants.{Equal}
+use Rattle.std.specs.Ordering.{is_lt}
+use Rattle.std.specs.Cmp.{first_so, second_so, tied_itself}
+use Rattle.std.proofs.Common.{◌≡◌, true, false, cond, List, [], ◌∷◌, ◌++◌, Some, refl, sym, ◌∙◌, ap, subst, inl, inr}
+use Rattle.mtn_base.specs.Names.{name_cmp, same_name}
 use Rattle.mtn_roster.specs.declared.entry.Entry.{Entry}
-use Rattle.mtn_roster.specs.declared.entry.Attr.{Attr}
-use Rattle.mtn_roster.specs.declared.entry.Body.TheVariants.{Dir, File}
-use Rattle.mtn_roster.specs.Tree.{Tree, entry_of, placed, rises, in_order, is_in_order, IsSane, with_attr, is_dir}
+use Rattle.mtn_roster.specs.Tree.{Tree, entry_of, rises, in_order, IsSane, is_dir}
 use Rattle.mtn_roster.proofs.Finding.{Split}
 use Rattle.mtn_roster.proofs.Members.{split_cons}
-use Rattle.mtn_roster.proofs.Tests.{both_true, same_name-is, same_name-self}
+use Rattle.mtn_roster.proofs.Tests.{same_name-is, same_name-self}
 use Rattle.mtn_roster.proofs.Forest.{IsForest, same_some}
 use Rattle.mtn_roster.proofs.Looking.{names_total}
 use Rattle.mtn_roster.proofs.Sorting.{lt_was, all_at, ordered-rises}

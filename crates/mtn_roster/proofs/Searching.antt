@@ -1,13 +1,13 @@
 -- What a binary search finds in a list that ascends by a key.
-use Rattle.std.specs.Prelude.{find, map, option_and_then, slice_get, MatchOption}
+use Rattle.std.specs.Prelude.{map, option_and_then, slice_get}
 use Rattle.std.specs.List.{list_all}
-use Rattle.std.specs.List.Sorted.{IsBinarySearchResult, IsSearchInRange, IsSortedBy}
+use Rattle.std.specs.List.Sorted.{IsBinarySearchResult, IsSearchInRange}
 use Rattle.std.specs.Result.{result_ok}
 use Rattle.std.specs.declared.cmp.Ordering.{Ordering}
 use Rattle.std.specs.declared.cmp.Ordering.TheVariants.{Less, Equal, Greater}
 use Rattle.std.specs.Ordering.{is_lt, ordering_reverse}
 use Rattle.std.specs.Cmp.{IsTotalOrder, first_so, second_so, tied_itself}
-use Rattle.std.proofs.Common.{◌≡◌, ℕ, zero, suc, ◌+◌, ◌<◌, ◌≤◌, Bool, true, false, List, [], ◌∷◌, ◌++◌, length, get_or, Option, Some, None, Result, Ok, Err, refl, sym, ◌∙◌, ap, subst, arith, inl, inr}
+use Rattle.std.proofs.Common.{◌≡◌, ℕ, zero, suc, ◌+◌, ◌<◌, true, false, List, [], ◌∷◌, length, get_or, Some, None, Result, Ok, Err, refl, sym, ◌∙◌, ap, arith, inl, inr}
 use native.Mathlib.Numerals.{add-one}
 use Rattle.std.proofs.lemmas.Bool.{cases_lt}
 use Rattle.std.proofs.lemmas.List.Sorted.{searchable_from_sorted}
@@ -15,7 +15,6 @@ use Rattle.mtn_base.specs.Names.{name_cmp}
 use Rattle.mtn_base.specs.declared.name.NodeName.{NodeName}
 use Rattle.mtn_roster.specs.declared.entry.Entry.{Entry}
 use Rattle.mtn_roster.specs.Tree.{Tree, entry_of, rises}
-use Rattle.mtn_roster.proofs.Finding.{Split, later}
 use Rattle.mtn_roster.proofs.Members.{taken, place_of}
 use Rattle.mtn_roster.proofs.Forest.{name_of, split_of}
 use Rattle.mtn_roster.proofs.Looking.{names_total, exact_names}

@@ -1,6 +1,6 @@
 -- Sorted lists, and lists put in order by a key.
 use Rattle.std.specs.Prelude.{map, IsTrue, ◌↔◌}
-use Rattle.std.specs.List.{list_all, AllByRecursion, AllAdjacentBelow, IsAllAdjacentAnswer, IsDistinct, Contains}
+use Rattle.std.specs.List.{list_all, AllByRecursion, AllAdjacentBelow, IsAllAdjacentAnswer, IsDistinct}
 use Rattle.std.specs.List.Sorted.{IsPermutation, IsSortedBy, IsStrictlySortedBy}
 use Rattle.std.specs.declared.cmp.Ordering.{Ordering}
 use Rattle.std.specs.declared.cmp.Ordering.TheVariants.{Less, Equal, Greater}

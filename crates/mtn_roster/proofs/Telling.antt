@@ -1,11 +1,9 @@
 -- The tests of sanity tell it.
 use Rattle.std.specs.Prelude.{◌&&◌, not, map, IsTrue, slice_get}
-use Rattle.std.specs.Option.{option_map_or}
-use Rattle.std.specs.List.{list_all, IsDistinct}
 use Rattle.std.specs.Cmp.{first_so, second_so, tied_itself}
 use Rattle.std.specs.Cmp.Lexicographic.{bytes_decides}
-use Rattle.std.specs.declared.cmp.Ordering.TheVariants.{Less, Equal}
-use Rattle.std.proofs.Common.{◌≡◌, ◌≢◌, ℕ, zero, suc, ◌<◌, ◌≤◌, Bool, true, false, List, [], ◌∷◌, ◌++◌, length, get_or, Option, Some, None, refl, sym, ◌∙◌, ap, subst, inl, inr, ⊎_elim, arith}
+use Rattle.std.specs.declared.cmp.Ordering.TheVariants.{Equal}
+use Rattle.std.proofs.Common.{◌≡◌, ℕ, zero, suc, ◌<◌, ◌≤◌, Bool, true, false, List, [], ◌∷◌, length, get_or, Option, Some, refl, sym, ◌∙◌, ap, subst, ⊎_elim, arith}
 use Rattle.std.proofs.lemmas.Map.Keys.{IsDistinct-from_apart}
 use Rattle.mtn_base.specs.Names.{same_bytes, name_cmp}
 use Rattle.mtn_base.specs.declared.name.NodeName.{NodeName}
@@ -16,9 +14,9 @@ use Rattle.mtn_roster.specs.Tree.{Tree, is_some_with, rises, entry_of, at_slot, 
 use Rattle.mtn_roster.specs.Tree.EndsAtRoot.{top, under}
 use Rattle.mtn_roster.specs.Index.{IsIndex, slot_in}
 use Rattle.mtn_roster.specs.Building.{SlotsDiffer, hangs_well, IsUp, AreUps, climbed}
-use Rattle.mtn_roster.proofs.Finding.{Split, later, found, finds_some, passing_some}
-use Rattle.mtn_roster.proofs.Members.{head, taken}
-use Rattle.mtn_roster.proofs.Tests.{told, both_true, same_slot-is, same_slot-self}
+use Rattle.mtn_roster.proofs.Finding.{Split, found, passing_some}
+use Rattle.mtn_roster.proofs.Members.{taken}
+use Rattle.mtn_roster.proofs.Tests.{told, both_true, same_slot-is}
 use Rattle.mtn_roster.proofs.Forest.{IsForest, name_of, split_of, same_some, at_slot-is, at_slot-of, node_below, node_there}
 use Rattle.mtn_roster.proofs.Ordered.{distinct_of}
 use Rattle.mtn_roster.proofs.Looking.{names_total}

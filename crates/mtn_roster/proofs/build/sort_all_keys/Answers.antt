@@ -1,5 +1,5 @@
 -- Entry by entry.
-use Rattle.std.proofs.Common.{◌≡◌, ◌<◌, ℕ, List, length, get_or, refl, sym, ◌∙◌, ap, subst, arith}
+use Rattle.std.proofs.Common.{◌≡◌, ℕ, List, length, get_or, refl, sym, ◌∙◌, ap, subst, arith}
 use Rattle.mtn_roster.specs.declared.entry.Entry.{Entry}
 use Rattle.mtn_roster.specs.Building.{KeysDiffer, with_keys_in_order}
 use Rattle.mtn_roster.proofs.KeysInOrder.{begun, begun-all, begun-at, begun-next, AllBegun, AllBegun-next, AllBegun-all, each_of_all}

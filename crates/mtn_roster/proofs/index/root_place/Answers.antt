@@ -1,5 +1,5 @@
 -- The closure compares the slots, which ascend along the index.
-use Rattle.std.proofs.Common.{rules, Ok, Err}
+use Rattle.std.proofs.Common.{rules}
 use Rattle.std.proofs.lemmas.Fn.{always_returns_same}
 use Rattle.mtn_roster.specs.declared.entry.Slot.TheVariants.{Root}
 use Rattle.mtn_roster.specs.Index.{slot_cmp, slot_in}

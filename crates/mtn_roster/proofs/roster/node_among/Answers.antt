@@ -1,7 +1,7 @@
 -- Where nothing stands at the front of a path, nothing stands at the path.
-use Rattle.std.proofs.Common.{◌≡◌, ◌+◌, [], Some, None, slice_get, option_and_then, take, sym, ◌∙◌, ap}
+use Rattle.std.proofs.Common.{◌≡◌, ◌+◌, [], Some, slice_get, option_and_then, take, sym, ◌∙◌, ap}
 use Rattle.std.proofs.lemmas.Option.{slice_get-get_or}
-use Rattle.mtn_roster.specs.Tree.{node_at, child_of}
+use Rattle.mtn_roster.specs.Tree.{node_at}
 use Rattle.mtn_roster.specs.declared.entry.Entry.{Entry}
 use Rattle.mtn_roster.proofs.Pathing.{node_at-none, node_at-more, node_at-lost}
 use Rattle.mtn_roster.proofs.roster.node_among.Goals as goal

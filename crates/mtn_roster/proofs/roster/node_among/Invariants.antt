@@ -1,4 +1,4 @@
-use Rattle.std.proofs.Common.{◌≡◌, ◌<◌, Some, length, take, slice_get}
+use Rattle.std.proofs.Common.{◌≡◌, ◌<◌, length, take, slice_get}
 use Rattle.mtn_roster.specs.Tree.{node_at}
 use Rattle.mtn_roster.proofs.roster.node_among.Given as goal
 

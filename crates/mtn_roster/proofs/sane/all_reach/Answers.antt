@@ -1,5 +1,5 @@
 -- Each round doubles the width; at the end all lead to the root, or the width is that of the tree.
-use Rattle.std.proofs.Common.{◌≡◌, ◌*◌, ℕ, List, map, true, arith, sym, ◌∙◌, ap, subst}
+use Rattle.std.proofs.Common.{◌≡◌, ℕ, List, map, true, arith, ◌∙◌, ap, subst}
 use Rattle.std.specs.Prelude.{slice_index, ◌==◌}
 use Rattle.std.specs.List.{list_all}
 use Rattle.mtn_roster.proofs.Climbing.{next_jumps, some_lost}

@@ -1,5 +1,5 @@
 -- By the tests.
-use Rattle.std.proofs.Common.{◌≡◌, ◌<◌, ℕ, List, length, Some, None, Err, true, false, refl, sym, ◌∙◌, ap, slice_get, get_or}
+use Rattle.std.proofs.Common.{◌≡◌, ◌<◌, ℕ, length, Some, Err, sym, ◌∙◌, ap, slice_get, get_or}
 use Rattle.std.specs.Prelude.{Result}
 use Rattle.std.proofs.lemmas.Result.{err_from_is_err_and}
 use Rattle.std.proofs.lemmas.Option.{slice_get-get_or}

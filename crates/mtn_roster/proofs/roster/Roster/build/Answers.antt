@@ -1,5 +1,5 @@
 -- By the sorts and the tests.
-use Rattle.std.proofs.Common.{◌≡◌, ◌++◌, ℕ, Bool, List, true, false, length, take, drop, map, Err, refl, sym, ◌∙◌, ap, subst, rules}
+use Rattle.std.proofs.Common.{◌≡◌, ◌++◌, ℕ, Bool, List, true, false, length, take, drop, map, Err, refl, sym, ◌∙◌, ap, subst}
 use Rattle.std.specs.Prelude.{Result, IsTrue, ◌↔◌}
 use Rattle.std.specs.List.{AllByRecursion}
 use Rattle.std.proofs.lemmas.Result.{err_from_is_err_and}
@@ -9,7 +9,7 @@ use Rattle.mtn_roster.specs.declared.build.BuildError.TheVariants.{Insane}
 use Rattle.mtn_roster.specs.declared.entry.Entry.{Entry}
 use Rattle.mtn_roster.specs.Tree.{Tree, rises, entry_of, in_order, IsSane, IsSaneMap}
 use Rattle.mtn_roster.specs.Index.{IsIndex}
-use Rattle.mtn_roster.specs.Building.{NamesDiffer, KeysDiffer, SlotsDiffer, with_keys_in_order, tree_of, IsBuildable}
+use Rattle.mtn_roster.specs.Building.{NamesDiffer, KeysDiffer, SlotsDiffer, with_keys_in_order, tree_of}
 use Rattle.mtn_roster.proofs.Ordered.{in_order-rises}
 use Rattle.std.proofs.Math.Seq.{take-append_seam}
 use Rattle.mtn_roster.proofs.Sorting.{long_map}
