@@ -46,8 +46,8 @@ of_map f (x ∷ xs) y s = elim (split_cons (f x) (map f xs) y s) [ inl e ↦ (x,
 pub tree_of-in_order : (es : List Entry) → is_in_order (tree_of es) ≡ true
 tree_of-in_order es = both_true _ _ (in_order-rises (map with_keys_in_order es))
     (all_by (λ (e : Entry). rises bytes_cmp (map (λ (a : Attr). a.key) e.attrs)) (tree_of es) (λ y s.
-        let x = of_map with_keys_in_order es y (of_ordered name_cmp (λ (e : Entry). e.name) names_total (map with_keys_in_order es) y s) in
-        ap (λ (e : Entry). rises bytes_cmp (map (λ (a : Attr). a.key) e.attrs)) (sym x.1) ∙ ordered-rises bytes_cmp (λ (a : Attr). a.key) bytes_total x.0.attrs))
+    let x = of_map with_keys_in_order es y (of_ordered name_cmp (λ (e : Entry). e.name) names_total (map with_keys_in_order es) y s) in
+    ap (λ (e : Entry). rises bytes_cmp (map (λ (a : Attr). a.key) e.attrs)) (sym x.1) ∙ ordered-rises bytes_cmp (λ (a : Attr). a.key) bytes_total x.0.attrs))
 
 pub made_sane : (es : List Entry) → IsSaneMap (entry_of (tree_of es)) → IsSane (tree_of es)
 made_sane es s = record { ordered = tree_of-in_order es; sane = s }

@@ -128,13 +128,13 @@ module _ (t : Tree) (ks : List ℕ) (index : IsIndex t ks) where
     absent_at i le at =
         let p = at (searchable_from_sorted slots_total (slot_in t) ks s (λ k d a b. sorted_of_rises slot_cmp (slot_in t) slots_total ks index.rising k d b)) in
         none_there t s (λ e g.
-            let f = found (λ f. same_slot f.slot s) t e g in
-            let q = standing t e f.at in
-            let same : slot_in t q.0 ≡ s = slot_is t q.0 e q.2 ∙ same_slot-is e.slot s f.passes in
-            let equal : slot_cmp (slot_in t q.0) s ≡ Equal = ap (λ x. slot_cmp x s) same ∙ tied_itself slots_total s in
-            let j = at_from_Contains ks q.0 (index.all q.0 q.1) in
-            let here : slot_cmp (slot_in t (get_or ks j.0 0)) s ≡ Equal = ap (λ k. slot_cmp (slot_in t k) s) (j.2 0) ∙ equal in
-            elim (cases_lt j.0 i) [
-              | inl lt ↦ absurd (let a = p.0 j.0 0 (omega arith) lt in cc)
-              | inr ge ↦ absurd (let a = p.1 j.0 0 ge j.1 in cc)
-            ])
+        let f = found (λ f. same_slot f.slot s) t e g in
+        let q = standing t e f.at in
+        let same : slot_in t q.0 ≡ s = slot_is t q.0 e q.2 ∙ same_slot-is e.slot s f.passes in
+        let equal : slot_cmp (slot_in t q.0) s ≡ Equal = ap (λ x. slot_cmp x s) same ∙ tied_itself slots_total s in
+        let j = at_from_Contains ks q.0 (index.all q.0 q.1) in
+        let here : slot_cmp (slot_in t (get_or ks j.0 0)) s ≡ Equal = ap (λ k. slot_cmp (slot_in t k) s) (j.2 0) ∙ equal in
+        elim (cases_lt j.0 i) [
+          | inl lt ↦ absurd (let a = p.0 j.0 0 (omega arith) lt in cc)
+          | inr ge ↦ absurd (let a = p.1 j.0 0 ge j.1 in cc)
+        ])

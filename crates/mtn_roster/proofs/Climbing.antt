@@ -29,8 +29,8 @@ pub next_jumps : (ups jumps next : List ℕ) (width wider : ℕ) → IsJumps ups
 next_jumps ups jumps next width wider j is pos le =
     let f : ℕ → ℕ = λ k. get_or jumps k 0 in
     let at : (k : ℕ) → k < length ups → get_or next k 0 ≡ get_or jumps (get_or jumps k 0) 0 = λ k low.
-        let bound : k < length (map f jumps) = omega (arith, long_map f jumps, j.long) in
-        ap (λ l. get_or l k 0) is ∙ any_default (map f jumps) k 0 (f 0) bound ∙ at_map f jumps k 0 in
+    let bound : k < length (map f jumps) = omega (arith, long_map f jumps, j.long) in
+    ap (λ l. get_or l k 0) is ∙ any_default (map f jumps) k 0 (f 0) bound ∙ at_map f jumps k 0 in
     let low_at : (k : ℕ) → k < length ups → get_or jumps k 0 < length ups = λ k low. All-get_or (λ k. k < length ups) jumps k 0 (omega (arith, j.long)) j.within in
     let same : length next ≡ length ups = ap length is ∙ long_map f jumps ∙ j.long in
     record {

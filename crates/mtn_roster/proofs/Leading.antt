@@ -99,6 +99,6 @@ module _ (t : Tree) where
       go i above Root k = tt
       go i above (Below p n) k =
           let e : option_map Some (slice_get (by_path t) above) ≡ Some (Some k.1.1) =
-              sym (get_map Some (by_path t) above) ∙ ap (λ l. slice_get l above) (sym order) ∙ get_map (λ (s : Stop). slice_get t s.place) ss above
-              ∙ ap (option_map (λ (s : Stop). slice_get t s.place)) k.1.2 ∙ ap Some k.1.3 in
+          sym (get_map Some (by_path t) above) ∙ ap (λ l. slice_get l above) (sym order) ∙ get_map (λ (s : Stop). slice_get t s.place) ss above
+          ∙ ap (option_map (λ (s : Stop). slice_get t s.place)) k.1.2 ∙ ap Some k.1.3 in
           (k.0, ap (option_map (λ (e : Entry). e.name)) (some_is (slice_get (by_path t) above) k.1.1 e) ∙ ap Some k.1.4)

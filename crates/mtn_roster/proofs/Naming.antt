@@ -116,6 +116,7 @@ module _ (t : Tree) (sane : IsSane t) (ks : List ℕ) (index : IsIndex t ks) (n 
           ap (λ p. component p ∷ map (λ k. component (slot_in t k)) cs) (slot_is t k r.0 r.1)
           ∙ ap (λ l. component r.0.slot ∷ l) (same_comps cs (λ m s. f m (later k cs m s)))
           ∙ ap (λ x. map (λ (e : Entry). component e.slot) (cons_option x (filter_map (slice_get t) cs))) (sym r.1)
+
       lows : (k : ℕ) (cs : List ℕ) → is_below n (slot_in t k) ≡ true → ((m : ℕ) → Split cs m → is_below n (slot_in t m) ≡ true) → list_all (λ q. is_lt (slot_cmp (slot_in t k) q)) (map (slot_in t) cs) ≡ true
           → list_all (λ c. is_lt (bytes_cmp (component (slot_in t k)) c)) (map (λ k. component (slot_in t k)) cs) ≡ true
       lows k [] b f h = refl
@@ -125,6 +126,7 @@ module _ (t : Tree) (sane : IsSane t) (ks : List ℕ) (index : IsIndex t ks) (n 
           let sm = below_slot n (slot_in t m) (f m (head m cs)) in
           both_true _ _ (ap is_lt (sibling_less n (component (slot_in t k)) (component (slot_in t m)) (ap (λ r. slot_cmp r (Below n (component (slot_in t m)))) (sym sk) ∙ ap (slot_cmp (slot_in t k)) (sym sm) ∙ less)))
           (lows k cs b (λ z s. f z (later m cs z s)) (second_so (is_lt (slot_cmp (slot_in t k) (slot_in t m))) _ h))
+
       rise : (cs : List ℕ) → ((k : ℕ) → Split cs k → is_below n (slot_in t k) ≡ true) → rises slot_cmp (map (slot_in t) cs) ≡ true → rises bytes_cmp (map (λ k. component (slot_in t k)) cs) ≡ true
       rise [] f h = refl
       rise (k ∷ cs) f h =

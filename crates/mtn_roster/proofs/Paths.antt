@@ -30,7 +30,11 @@ ahead_less x y a = ap (λ p. path_cmp p y) a.is ∙ ap (path_cmp (a.shared ++ a.
 
 pub ahead_further : (x y p : List (List ℕ)) → Ahead x y → Ahead (x ++ p) y
 ahead_further x y p a = record {
-  shared = a.shared; left = a.left; right = a.right; after = a.after ++ p; other = a.other;
+  shared = a.shared;
+  left = a.left;
+  right = a.right;
+  after = a.after ++ p;
+  other = a.other;
   is = ap (λ l. l ++ p) a.is ∙ append_assoc a.shared (a.left ∷ a.after) p;
   other_is = a.other_is;
   less = a.less;

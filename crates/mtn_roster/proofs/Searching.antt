@@ -49,9 +49,9 @@ halved t h n (Ok i) lt at =
 halved t h n (Err i) le at =
     let p = at (searchable_from_sorted names_total (λ (e : Entry). e.name) t n (λ k d a b. sorted_of_rises name_cmp (λ (e : Entry). e.name) names_total t h k d b)) in
     none_of t n (λ e g.
-        let q = place_of t e (split_of t n e g) in
-        let same : name_cmp e.name n ≡ Equal = ap (λ m. name_cmp m n) (name_of t n e g) ∙ tied_itself names_total n in
-        elim (cases_lt q.0 i) [
-          | inl lt ↦ absurd (let a = ap (λ (x : Entry). name_cmp x.name n) (sym (q.2 e)) ∙ p.0 q.0 e (omega arith) lt in cc)
-          | inr ge ↦ absurd (let a = ap (λ (x : Entry). name_cmp x.name n) (sym (q.2 e)) ∙ p.1 q.0 e ge q.1 in cc)
-        ])
+    let q = place_of t e (split_of t n e g) in
+    let same : name_cmp e.name n ≡ Equal = ap (λ m. name_cmp m n) (name_of t n e g) ∙ tied_itself names_total n in
+    elim (cases_lt q.0 i) [
+      | inl lt ↦ absurd (let a = ap (λ (x : Entry). name_cmp x.name n) (sym (q.2 e)) ∙ p.0 q.0 e (omega arith) lt in cc)
+      | inr ge ↦ absurd (let a = ap (λ (x : Entry). name_cmp x.name n) (sym (q.2 e)) ∙ p.1 q.0 e ge q.1 in cc)
+    ])

@@ -170,24 +170,24 @@ module _ {X K : Type 0} (cmp : K → K → Ordering) (key : X → K) (o : IsTota
   one_sorted (x ∷ xs) [] h g f b = absurd (no_split x (f x (head x xs)))
   one_sorted (x ∷ xs) (y ∷ ys) h g f b =
       let e : x ≡ y = elim (split_cons y ys x (f x (head x xs))) [
-          | inl q ↦ sym q
-          | inr u ↦ elim (split_cons x xs y (b y (head y ys))) [
-            | inl q ↦ q
-            | inr v ↦ absurd (not_low x x refl (o.trans (key x) (key y) (key x) (low_at x xs y h v) (low_at y ys x g u)))
-          ]
-        ] in
+        | inl q ↦ sym q
+        | inr u ↦ elim (split_cons x xs y (b y (head y ys))) [
+          | inl q ↦ q
+          | inr v ↦ absurd (not_low x x refl (o.trans (key x) (key y) (key x) (low_at x xs y h v) (low_at y ys x g u)))
+        ]
+      ] in
       let tails : xs ≡ ys = one_sorted xs ys (rest_rises x xs h) (rest_rises y ys g)
-          (λ z s. elim (split_cons y ys z (f z (later x xs z s))) [ inl q ↦ absurd (not_low x z (e ∙ q) (low_at x xs z h s)) | inr u ↦ u ])
-          (λ z s. elim (split_cons x xs z (b z (later y ys z s))) [ inl q ↦ absurd (not_low y z (sym e ∙ q) (low_at y ys z g s)) | inr u ↦ u ]) in
+      (λ z s. elim (split_cons y ys z (f z (later x xs z s))) [ inl q ↦ absurd (not_low x z (e ∙ q) (low_at x xs z h s)) | inr u ↦ u ])
+      (λ z s. elim (split_cons x xs z (b z (later y ys z s))) [ inl q ↦ absurd (not_low y z (sym e ∙ q) (low_at y ys z g s)) | inr u ↦ u ]) in
       λ i. e i ∷ tails i
 
   pub rising_by : (ks : List X) → AllAdjacentBelow (λ x y. true ≡ is_lt (cmp (key x) (key y))) ks (length ks) → rises cmp (map key ks) ≡ true
   rising_by [] h = refl
   rising_by (e ∷ ks) h =
       rises_of_sorted cmp (map key (e ∷ ks)) (sorted_from_all_adjacent o (map key (e ∷ ks)) (key e) (λ k lt.
-          ap (λ x. cmp x (get_or (map key (e ∷ ks)) (k + 1) (key e))) (at_map key (e ∷ ks) k e)
-          ∙ ap (cmp (key (get_or (e ∷ ks) k e))) (at_map key (e ∷ ks) (k + 1) e)
-          ∙ lt_was _ (sym (h k e (subst (λ n. k + 1 < n) (long_map key (e ∷ ks)) lt)))))
+      ap (λ x. cmp x (get_or (map key (e ∷ ks)) (k + 1) (key e))) (at_map key (e ∷ ks) k e)
+      ∙ ap (cmp (key (get_or (e ∷ ks) k e))) (at_map key (e ∷ ks) (k + 1) e)
+      ∙ lt_was _ (sym (h k e (subst (λ n. k + 1 < n) (long_map key (e ∷ ks)) lt)))))
 
   -- keys at two places of a rising list
   pub less_at : (ks : List X) (i j : ℕ) (d : X) → rises cmp (map key ks) ≡ true → i < j → j < length ks → cmp (key (get_or ks i d)) (key (get_or ks j d)) ≡ Less

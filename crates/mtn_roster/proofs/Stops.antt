@@ -81,17 +81,16 @@ module _ (t : Tree) (sane : IsSane t) (ks : List ℕ) (index : IsIndex t ks) whe
       let new_stops : List Stop = map (stop_at (length ss)) kid_list in
       let new_back : reverse ws' ≡ new_stops ++ reverse rest = ap reverse (pushed ∙ ap (λ n. rest ++ map (stop_at n) (reverse run)) count) ∙ waiting_is rest (length ss) run ∙ ap (λ l. map (stop_at (length ss)) l ++ reverse rest) found in
       let places : map place_of_stop (new_stops ++ reverse rest) ≡ kid_list ++ map place_of_stop (reverse rest) =
-          map-append place_of_stop new_stops (reverse rest) ∙ ap (λ l. l ++ map place_of_stop (reverse rest)) (map-map (stop_at (length ss)) place_of_stop kid_list ∙ map-self (λ k. k) (λ k. refl) kid_list) in
-      (
-      subst (λ l. IsWalking t l (map place_of_stop (reverse ws'))) (sym (ap (map place_of_stop) met ∙ map-snoc place_of_stop ss x))
-      (subst (IsWalking t (map place_of_stop ss ++ x.place ∷ [])) (sym (ap (map place_of_stop) new_back ∙ places))
-      (walk_on t sane ks index x.place e low there (map place_of_stop ss) (map place_of_stop (reverse rest)) walking)),
-      subst (λ l. IsLed t l (reverse ws')) (sym met) (subst (IsLed t (ss ++ x ∷ [])) (sym new_back)
-      (led_on t ss (reverse rest) new_stops x e led there (λ s u.
-      let r = of_map (stop_at (length ss)) kid_list s u in
-      let f = of_filter (λ k. is_below e.name (slot_in t k)) ks r.0 r.1 in
-      (ap (λ (s : Stop). s.above) (sym r.2), ap (λ (s : Stop). is_below e.name (slot_in t s.place)) (sym r.2) ∙ f.1)))),
-    )
+      map-append place_of_stop new_stops (reverse rest) ∙ ap (λ l. l ++ map place_of_stop (reverse rest)) (map-map (stop_at (length ss)) place_of_stop kid_list ∙ map-self (λ k. k) (λ k. refl) kid_list) in (
+        subst (λ l. IsWalking t l (map place_of_stop (reverse ws'))) (sym (ap (map place_of_stop) met ∙ map-snoc place_of_stop ss x))
+            (subst (IsWalking t (map place_of_stop ss ++ x.place ∷ [])) (sym (ap (map place_of_stop) new_back ∙ places))
+            (walk_on t sane ks index x.place e low there (map place_of_stop ss) (map place_of_stop (reverse rest)) walking)),
+        subst (λ l. IsLed t l (reverse ws')) (sym met) (subst (IsLed t (ss ++ x ∷ [])) (sym new_back)
+            (led_on t ss (reverse rest) new_stops x e led there (λ s u.
+            let r = of_map (stop_at (length ss)) kid_list s u in
+            let f = of_filter (λ k. is_below e.name (slot_in t k)) ks r.0 r.1 in
+            (ap (λ (s : Stop). s.above) (sym r.2), ap (λ (s : Stop). is_below e.name (slot_in t s.place)) (sym r.2) ∙ f.1)))),
+      )
 
   pub nearer : (ss ss' ws' : List Stop) (x : Stop) → ss' ≡ ss ++ x ∷ [] → IsOnWay ss' ws' → length t - length ss' < length t - length ss
   nearer ss ss' ws' x met h =

@@ -161,21 +161,25 @@ module _ (t : Tree) (sane : IsSane t) (ks : List ℕ) (index : IsIndex t ks) whe
     apart_more [] w h f g a = a
     apart_more (c ∷ cs) w h f g a =
         let own = f c (head c cs) in
-        let own_path = kid_path c own in
-        (
-        λ s u. elim (of_append cs w s u) [
-          | inl v ↦
-              let other = f s (later c cs s v) in
-              let less = low_at slot_cmp (slot_in t) slots_total c cs s h v in
-              record {
-                shared = (path_at t) k; left = component (slot_in t c); right = component (slot_in t s); after = []; other = [];
-                is = own_path; other_is = kid_path s other;
-                less = sibling_less d.name (component (slot_in t c)) (component (slot_in t s)) (ap (λ r. slot_cmp r (Below d.name (component (slot_in t s)))) (sym (kid_slot c own)) ∙ ap (slot_cmp (slot_in t c)) (sym (kid_slot s other)) ∙ less);
-              }
-          | inr v ↦ subst (λ p. Ahead p ((path_at t) s)) (sym own_path) (ahead_further ((path_at t) k) ((path_at t) s) (component (slot_in t c) ∷ []) (g s v))
-        ],
-        apart_more cs w (rest_rises slot_cmp (slot_in t) slots_total c cs h) (λ z u. f z (later c cs z u)) g a,
-      )
+        let own_path = kid_path c own in (
+          λ s u. elim (of_append cs w s u) [
+            | inl v ↦
+                let other = f s (later c cs s v) in
+                let less = low_at slot_cmp (slot_in t) slots_total c cs s h v in
+                record {
+                  shared = (path_at t) k;
+                  left = component (slot_in t c);
+                  right = component (slot_in t s);
+                  after = [];
+                  other = [];
+                  is = own_path;
+                  other_is = kid_path s other;
+                  less = sibling_less d.name (component (slot_in t c)) (component (slot_in t s)) (ap (λ r. slot_cmp r (Below d.name (component (slot_in t s)))) (sym (kid_slot c own)) ∙ ap (slot_cmp (slot_in t c)) (sym (kid_slot s other)) ∙ less);
+                }
+            | inr v ↦ subst (λ p. Ahead p ((path_at t) s)) (sym own_path) (ahead_further ((path_at t) k) ((path_at t) s) (component (slot_in t c) ∷ []) (g s v))
+          ],
+          apart_more cs w (rest_rises slot_cmp (slot_in t) slots_total c cs h) (λ z u. f z (later c cs z u)) g a,
+        )
 
     below_here : (m : ℕ) → m < length t → (u : List (List ℕ)) → (path_at t) m ≡ (path_at t) k ++ u → (m ≡ k) ⊎ ((s : ℕ) × Split (kids d.name) s × IsOver t ((path_at t) s) ((path_at t) m))
     below_here m lm [] e = inl (one_path_at m k lm low (e ∙ append-nil ((path_at t) k)))
@@ -230,6 +234,7 @@ module _ (t : Tree) (sane : IsSane t) (ks : List ℕ) (index : IsIndex t ks) whe
       where
         only : (k m : ℕ) → Split (k ∷ []) m → k ≡ m
         only k m s = elim (split_cons k [] m s) [ inl e ↦ e | inr u ↦ absurd (no_split m u) ]
+
         to_kid : (s : ℕ) → Split (kids d.name) s → path_cmp ((path_at t) k) ((path_at t) s) ≡ Less
         to_kid s v = ap (path_cmp ((path_at t) k)) (kid_path s v) ∙ prefix_less ((path_at t) k) (component (slot_in t s)) []
 

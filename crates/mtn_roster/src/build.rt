@@ -59,13 +59,7 @@ fn sort_attrs(attrs: &mut Vec<Attr>) -> bool
     ensures order { IsTrue result → attrs.new.items ≡ ordered bytes_cmp (λ (a : Attr). a.key) attrs.old.items }
 {
     attrs.sort_unstable_by(|first, second| first.key.as_slice().cmp(second.key.as_slice()));
-    attrs.is_sorted_by(|first, second| {
-        first
-            .key
-            .as_slice()
-            .cmp(second.key.as_slice())
-            .is_lt()
-    })
+    attrs.is_sorted_by(|first, second| { first.key.as_slice().cmp(second.key.as_slice()).is_lt() })
 }
 
 /// Puts the attributes of an entry in the order of their keys, and says whether these are apart.

@@ -51,7 +51,12 @@ pub fn root_place(entries: &[Entry], by_slot: &[usize]) -> Option<usize>
 }
 
 /// The place of the child of that name.
-pub fn child_place(entries: &[Entry], by_slot: &[usize], above: &Entry, name: &Comp) -> Option<usize>
+pub fn child_place(
+    entries: &[Entry],
+    by_slot: &[usize],
+    above: &Entry,
+    name: &Comp,
+) -> Option<usize>
     requires index { IsIndex entries.now by_slot.now }
     ensures within { IfSome result (λ at. at < length entries.now) }
     ensures entry { option_and_then (slice_get entries.now) result ≡ child_of entries.now name.now above.now }

@@ -99,7 +99,11 @@ impl Roster {
     pub fn children(&self, alloc: Global, name: &NodeName) -> Result<Vec<NodeName>, NoMemory>
         ensures { IfOk result (λ names. names.items ≡ map (λ (e : Entry). e.name) (children_of self.now name.now)) }
     {
-        names_of(alloc, &self.entries, run_of(&self.entries, &self.by_slot, name))
+        names_of(
+            alloc,
+            &self.entries,
+            run_of(&self.entries, &self.by_slot, name),
+        )
     }
 
     /// All nodes depth first: a parent before its children, children in byte order of their components.
@@ -185,3 +189,6 @@ fn names_along(alloc: Global, entries: &[Entry], stops: &[Stop]) -> Result<Vec<N
     }
     Ok(names)
 }
+
+#[cfg(test)]
+mod tests;

@@ -12,23 +12,21 @@ here now es i e is at = at ∙ ap (λ l. get_or l i e) is ∙ begun-at with_keys
 pub returns-then-not-sort_keys-clause-apart : goal.returns-then-not-sort_keys-clause-apart
 returns-then-not-sort_keys-clause-apart c =
     let e : Entry = c.entry-item.result in
-    let i = c.loop-entry.entry-index in
-    (
-    λ e. absurd cc,
-    λ all. c.if-not-sort_keys.ensures.apart.1
-    (subst KeysDiffer (ap (λ l. get_or l i e) (sym c.loop-entry.invariant.0 )) (subst KeysDiffer (sym (begun-at with_keys_in_order i c.args.entries.now e)) (each_of_all KeysDiffer c.args.entries.now i e all c.loop-entry-test.true))),
-  )
+    let i = c.loop-entry.entry-index in (
+      λ e. absurd cc,
+      λ all. c.if-not-sort_keys.ensures.apart.1
+          (subst KeysDiffer (ap (λ l. get_or l i e) (sym c.loop-entry.invariant.0)) (subst KeysDiffer (sym (begun-at with_keys_in_order i c.args.entries.now e)) (each_of_all KeysDiffer c.args.entries.now i e all c.loop-entry-test.true))),
+    )
 
 pub loop-entry-preserved : goal.loop-entry-preserved
 loop-entry-preserved c =
     let e : Entry = c.entry-item.result in
-    let i = c.loop-entry.entry-index in
-    (
-    begun-next with_keys_in_order i c.args.entries.now c.loop-entry.entries e c.sort_keys.new.entry c.loop-entry.invariant.0 c.loop-entry-test.true
-    (c.if-not-sort_keys.ensures.order refl),
-    AllBegun-next KeysDiffer i c.args.entries.now e c.loop-entry.invariant.1
-    (subst KeysDiffer (ap (λ l. get_or l i e) c.loop-entry.invariant.0 ∙ begun-at with_keys_in_order i c.args.entries.now e) (c.if-not-sort_keys.ensures.apart.0 refl)) c.loop-entry-test.true,
-  )
+    let i = c.loop-entry.entry-index in (
+      begun-next with_keys_in_order i c.args.entries.now c.loop-entry.entries e c.sort_keys.new.entry c.loop-entry.invariant.0 c.loop-entry-test.true
+          (c.if-not-sort_keys.ensures.order refl),
+      AllBegun-next KeysDiffer i c.args.entries.now e c.loop-entry.invariant.1
+          (subst KeysDiffer (ap (λ l. get_or l i e) c.loop-entry.invariant.0 ∙ begun-at with_keys_in_order i c.args.entries.now e) (c.if-not-sort_keys.ensures.apart.0 refl)) c.loop-entry-test.true,
+    )
 
 done : (i n : ℕ) → i ≡ n → (es now : List Entry) → n ≡ length es → now ≡ begun with_keys_in_order i es → AllBegun KeysDiffer i es →
     (now ≡ begun with_keys_in_order (length es) es) × AllBegun KeysDiffer (length es) es

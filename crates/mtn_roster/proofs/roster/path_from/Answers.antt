@@ -65,10 +65,10 @@ loop-at-smaller c = longer (path_at c.args.entries.now c.loop-at.at) (path_at c.
 
 pub loop-at-preserved : goal.loop-at-preserved
 loop-at-preserved c = (
-    (step c).0,
-    pushed (path_at c.args.entries.now c.args.place) (path_at c.args.entries.now c.loop-at.at) (path_at c.args.entries.now c.unwrap-at.result) c.in-Below.name c.loop-at.names.items c.push.new.self.items _ refl
-    c.in_ok-push.ensures.items (step c).1 c.loop-at.invariant.1,
-  )
+  (step c).0,
+  pushed (path_at c.args.entries.now c.args.place) (path_at c.args.entries.now c.loop-at.at) (path_at c.args.entries.now c.unwrap-at.result) c.in-Below.name c.loop-at.names.items c.push.new.self.items _ refl
+      c.in_ok-push.ensures.items (step c).1 c.loop-at.invariant.1,
+)
 
 pub loop-name-init : goal.loop-name-init
 loop-name-init c =

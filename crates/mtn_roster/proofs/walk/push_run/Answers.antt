@@ -8,10 +8,10 @@ loop-left-init c = (omega arith, pushed_none c.args.waiting.now.items c.args.abo
 
 pub loop-left-preserved : goal.loop-left-preserved
 loop-left-preserved c = (
-    omega (arith, c.loop-left.invariant.0),
-    pushed_more c.args.waiting.now.items c.loop-left.waiting.items c.push.new.self.items c.args.above c.args.run.now c.loop-left.left (c.loop-left.left - 1)
-    (omega (arith, c.loop-left-test.true)) c.loop-left.invariant.0 c.loop-left.invariant.1 c.in_ok-push.ensures.items,
-  )
+  omega (arith, c.loop-left.invariant.0),
+  pushed_more c.args.waiting.now.items c.loop-left.waiting.items c.push.new.self.items c.args.above c.args.run.now c.loop-left.left (c.loop-left.left - 1)
+      (omega (arith, c.loop-left-test.true)) c.loop-left.invariant.0 c.loop-left.invariant.1 c.in_ok-push.ensures.items,
+)
 
 pub returns : goal.returns
 returns c =

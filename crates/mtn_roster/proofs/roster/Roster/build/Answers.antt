@@ -29,9 +29,9 @@ written es slice new n long same is =
 -- the names of what was written back
 told : (es back : List Entry) (b : Bool) → back ≡ map with_keys_in_order es → b ≡ true ↔ NamesDiffer back → b ≡ true ↔ NamesDiffer es
 told es back b is h = (
-    λ e. differed with_keys_in_order (λ e. refl) es (subst NamesDiffer is (h.0 e)),
-    λ d. h.1 (subst NamesDiffer (sym is) (differ_still with_keys_in_order (λ e. refl) es d)),
-  )
+  λ e. differed with_keys_in_order (λ e. refl) es (subst NamesDiffer is (h.0 e)),
+  λ d. h.1 (subst NamesDiffer (sym is) (differ_still with_keys_in_order (λ e. refl) es d)),
+)
 
 pub returns-then-not-sort_names-clause-insane : goal.returns-then-not-sort_names-clause-insane
 returns-then-not-sort_names-clause-insane c =
@@ -59,11 +59,10 @@ pub invariant_of-result : goal.invariant_of-result
 invariant_of-result c =
     let es = c.args.entries.items in
     let back : take c.args.entries.len (c.sort_all_keys.new.entries ++ drop (length c.sort_all_keys.new.entries) es) ≡ map with_keys_in_order es = written c.args.entries.items c.deref_mut.result.now c.sort_all_keys.new.entries c.args.entries.len c.deref_mut.ensures.len c.deref_mut.ensures.value (c.if-not-sort_all_keys.ensures.order refl) in
-    let made : c.sort_names.new.entries.items ≡ tree_of es = c.if-not-sort_names.ensures.order refl ∙ ap in_order back in
-    (
-    subst IsSane (sym made) (made_sane es (subst (λ (t : Tree). IsSaneMap (entry_of t)) (c.deref-2.ensures.value ∙ made) c.in_ok-check_shape.ensures.ok)),
-    subst (λ (t : Tree). IsIndex t c.in_ok-by_slot.by_slot.items) c.deref.ensures.value c.in_ok-by_slot.ensures.index,
-  )
+    let made : c.sort_names.new.entries.items ≡ tree_of es = c.if-not-sort_names.ensures.order refl ∙ ap in_order back in (
+      subst IsSane (sym made) (made_sane es (subst (λ (t : Tree). IsSaneMap (entry_of t)) (c.deref-2.ensures.value ∙ made) c.in_ok-check_shape.ensures.ok)),
+      subst (λ (t : Tree). IsIndex t c.in_ok-by_slot.by_slot.items) c.deref.ensures.value c.in_ok-by_slot.ensures.index,
+    )
 
 pub returns-clause-made : goal.returns-clause-made
 returns-clause-made c =
