@@ -1,0 +1,147 @@
+-- The texts of paths along a walk.
+use Rattle.std.specs.Prelude.{map, option_map, slice_get, option_copied, filter_map, IsSome}
+use Rattle.std.specs.List.{cons_option}
+use Rattle.std.proofs.lemmas.Option.{slice_get-get_or}
+use Rattle.std.proofs.lemmas.List.Elements.{filter_map-append}
+use Rattle.mtn_roster.specs.declared.entry.Attr.{Attr}
+use Rattle.std.proofs.Common.{◌≡◌, ℕ, zero, suc, ◌+◌, ◌<◌, ◌≤◌, List, [], ◌∷◌, ◌++◌, length, get_or, take, Option, Some, None, refl, sym, ◌∙◌, ap, subst, arith, append_assoc, Bor}
+use Rattle.std.proofs.lemmas.List.{take_more}
+use Rattle.mtn_base.specs.Names.{path_cmp}
+use Rattle.mtn_base.specs.Paths.{path_text}
+use Rattle.mtn_base.specs.declared.name.NodeName.{NodeName}
+use Rattle.mtn_basic_io.specs.Spelling.{LineText}
+use Rattle.mtn_roster.specs.declared.entry.Entry.{Entry}
+use Rattle.mtn_roster.specs.declared.entry.Slot.{Slot}
+use Rattle.mtn_roster.specs.declared.entry.Slot.TheVariants.{Root, Below}
+use Rattle.mtn_roster.specs.declared.walk.Stop.{Stop}
+use Rattle.mtn_roster.specs.Tree.{Tree, IsSane, entry_of, path_of, path_up}
+use Rattle.mtn_roster.specs.Index.{slot_in}
+use Rattle.mtn_roster.specs.Walk.{by_path, IsAbove, AreStops}
+use Rattle.mtn_roster.proofs.Finding.{Split}
+use Rattle.mtn_roster.proofs.Members.{taken, any_default}
+use Rattle.mtn_roster.proofs.Forest.{same_some}
+use Rattle.mtn_roster.proofs.Looking.{paths_total}
+use Rattle.mtn_roster.proofs.Ordered.{forest_of}
+use Rattle.mtn_roster.proofs.Sorting.{of_ordered, at_map, long_map}
+use Rattle.mtn_roster.proofs.BySlot.{slot_is}
+use Rattle.mtn_roster.proofs.Walking.{child_path}
+use Rattle.mtn_roster.proofs.Leading.{get_map, get_within}
+use Rattle.mtn_roster.proofs.Stops.{map-snoc}
+use Rattle.mtn_manifest.specs.Manifest.{attr_line, prefix_of, text_at, prefix_at, IsMet}
+
+joined_more : (p : List (List ℕ)) (a : List ℕ) → path_text (p ++ a ∷ []) ≡ prefix_of p ++ a
+joined_more [] a = refl
+joined_more (c ∷ []) a = sym (append_assoc c (47 ∷ []) a)
+joined_more (c ∷ d ∷ p) a = ap (λ l. c ++ (47 ∷ l)) (joined_more (d ∷ p) a) ∙ sym (append_assoc c (47 ∷ prefix_of (d ∷ p)) a)
+
+prefix_more : (p : List (List ℕ)) (a : List ℕ) → prefix_of (p ++ a ∷ []) ≡ prefix_of p ++ a ++ 47 ∷ []
+prefix_more [] a = refl
+prefix_more (c ∷ p) a = ap (λ l. c ++ (47 ∷ l)) (prefix_more p a) ∙ sym (append_assoc c (47 ∷ prefix_of p ++ a) (47 ∷ [])) ∙ ap (λ l. l ++ 47 ∷ []) (sym (append_assoc c (47 ∷ prefix_of p) a))
+
+module _ (t : Tree) (sane : IsSane t) where
+  abbrev pub prefix_in : Entry → List ℕ
+  prefix_in e = prefix_of (path_of t e)
+
+  held : (i : ℕ) (e : Entry) → slice_get (by_path t) i ≡ Some e → entry_of t e.name ≡ Some e
+  held i e h =
+      let r = taken (by_path t) i (get_within (by_path t) i e h) in
+      let is : r.0 ≡ e = same_some r.1 h in
+      (forest_of t sane).distinct e (of_ordered path_cmp (path_of t) paths_total t e (subst (Split (by_path t)) is r.2))
+
+  named_by : (o : Option Entry) (p : NodeName) → option_map (λ (e : Entry). e.name) o ≡ Some p → (d : Entry) × (o ≡ Some d) × (d.name ≡ p)
+  named_by None p h = absurd cc
+  named_by (Some d) p h = (d, refl, cc)
+
+  take_at : (xs : List Entry) (i k : ℕ) (d : Entry) → k < i → slice_get xs k ≡ Some d → slice_get (take i xs) k ≡ Some d
+  take_at [] i k d lt h = absurd cc
+  take_at (x ∷ xs) zero k d lt h = absurd (omega (arith, lt))
+  take_at (x ∷ xs) (suc i) zero d lt h = h
+  take_at (x ∷ xs) (suc i) (suc k) d lt h = take_at xs i k d (omega (arith, lt)) h
+
+  get_from : (xs : List (List ℕ)) (k : ℕ) (x : List ℕ) → slice_get xs k ≡ Some x → get_or xs k [] ≡ x
+  get_from [] k x h = absurd cc
+  get_from (y ∷ xs) zero x h = cc
+  get_from (y ∷ xs) (suc k) x h = get_from xs k x h
+
+  pub record Places (prefixes : List (List ℕ)) (e : Entry) (s : Slot) (above : ℕ) : Type 0 where
+    pub met : IsMet prefixes s above
+    pub text : text_at prefixes s above ≡ path_text (path_of t e)
+    pub prefix : prefix_at prefixes s above ≡ prefix_in e
+
+  -- the path of a node is made from its parent's
+  pub places : (prefixes : List (List ℕ)) (i above : ℕ) (e : Entry) (s : Slot) → slice_get (by_path t) i ≡ Some e → e.slot ≡ s → IsAbove (by_path t) s i above
+      → prefixes ≡ map prefix_in (take i (by_path t)) → Places prefixes e s above
+  places prefixes i above e Root at slot known is =
+      let none : path_of t e ≡ [] = ap (path_up t t) slot in
+      record { met = tt; text = sym (ap path_text none); prefix = sym (ap prefix_of none) }
+  places prefixes i above e (Below p n) at slot known is =
+      let d = named_by (slice_get (by_path t) above) p known.1 in
+      let path : path_of t e ≡ path_of t d.0 ++ n ∷ [] = child_path t sane d.0 e n (held above d.0 d.1) (held i e at) (slot ∙ ap (λ m. Below m n) (sym d.2)) in
+      let there : slice_get prefixes above ≡ Some (prefix_in d.0) =
+      ap (λ l. slice_get l above) is ∙ get_map prefix_in (take i (by_path t)) above ∙ ap (option_map prefix_in) (take_at (by_path t) i above d.0 known.0 d.1) in
+      let front : get_or prefixes above [] ≡ prefix_in d.0 = get_from prefixes above (prefix_in d.0) there in
+      record {
+        met = get_within prefixes above (prefix_in d.0) there;
+        text = ap (λ f. f ++ n) front ∙ sym (joined_more (path_of t d.0) n) ∙ ap path_text (sym path);
+        prefix = ap (λ f. f ++ n ++ 47 ∷ []) front ∙ sym (prefix_more (path_of t d.0) n) ∙ ap prefix_of (sym path);
+      }
+
+read_some : (o : Option Entry) (p : Option Entry) → option_map Some o ≡ Some p → (e : Entry) × (o ≡ Some e) × (p ≡ Some e)
+read_some None p h = absurd cc
+read_some (Some e) p h = (e, refl, cc)
+
+-- the entry at a stop
+pub stop_has : (t : Tree) (stops : List Stop) → AreStops t stops → (i : ℕ) (d : Stop) → i < length stops →
+    (e : Entry) × (slice_get t (get_or stops i d).place ≡ Some e) × (slice_get (by_path t) i ≡ Some e) × IsAbove (by_path t) e.slot i (get_or stops i d).above
+stop_has t stops are i d low =
+    let s : Stop = get_or stops i d in
+    let at : slice_get stops i ≡ Some s = slice_get-get_or stops i d low in
+    let both : option_map Some (slice_get (by_path t) i) ≡ Some (slice_get t s.place) =
+    sym (get_map Some (by_path t) i) ∙ ap (λ l. slice_get l i) (sym are.order) ∙ get_map (λ (s : Stop). slice_get t s.place) stops i ∙ ap (option_map (λ (s : Stop). slice_get t s.place)) at in
+    let r = read_some (slice_get (by_path t) i) (slice_get t s.place) both in
+    (r.0, r.2, r.1, subst (λ q. IsAbove (by_path t) q i s.above) (slot_is t s.place r.0 r.2) (are.parents i s at))
+
+-- one more node
+pub met_more : {Y : Type 0} (t : Tree) (f : Entry → Y) (i : ℕ) (e : Entry) (ys ys' : List Y) (y : Y) → slice_get (by_path t) i ≡ Some e → y ≡ f e → ys ≡ map f (take i (by_path t)) → ys' ≡ ys ++ y ∷ [] → ys' ≡ map f (take (i + 1) (by_path t))
+met_more t f i e ys ys' y at is was more =
+    let es = by_path t in
+    let low = get_within es i e at in
+    let here : get_or es i e ≡ e = cc_some (get_or es i e) e (sym (slice_get-get_or es i e low) ∙ at) in
+    more ∙ ap (λ l. l ++ y ∷ []) was ∙ ap (λ z. map f (take i es) ++ z ∷ []) (is ∙ ap f (sym here))
+    ∙ sym (map-snoc f (take i es) (get_or es i e)) ∙ ap (map f) (sym (take_more es i e low))
+  where
+    cc_some : (a b : Entry) → Some a ≡ Some b → a ≡ b
+    cc_some a b h = cc
+
+pub head_more : {Y : Type 0} (t : Tree) (f : Entry → Y) (i : ℕ) (e : Entry) (first : Y) (ys ys' : List Y) (y : Y) → slice_get (by_path t) i ≡ Some e → y ≡ f e → ys ≡ first ∷ map f (take i (by_path t)) → ys' ≡ ys ++ y ∷ [] → ys' ≡ first ∷ map f (take (i + 1) (by_path t))
+head_more t f i e first ys ys' y at is was more =
+    more ∙ ap (λ l. l ++ y ∷ []) was ∙ ap (λ l. first ∷ l) (met_more t f i e (map f (take i (by_path t))) (map f (take i (by_path t)) ++ y ∷ []) y at is refl refl)
+
+pub copied_some : (o : Option (Bor Entry)) (e : Entry) → option_copied o ≡ Some e → IsSome o
+copied_some None e h = absurd cc
+copied_some (Some b) e h = refl
+
+pub copied_is : (o : Option (Bor Entry)) (b : Bor Entry) (e : Entry) → o ≡ Some b → option_copied o ≡ Some e → b.now ≡ e
+copied_is o b e h g = let q : Some b.now ≡ Some e = ap option_copied (sym h) ∙ g in cc
+
+pub attrs_more : (first now now' : List LineText) (xs : List Attr) (i : ℕ) (a : Attr) → i < length xs → a ≡ get_or xs i a → now ≡ first ++ filter_map attr_line (take i xs) → now' ≡ now ++ cons_option (attr_line a) [] → now' ≡ first ++ filter_map attr_line (take (i + 1) xs)
+attrs_more first now now' xs i a low at was more =
+    more ∙ ap (λ l. l ++ cons_option (attr_line a) []) was ∙ append_assoc first (filter_map attr_line (take i xs)) (cons_option (attr_line a) [])
+    ∙ ap (λ l. first ++ l) (sym (filter_map-append attr_line (take i xs) (a ∷ [])) ∙ ap (λ z. filter_map attr_line (take i xs ++ z ∷ [])) at ∙ ap (filter_map attr_line) (sym (take_more xs i a low)))
+
+-- what the loop knows of the node at a stop
+pub record AtStop (t : Tree) (sane : IsSane t) (prefixes : List (List ℕ)) (i above : ℕ) (e : Entry) : Type 0 where
+  pub node : slice_get (by_path t) i ≡ Some e
+  pub places : Places t sane prefixes e e.slot above
+
+pub at_stop : (t : Tree) (sane : IsSane t) (items stops : List Stop) → AreStops t items → stops ≡ items → (i : ℕ) (d : Stop) → i < length stops → (o : Option (Bor Entry)) (b : Bor Entry) → o ≡ Some b
+    → option_copied o ≡ slice_get t (get_or stops i d).place → (kept prefixes : List (List ℕ)) → prefixes ≡ kept → kept ≡ map (prefix_in t sane) (take i (by_path t)) → AtStop t sane prefixes i (get_or stops i d).above b.now
+at_stop t sane items stops are same i d low o b got held kept prefixes pre was =
+    let has = stop_has t stops (subst (AreStops t) (sym same) are) i d low in
+    let e : Entry = has.0 in
+    let is : e ≡ b.now = sym (copied_is o b e got (held ∙ has.1)) in
+    let p = places t sane prefixes i (get_or stops i d).above e e.slot has.2 refl has.3 (pre ∙ was) in
+    record {
+      node = has.2 ∙ ap Some is;
+      places = subst (λ (x : Entry). Places t sane prefixes x x.slot (get_or stops i d).above) is p;
+    }

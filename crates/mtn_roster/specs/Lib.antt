@@ -1,0 +1,4 @@
+pub mod Tree
+pub mod Building
+pub mod Index
+pub mod Walk

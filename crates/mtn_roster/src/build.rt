@@ -1,0 +1,96 @@
+// Entries put in order.
+ghost use Rattle.std.specs.Prelude.{◌≡◌, ◌↔◌, IsTrue, map};
+ghost use Rattle.std.specs.List.{AllByRecursion, IsDistinct};
+ghost use Rattle.mtn_base.specs.Names.{same_bytes, bytes_cmp};
+ghost use Rattle.mtn_roster.specs.Tree.{ordered, in_order};
+ghost use Rattle.mtn_roster.specs.Building.{NamesDiffer, KeysDiffer, with_keys_in_order};
+
+use crate::{Attr, Entry};
+use mtn_base::{List, NoMemory};
+use std::alloc::{AllocError, AllocFailed, Global};
+
+/// Why entries make no roster.
+#[derive(Clone, Copy, Debug, PartialEq, Eq)]
+pub enum BuildError {
+    /// A name or a key repeats, or the tree is not sane.
+    Insane,
+    NoMemory,
+}
+
+impl From<NoMemory> for BuildError {
+    ghost use Rattle.mtn_roster.specs.declared.build.BuildError.{BuildError};
+    ghost use Rattle.mtn_roster.specs.declared.build.BuildError.TheVariants as errors;
+    ghost use Rattle.std.specs.Prelude.{◌≡◌};
+
+    ghost from_gives = { λ _ r. r ≡ errors.NoMemory };
+
+    fn from(_: NoMemory) -> Self {
+        BuildError::NoMemory
+    }
+}
+
+impl From<AllocError> for BuildError {
+    ghost use Rattle.mtn_roster.specs.declared.build.BuildError.{BuildError};
+    ghost use Rattle.mtn_roster.specs.declared.build.BuildError.TheVariants as errors;
+    ghost use Rattle.std.specs.Prelude.{◌≡◌};
+
+    ghost from_gives = { λ _ r. r ≡ errors.NoMemory };
+
+    fn from(_: AllocError) -> Self {
+        BuildError::NoMemory
+    }
+}
+
+impl<T: Drop> From<AllocFailed<T>> for BuildError {
+    ghost use Rattle.mtn_roster.specs.declared.build.BuildError.{BuildError};
+    ghost use Rattle.mtn_roster.specs.declared.build.BuildError.TheVariants as errors;
+    ghost use Rattle.std.specs.Prelude.{◌≡◌};
+
+    ghost from_gives = { λ _ r. r ≡ errors.NoMemory };
+
+    fn from(_: AllocFailed<T>) -> Self {
+        BuildError::NoMemory
+    }
+}
+
+/// Puts attributes in the order of their keys, and says whether these are apart.
+fn sort_attrs(attrs: &mut Vec<Attr>) -> bool
+    ensures apart { IsTrue result ↔ IsDistinct (λ (a : Attr) (b : Attr). same_bytes a.key b.key) attrs.old.items }
+    ensures order { IsTrue result → attrs.new.items ≡ ordered bytes_cmp (λ (a : Attr). a.key) attrs.old.items }
+{
+    attrs.sort_unstable_by(|first, second| first.key.as_slice().cmp(second.key.as_slice()));
+    attrs.is_sorted_by(|first, second| { first.key.as_slice().cmp(second.key.as_slice()).is_lt() })
+}
+
+/// Puts the attributes of an entry in the order of their keys, and says whether these are apart.
+fn sort_keys(alloc: Global, entry: &mut Entry) -> bool
+    ensures apart { IsTrue result ↔ KeysDiffer entry.old }
+    ensures order { IsTrue result → entry.new ≡ with_keys_in_order entry.old }
+{
+    let mut attrs = std::mem::replace(&mut entry.attrs, List::new(alloc)).into_vec();
+    let apart = sort_attrs(&mut attrs);
+    entry.attrs = List::from_vec(attrs);
+    apart
+}
+
+/// The same for all entries. Where a key repeats, what is left is of no use.
+pub fn sort_all_keys(alloc: Global, entries: &mut [Entry]) -> bool
+    ensures apart { IsTrue result ↔ AllByRecursion KeysDiffer entries.old }
+    ensures order { IsTrue result → entries.new ≡ map with_keys_in_order entries.old }
+{
+    for entry in entries.iter_mut() {
+        if !sort_keys(alloc, entry) {
+            return false;
+        }
+    }
+    true
+}
+
+/// Puts entries in order by their names, and says whether these are apart.
+pub fn sort_names(entries: &mut Vec<Entry>) -> bool
+    ensures apart { IsTrue result ↔ NamesDiffer entries.old.items }
+    ensures order { IsTrue result → entries.new.items ≡ in_order entries.old.items }
+{
+    entries.sort_unstable_by(|first, second| first.name.compare(&second.name));
+    entries.is_sorted_by(|first, second| first.name.compare(&second.name).is_lt())
+}
