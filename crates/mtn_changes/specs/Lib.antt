@@ -1,3 +1,3 @@
 pub mod Changes
-pub mod Stanzas
 pub mod Lines
+pub mod Stanzas

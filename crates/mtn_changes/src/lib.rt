@@ -11,5 +11,7 @@
 
 mod change;
 mod lines;
+mod stanzas;
 
 pub use change::{Change, Changeset, Edge, MAX_KEY, Revision};
+pub use stanzas::change_of;
