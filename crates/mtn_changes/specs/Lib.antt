@@ -1,3 +1,4 @@
 pub mod Changes
 pub mod Lines
 pub mod Stanzas
+pub mod Heads

@@ -10,8 +10,12 @@
 #![tactic(auto)]
 
 mod change;
+mod head;
 mod lines;
 mod stanzas;
+#[cfg(test)]
+mod tests;
 
 pub use change::{Change, Changeset, Edge, MAX_KEY, Revision};
-pub use stanzas::change_of;
+pub use head::{Head, head_of, stanza_of_head};
+pub use stanzas::{change_of, stanza_of};

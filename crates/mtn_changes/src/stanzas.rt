@@ -1,12 +1,13 @@
 // The change that a stanza spells, kind by kind.
-ghost use Rattle.std.specs.Prelude.{◌≡◌, ◌↔◌, IfOk, IsTrue};
+ghost use Rattle.std.specs.Prelude.{◌≡◌, ◌↔◌, true, [], ◌∷◌, IfOk, IsTrue};
+ghost use Rattle.mtn_basic_io.specs.Spelling.{is_symbol};
 ghost use Rattle.mtn_changes.specs.Changes.{IsKey};
-ghost use Rattle.mtn_changes.specs.Stanzas.{IsRead, IsReadOf};
+ghost use Rattle.mtn_changes.specs.Stanzas.{IsRead, IsReadOf, id_line as id_spelled, path_line as path_spelled, stanza_of as spelled, text_line as text_spelled};
 
 use crate::change::{Change, MAX_KEY};
 use crate::lines::{id_of, path_of, text_of};
-use mtn_base::{Bytes, NoMemory};
-use mtn_basic_io::Stanza;
+use mtn_base::{Bytes, Id, NoMemory, Path};
+use mtn_basic_io::{Line, Stanza, Value};
 use std::alloc::Global;
 
 fn is_key(text: &[u8]) -> bool
@@ -153,4 +154,80 @@ pub fn change_of(alloc: Global, stanza: &Stanza) -> Result<Option<Change>, NoMem
         return Ok(Some(change));
     }
     set_in(alloc, stanza)
+}
+
+fn path_line(alloc: Global, symbol: &[u8], path: &Path) -> Result<Line, NoMemory>
+    requires { is_symbol symbol.now ≡ true }
+    ensures { IfOk result (λ l. l ≡ path_spelled symbol.now path.now) }
+{
+    let mut text = Vec::new(alloc);
+    path.write(&mut text)?;
+    Line::new(alloc, symbol, Value::Text(Bytes::from_vec(text)))
+}
+
+fn text_line(alloc: Global, symbol: &[u8], text: &Bytes) -> Result<Line, NoMemory>
+    requires { is_symbol symbol.now ≡ true }
+    ensures { IfOk result (λ l. l ≡ text_spelled symbol.now text.now) }
+{
+    Line::new(alloc, symbol, Value::Text(text.copy(alloc)?))
+}
+
+fn id_line(alloc: Global, symbol: &[u8], id: &Id) -> Result<Line, NoMemory>
+    requires { is_symbol symbol.now ≡ true }
+    ensures { IfOk result (λ l. l ≡ id_spelled symbol.now id.now) }
+{
+    Line::new(alloc, symbol, Value::Hex(Some(*id)))
+}
+
+fn stanza_of_two(alloc: Global, first: Line, second: Line) -> Result<Stanza, NoMemory>
+    ensures { IfOk result (λ s. s ≡ first ∷ second ∷ []) }
+{
+    let mut stanza = Stanza::new(alloc, first)?;
+    stanza.push(second)?;
+    Ok(stanza)
+}
+
+fn stanza_of_three(
+    alloc: Global,
+    first: Line,
+    second: Line,
+    third: Line,
+) -> Result<Stanza, NoMemory>
+    ensures { IfOk result (λ s. s ≡ first ∷ second ∷ third ∷ []) }
+{
+    let mut stanza = stanza_of_two(alloc, first, second)?;
+    stanza.push(third)?;
+    Ok(stanza)
+}
+
+/// The stanza of a change.
+pub fn stanza_of(alloc: Global, change: &Change) -> Result<Stanza, NoMemory>
+    ensures { IfOk result (λ s. s ≡ spelled change.now) }
+{
+    match change {
+        Change::Delete { path } => Stanza::new(alloc, path_line(alloc, b"delete", path)?),
+        Change::Rename { path, to } => {
+            let path = path_line(alloc, b"rename", path)?;
+            stanza_of_two(alloc, path, path_line(alloc, b"to", to)?)
+        }
+        Change::AddDir { path } => Stanza::new(alloc, path_line(alloc, b"add_dir", path)?),
+        Change::AddFile { path, content } => {
+            let path = path_line(alloc, b"add_file", path)?;
+            stanza_of_two(alloc, path, id_line(alloc, b"content", content)?)
+        }
+        Change::Patch { path, from, to } => {
+            let path = path_line(alloc, b"patch", path)?;
+            let from = id_line(alloc, b"from", from)?;
+            stanza_of_three(alloc, path, from, id_line(alloc, b"to", to)?)
+        }
+        Change::Clear { path, key } => {
+            let path = path_line(alloc, b"clear", path)?;
+            stanza_of_two(alloc, path, text_line(alloc, b"attr", key)?)
+        }
+        Change::Set { path, key, value } => {
+            let path = path_line(alloc, b"set", path)?;
+            let key = text_line(alloc, b"attr", key)?;
+            stanza_of_three(alloc, path, key, text_line(alloc, b"value", value)?)
+        }
+    }
 }
