@@ -1,8 +1,9 @@
 // What a command refuses, and the line that it prints for it.
-ghost use Rattle.std.specs.Prelude.{◌≡◌};
+ghost use Rattle.std.specs.Prelude.{◌≡◌, IfOk};
 ghost use Rattle.mtn_base.specs.Refusals.{why_name, packet_why_name, field_name, cause_name};
 
-use crate::{Id, Path};
+use crate::{Id, NoMemory, Path};
+use std::alloc::Global;
 
 /// Why a change of a changeset fails.
 #[derive(Clone, Copy, Debug, PartialEq, Eq)]
@@ -165,5 +166,80 @@ impl Cause {
             Cause::StoreNotEmpty { .. } => "StoreNotEmpty",
             Cause::BadRequest { .. } => "BadRequest",
         }
+    }
+
+    /// An equal cause.
+    pub fn copy(&self, alloc: Global) -> Result<Cause, NoMemory>
+        ensures { IfOk result (λ cause. cause ≡ self.now) }
+    {
+        Ok(match self {
+            Cause::TextTooLong { length } => Cause::TextTooLong { length: *length },
+            Cause::NotText { place } => Cause::NotText { place: *place },
+            Cause::BadStanza { number } => Cause::BadStanza { number: *number },
+            Cause::BadOrder { number } => Cause::BadOrder { number: *number },
+            Cause::Repeated { number } => Cause::Repeated { number: *number },
+            Cause::BadEdge { number } => Cause::BadEdge { number: *number },
+            Cause::Collision { id } => Cause::Collision { id: *id },
+            Cause::LogFull { count } => Cause::LogFull { count: *count },
+            Cause::UnknownParent { id } => Cause::UnknownParent { id: *id },
+            Cause::BadChange { edge, number, why } => Cause::BadChange {
+                edge: *edge,
+                number: *number,
+                why: *why,
+            },
+            Cause::Disagree { path } => Cause::Disagree {
+                path: path.copy(alloc)?,
+            },
+            Cause::Revived { path } => Cause::Revived {
+                path: path.copy(alloc)?,
+            },
+            Cause::TooManyNodes { count } => Cause::TooManyNodes { count: *count },
+            Cause::PathTooLong { path } => Cause::PathTooLong {
+                path: path.copy(alloc)?,
+            },
+            Cause::UnknownFile { id } => Cause::UnknownFile { id: *id },
+            Cause::ManifestDiffers { computed } => Cause::ManifestDiffers {
+                computed: *computed,
+            },
+            Cause::UnknownRevision { id } => Cause::UnknownRevision { id: *id },
+            Cause::NoSuchPath { path } => Cause::NoSuchPath {
+                path: path.copy(alloc)?,
+            },
+            Cause::NotAFile { path } => Cause::NotAFile {
+                path: path.copy(alloc)?,
+            },
+            Cause::Related { older, newer } => Cause::Related {
+                older: *older,
+                newer: *newer,
+            },
+            Cause::UnknownNode { number } => Cause::UnknownNode { number: *number },
+            Cause::NotADirectory { number } => Cause::NotADirectory { number: *number },
+            Cause::NotAConflict { number } => Cause::NotAConflict { number: *number },
+            Cause::BadField { field } => Cause::BadField { field: *field },
+            Cause::NoBranch => Cause::NoBranch,
+            Cause::OneHead { id } => Cause::OneHead { id: *id },
+            Cause::BadPacket { number, why } => Cause::BadPacket {
+                number: *number,
+                why: *why,
+            },
+            Cause::IdMismatch { number, computed } => Cause::IdMismatch {
+                number: *number,
+                computed: *computed,
+            },
+            Cause::StoreNotEmpty { count } => Cause::StoreNotEmpty { count: *count },
+            Cause::BadRequest { number } => Cause::BadRequest { number: *number },
+        })
+    }
+}
+
+impl Refusal {
+    /// An equal refusal.
+    pub fn copy(&self, alloc: Global) -> Result<Refusal, NoMemory>
+        ensures { IfOk result (λ refusal. refusal ≡ self.now) }
+    {
+        Ok(Refusal {
+            packet: self.packet,
+            cause: self.cause.copy(alloc)?,
+        })
     }
 }

@@ -143,3 +143,6 @@ impl Refusal {
         Ok(())
     }
 }
+
+#[cfg(test)]
+mod tests;

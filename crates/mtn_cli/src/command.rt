@@ -1,5 +1,5 @@
 // The grammar of words.
-ghost use Rattle.std.specs.Prelude.{◌≡◌, option_copied};
+ghost use Rattle.std.specs.Prelude.{◌≡◌, option_copied, is_some};
 ghost use Rattle.mtn_cli.specs.Words.{call_of, call_with as call_named, is_end as ends_options, is_option as begins_option, positionals_of, put_file_call as put_file_words, get_file_call as get_file_words};
 
 use mtn_base::{Bytes, Id};
@@ -38,6 +38,13 @@ pub fn read_words(words: &[Bytes]) -> Option<Call>
             None => None,
         },
     }
+}
+
+/// Whether the words are in the grammar. It takes no memory.
+pub fn are_words(words: &[Bytes]) -> bool
+    ensures { result ≡ is_some (call_of words.now) }
+{
+    read_words(words).is_some()
 }
 
 // The words behind the options.

@@ -1,13 +1,26 @@
-//! One public call, `run`, that does all that the program does.
+//! One public call, `run`, that does all that the program does, and the theorem on it.
+//!
+//! *Words* are a command and its arguments, the *payload* is what the source gives. A command is done
+//! over a *draft* of the store (`mtn_history`), and its *answer* is a status and a text. What each
+//! command does to a state is one equation of the step (`specs/Step.antt`), what words spell it one
+//! equation of the grammar (`specs/Words.antt`), and its function has the one clause `Drafts` that all
+//! have; the frame (open a draft, do the command, finish, write) is proved once for all of them.
+//!
+//! The program relies on this: the clauses of `run` say what each status leaves and when it comes,
+//! whatever the source, the sink and the keeper do, and what a crash may leave.
 #![tactic(auto)]
 
 mod answer;
 mod command;
+mod deliver;
 mod get_file;
 mod payload;
 mod put_file;
-mod top;
+mod settle;
 mod status;
+mod top;
 
-pub use top::run;
+pub use command::are_words;
+pub use payload::MAX_INPUT;
 pub use status::Status;
+pub use top::run;

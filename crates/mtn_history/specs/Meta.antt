@@ -45,4 +45,3 @@ CountDamage c (Missing table key) = ⊥
 -- a record of table 1 that fails its reader, or that `count` asks for and is not there
 abbrev pub MetaDamage : Contents → Damage → Type 0
 MetaDamage c d = IsSome (body_at c 1 count_key) × (VersionDamage c d ⊎ CountDamage c d)
-

@@ -1,0 +1,39 @@
+// What `--help` and `--version` print.
+
+/// The grammar of words, and what each status leaves.
+pub const HELP: &str = "\
+mtn STORE COMMAND [WORD..]
+
+STORE is the file that holds the store, which is made where there is none, or
+`-` for an empty store in memory. The input of a command is standard input, its
+output standard output. The word `--` ends the options of a command.
+
+Commands:
+  put_file       keeps the input as a file; prints its id
+  get_file FILE  prints the bytes of the file with this id
+
+FILE is the id of a file: 40 lower-case hexadecimal digits, the SHA-1 of its
+bytes.
+
+  mtn --help     prints this
+  mtn --version  prints the version
+
+Exit status:
+  0  done; the output is written
+  1  refused; the line of the refusal is written, and the store is as it was
+  2  the words are none of the above; `usage` is written, and nothing is opened
+     or read
+  3  a merge found conflicts; their text is written, and the store is as it was
+  4  the input failed; nothing is written, and the store is as it was
+  5  the output failed; the command was done, and a front of its output is
+     written
+  6  the store failed; nothing is written, and the store is as it was
+  7  memory is wanting; nothing is written, and the store is as it was
+  8  the store is damaged; the record that shows it is written, and the store is
+     as it was
+  9  the input has more than 268435456 bytes; nothing is written, and the store
+     is as it was
+";
+
+/// The program and its version.
+pub const VERSION: &str = "mtn 0.1.0 (Sonnavil)\n";

@@ -1,0 +1,81 @@
+//! The program: `mtn STORE WORD..` runs one command over a store.
+//!
+//! STORE is a file, or `-` for an empty store in memory. The payload is standard input, the answer
+//! standard output, the exit status the number of the answer's status. Nothing is printed to standard
+//! error. The proofs here say that the program is safe and ends; what a command does is said by the
+//! clauses of `mtn_cli::run`.
+#![tactic(auto)]
+
+mod help;
+mod store;
+
+use help::{HELP, VERSION};
+use mtn_base::{Bytes, List, NoMemory};
+use mtn_cli::{Status, are_words};
+use std::env;
+use std::io::{ErrorKind, Write};
+use std::process::ExitCode;
+use std::thread::Threads;
+use store::{in_file, in_memory};
+
+/// What the command line asks for.
+#[derive(Debug, Drop)]
+enum Line {
+    /// A command over a store.
+    Command { store: String, words: List<Bytes> },
+    /// `--help` or `--version` as the only word.
+    Text(&'static str),
+    /// No store, or words that are not UTF-8; words outside the grammar are found later, before the store
+    /// is opened.
+    Usage,
+}
+
+fn line_of(rt: &HostRuntime) -> Result<Line, NoMemory> {
+    let mut args = match env::args(rt) {
+        Ok(args) => args.skip(1),
+        Err(error) if error.kind() == ErrorKind::InvalidData => return Ok(Line::Usage),
+        Err(_) => return Err(NoMemory),
+    };
+    let Some(store) = args.next() else {
+        return Ok(Line::Usage);
+    };
+    let mut words = List::new(rt.alloc());
+    for arg in args {
+        words.push(List::from_vec(arg.into_bytes()))?;
+    }
+    if words.as_slice().is_empty() {
+        match store.as_str() {
+            "--help" => return Ok(Line::Text(HELP)),
+            "--version" => return Ok(Line::Text(VERSION)),
+            _ => {}
+        }
+    }
+    Ok(Line::Command { store, words })
+}
+
+// Prints a text; no store is opened.
+fn print(rt: &HostRuntime, text: &str, status: Status) -> Status {
+    match rt.stdout().write_all(text.as_bytes()) {
+        Ok(()) => status,
+        Err(_) => Status::SinkFault,
+    }
+}
+
+fn status_of<T: Threads + Sync>(threads: &T, rt: &HostRuntime) -> Status {
+    match line_of(rt) {
+        Ok(Line::Text(text)) => print(rt, text, Status::Ok),
+        Ok(Line::Usage) => print(rt, "usage\n", Status::Usage),
+        Ok(Line::Command { words, .. }) if !are_words(words.as_slice()) => {
+            print(rt, "usage\n", Status::Usage)
+        }
+        Ok(Line::Command { store, words }) => match store.as_str() {
+            "-" => in_memory(threads, rt, words.as_slice()),
+            path => in_file(threads, rt, path, words.as_slice()),
+        },
+        Err(NoMemory) => Status::NoMemory,
+    }
+}
+
+fn main(rt: HostRuntime) -> ExitCode {
+    ExitCode::from(status_of(&rt, &rt).number())
+}

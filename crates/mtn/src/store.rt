@@ -1,0 +1,58 @@
+// A command over the store that the first word names.
+use mtn_base::Bytes;
+use mtn_cli::{Status, run};
+use mtn_keeper::SqliteKeeper;
+use mtn_ports::{Batch, KeepError, Keeper, MemKeeper, Sha1One, StdSink, StdSource};
+use sqlite::{Connection, Error, ErrorCode};
+use std::thread::Threads;
+
+/// A command over an empty store in memory.
+pub fn in_memory<T: Threads + Sync>(threads: &T, rt: &HostRuntime, words: &[Bytes]) -> Status {
+    let alloc = rt.alloc();
+    match MemKeeper::new(Batch::new(alloc), Vec::new(alloc)) {
+        Ok(mut keeper) => over(threads, rt, words, &mut keeper),
+        Err(_) => Status::NoMemory,
+    }
+}
+
+/// A command over a store in a file, which is made where there is none. Closing folds the log of
+/// changes into the file; where that fails they stay in the log, and the next opening finds them.
+pub fn in_file<T: Threads + Sync>(
+    threads: &T,
+    rt: &HostRuntime,
+    path: &str,
+    words: &[Bytes],
+) -> Status {
+    let connection = match Connection::open(rt, path) {
+        Ok(connection) => connection,
+        Err(Error::SqliteFailure(ErrorCode::OutOfMemory)) => return Status::NoMemory,
+        Err(_) => return Status::StoreFault,
+    };
+    let mut keeper = match SqliteKeeper::new(connection) {
+        Ok(keeper) => keeper,
+        Err(KeepError::NoMemory) => return Status::NoMemory,
+        Err(KeepError::Failed) => return Status::StoreFault,
+    };
+    let status = over(threads, rt, words, &mut keeper);
+    let _ = keeper.into_connection().close();
+    status
+}
+
+fn over<T: Threads + Sync, K: Keeper>(
+    threads: &T,
+    rt: &HostRuntime,
+    words: &[Bytes],
+    keeper: &mut K,
+) -> Status {
+    let mut source = StdSource::new(rt.stdin());
+    let mut sink = StdSink::new(rt.stdout());
+    run(
+        threads,
+        rt.alloc(),
+        words,
+        &Sha1One,
+        &mut source,
+        &mut sink,
+        keeper,
+    )
+}

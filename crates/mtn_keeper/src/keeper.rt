@@ -1,0 +1,101 @@
+// The keeper: each refusal of the database is counted as a fault, except want of memory.
+ghost use Rattle.std.specs.Prelude.{◌≡◌, ◌≤◌, None, ⊤, IfOk, IsErrOf};
+ghost use Rattle.mtn_ports.specs.Causes.{Rose};
+
+use crate::database::{make_table, put_all, read_bytes};
+use crate::statements::{GET, NEXT};
+use mtn_ports::{Batch, KeepError, Keeper};
+use sqlite::{Alter, Connection, Error, ErrorCode};
+use std::cmp::Ordering;
+
+/// Records in a SQLite database. It tells no contents, and so no contents that a crash may leave.
+#[derive(Drop)]
+pub struct SqliteKeeper<S: Alter + Drop> {
+    connection: Connection<S>,
+    faults: u64,
+    reads: u64,
+}
+
+impl<S: Alter + Drop> SqliteKeeper<S> {
+    /// Makes the table where the database has nothing of its own. It answers `Failed` where a call was refused
+    /// for another cause than memory, where a transaction is open, and where the database has any other table,
+    /// view, index or trigger than our table; the database then is as it was.
+    pub fn new(mut connection: Connection<S>) -> Result<SqliteKeeper<S>, KeepError>
+        ensures faults { IfOk result (λ k. k.faults ≡ 0) }
+        ensures reads { IfOk result (λ k. k.reads ≡ 0) }
+    {
+        match make_table(&mut connection) {
+            Ok(()) => Ok(SqliteKeeper {
+                connection,
+                faults: 0,
+                reads: 0,
+            }),
+            Err(error) => Err(cause_of(error)),
+        }
+    }
+
+    /// The connection, to be closed. It takes no memory.
+    pub fn into_connection(self) -> Connection<S>
+        ensures { result ≡ self.connection }
+    {
+        self.connection
+    }
+
+    // Counts a refusal, except want of memory.
+    fn refuse(&mut self, error: Error) -> KeepError
+        ensures failed { result ≡ KeepError.Failed → Rose self.old.faults self.new.faults }
+        ensures later { self.old.faults ≤ self.new.faults }
+        ensures reads { self.new.reads ≡ self.old.reads }
+    {
+        let cause = cause_of(error);
+        if cause == KeepError::Failed {
+            self.faults = self.faults.saturating_add(1);
+        }
+        cause
+    }
+}
+
+fn cause_of(error: Error) -> KeepError {
+    match error {
+        Error::SqliteFailure(ErrorCode::OutOfMemory) => KeepError::NoMemory,
+        _ => KeepError::Failed,
+    }
+}
+
+impl<S: Alter + Drop> Keeper for SqliteKeeper<S> {
+    ghost contents = { λ _. None };
+
+    ghost faults = { λ k. k.faults };
+
+    ghost reads = { λ k. k.reads };
+
+    ghost leaves = { λ _ _. ⊤ };
+
+    fn get(&mut self, table: u8, key: &[u8], out: &mut Vec<u8>) -> Result<bool, KeepError> {
+        self.reads = self.reads.saturating_add(1);
+        match read_bytes(&mut self.connection, GET, table, key, out) {
+            Ok(found) => Ok(found),
+            Err(error) => Err(self.refuse(error)),
+        }
+    }
+
+    fn next(&mut self, table: u8, after: &[u8], key: &mut Vec<u8>) -> Result<bool, KeepError> {
+        self.reads = self.reads.saturating_add(1);
+        match read_bytes(&mut self.connection, NEXT, table, after, key) {
+            Ok(false) => Ok(false),
+            Ok(true) => match after.cmp(key.as_slice()) {
+                Ordering::Less => Ok(true),
+                // The database gave a key that it was not asked for.
+                _ => Err(self.refuse(Error::SqliteFailure(ErrorCode::DatabaseCorrupt))),
+            },
+            Err(error) => Err(self.refuse(error)),
+        }
+    }
+
+    fn apply(&mut self, batch: &Batch) -> Result<(), KeepError> {
+        match put_all(&mut self.connection, batch) {
+            Ok(()) => Ok(()),
+            Err(error) => Err(self.refuse(error)),
+        }
+    }
+}

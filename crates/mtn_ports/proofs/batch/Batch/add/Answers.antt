@@ -1,0 +1,19 @@
+use Rattle.std.proofs.Common.{◌≡◌, ◌++◌, ◌∷◌, [], List, length, Some, sym, ap, ◌∙◌, subst, arith}
+use Rattle.mtn_ports.specs.declared.batch.Put.{Put}
+use Rattle.mtn_ports.specs.Newest.{SetsPlace, newest_place}
+use Rattle.mtn_ports.proofs.NewestLemmas.{index_push, older_push}
+use Rattle.mtn_ports.proofs.batch.Batch.add.Goals as goal
+
+pub invariant_of-self-2 : goal.invariant_of-self-2
+invariant_of-self-2 c =
+    let old = c.self.inside in
+    let p : Put = record { table = c.args.table; key = c.in_ok-from_slice.field-0; body = c.in_ok-from_slice-2.field-0 } in
+    let all : c.push_within.new.items.items ≡ old.puts.items ++ p ∷ [] = c.push_within.ensures ∙ ap (λ (ps : List Put). ps ++ p ∷ []) c.in_ok-reserve.ensures.items in
+    let at : c.len.result ≡ length old.puts.items = omega (arith, old.puts.ok.0, c.len.ensures, c.in_ok-reserve.ensures.len) in
+    record {
+      places = index_push old.index c.put.new.self old.puts.items c.push_within.new.items.items p c.len.result c.self.invariant.places at
+          (subst (λ key. SetsPlace old.index c.put.new.self c.args.table key (Some c.len.result)) (sym c.in_ok-from_slice.ensures) c.in_ok-older.ensures.ok) all;
+      older = older_push old.older.items c.push_within-2.new.items.items c.in_ok-older.older old.puts.items c.push_within.new.items.items p c.self.invariant.older
+          (c.in_ok-older.ensures.older ∙ c.self.invariant.places c.args.table c.args.key.now ∙ ap (λ key. newest_place c.args.table key old.puts.items) (sym c.in_ok-from_slice.ensures))
+          (c.push_within-2.ensures ∙ ap (λ os. os ++ c.in_ok-older.older ∷ []) c.in_ok-reserve-2.ensures.items) all;
+    }

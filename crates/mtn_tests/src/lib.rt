@@ -1,0 +1,11 @@
+//! Tests that cross crates: `run` over objects in memory, with worked rows as tables.
+#![tactic(auto)]
+
+#[cfg(test)]
+mod doubt;
+#[cfg(test)]
+mod faults;
+#[cfg(test)]
+mod files;
+#[cfg(test)]
+mod given;
