@@ -1,6 +1,7 @@
 // Stanzas of each kind, and stanzas that spell nothing.
 use crate::{
-    Change, Changeset, Edge, Head, Revision, change_of, head_of, stanza_of, stanza_of_head,
+    Change, ChangeTextError, Changeset, Edge, Head, Revision, change_of, head_of, read_changes,
+    stanza_of, stanza_of_head,
 };
 use mtn_base::{Id, List};
 use mtn_basic_io::{Stanza, read, write};
@@ -9,7 +10,7 @@ use std::test::Fail;
 
 /// A stanza of each kind of change.
 const CHANGES: &[u8] =
-    b"delete \"a\"\n\nrename \"a\"\n    to \"b/c\"\n\nadd_dir \"\"\n\nadd_file \"x\"\n content [0123456789abcdef0123456789abcdef01234567]\n\npatch \"x\"\n from [0123456789abcdef0123456789abcdef01234567]\n   to [89abcdef0123456789abcdef0123456789abcdef]\n\nclear \"x\"\n attr \"k\"\n\n  set \"x\"\n attr \"k\"\nvalue \"a \\\"b\\\"\"\n";
+    b"delete \"a\"\n\nrename \"a\"\n    to \"b/c\"\n\nadd_dir \"\"\n\nadd_file \"x\"\n content [0123456789abcdef0123456789abcdef01234567]\n\npatch \"x\"\n from [0123456789abcdef0123456789abcdef01234567]\n   to [89abcdef0123456789abcdef0123456789abcdef]\n\nclear \"x\"\n attr \"k\"\n\n  set \"y\"\n attr \"k\"\nvalue \"a \\\"b\\\"\"\n";
 
 /// A stanza of each kind of head.
 const HEADS: &[u8] =
@@ -76,5 +77,74 @@ fn other_stanzas_spell_nothing(rt: HostRuntime) -> Result<(), Fail> {
         assert_eq!(rt; head_of(stanza), None::<Head>);
         assert!(rt; change_of(rt.alloc(), stanza)?.is_none());
     }
+    Ok(())
+}
+
+/// Texts of changes that are none, and why.
+const FAULTS: [(&[u8], ChangeTextError); 12] = [
+    (b"x", ChangeTextError::NotText { place: 1 }),
+    (b"remove \"a\"\n", ChangeTextError::BadStanza { number: 1 }),
+    (
+        b"format_version \"1\"\n",
+        ChangeTextError::BadOrder { number: 1 },
+    ),
+    (
+        b"delete \"a\"\n\nold_revision []\n",
+        ChangeTextError::BadOrder { number: 2 },
+    ),
+    (
+        b"old_revision \"\"\n",
+        ChangeTextError::BadStanza { number: 1 },
+    ),
+    (
+        b"add_dir \"a\"\n\ndelete \"a\"\n",
+        ChangeTextError::BadOrder { number: 2 },
+    ),
+    (
+        b"delete \"a\"\n\ndelete \"b\"\n\ndelete \"a\"\n",
+        ChangeTextError::Repeated { number: 3 },
+    ),
+    (
+        b"rename \"a\"\n    to \"b\"\n\nrename \"a\"\n    to \"c\"\n",
+        ChangeTextError::Repeated { number: 2 },
+    ),
+    (
+        b"clear \"x\"\n attr \"k\"\n\n  set \"x\"\n attr \"k\"\nvalue \"\"\n",
+        ChangeTextError::Repeated { number: 2 },
+    ),
+    (
+        b"  set \"x\"\n attr \"k\"\nvalue \"1\"\n\n  set \"x\"\n attr \"k\"\nvalue \"2\"\n",
+        ChangeTextError::Repeated { number: 2 },
+    ),
+    (
+        b"delete \"a\"\n\ndelete \"a/\"\n\ndelete \"a\"\n",
+        ChangeTextError::BadStanza { number: 2 },
+    ),
+    (
+        b"  set \"x\"\n attr \"k\"\nvalue \"\"\n\nclear \"x\"\n attr \"k\"\n",
+        ChangeTextError::BadOrder { number: 2 },
+    ),
+];
+
+#[test]
+fn the_first_fault_decides(rt: HostRuntime) {
+    for (text, fault) in FAULTS {
+        assert_eq!(rt;
+            read_changes(rt.alloc(), text).err(),
+            Some(fault),
+            "in {text:?}"
+        );
+    }
+}
+
+#[test]
+fn lists_of_changes_are_read(rt: HostRuntime) -> Result<(), Fail> {
+    let all = read_changes(rt.alloc(), CHANGES)?;
+    assert_eq!(rt; all.changes.as_slice().len(), 7);
+    let none = read_changes(rt.alloc(), b"")?;
+    assert!(rt; none.changes.as_slice().is_empty());
+    let apart = b"add_dir \"a\"\n\nclear \"a\"\n attr \"k\"\n\nclear \"a\"\n attr \"l\"\n";
+    let apart = read_changes(rt.alloc(), apart)?;
+    assert_eq!(rt; apart.changes.as_slice().len(), 3);
     Ok(())
 }
