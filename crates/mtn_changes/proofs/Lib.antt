@@ -1,1 +1,3 @@
 pub mod PathText
+pub mod Seven
+pub mod Parts

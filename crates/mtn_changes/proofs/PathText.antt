@@ -1,16 +1,14 @@
 -- A text that is no path spells none.
-use Rattle.std.proofs.Common.{◌≡◌, ℕ, ◌<◌, ◌≤◌, Bool, true, false, List, [], ◌∷◌, ◌++◌, length, Option, Some, None, refl, sym, ap, ◌∙◌, subst, inl, inr, arith}
-use Rattle.std.specs.Prelude.{◌==◌, ◌||◌, not, nat_lt, All, ◌⊎◌}
+use Rattle.std.proofs.Common.{◌≡◌, ℕ, ◌<◌, true, false, List, [], ◌∷◌, length, None, refl, ap, ◌∙◌, subst, inl, inr, arith}
+use Rattle.std.specs.Prelude.{◌==◌, ◌||◌, nat_lt, All}
 use Rattle.std.specs.List.{list_all}
-use Rattle.std.proofs.lemmas.Bool.{and_parts, or_parts, not-true, false_from_ne_true}
+use Rattle.std.proofs.lemmas.Bool.{and_parts, or_parts, not-true}
 use Rattle.std.proofs.lemmas.List.Elements.{All-nil, All-cons}
 use Rattle.std.proofs.lemmas.List.Splits.{slice_split_at, slice_split_none}
-use Rattle.mtn_base.specs.Comps.{IsComp, AreComps, is_dots, is_plain_byte}
+use Rattle.mtn_base.specs.Comps.{IsComp, AreComps, is_plain_byte}
 use Rattle.mtn_base.specs.Paths.{path_text, pieces_of, IsCompFault, IsFirstFault, IsPathFault}
 use Rattle.mtn_base.specs.declared.path.PathError.{PathError}
 use Rattle.mtn_base.specs.declared.path.PathError.TheVariants.{Empty, Dots, TooLong, BadByte, NoMemory}
-use Rattle.mtn_basic_io.specs.declared.stanza.Value.TheVariants.{Text}
-use Rattle.mtn_basic_io.specs.Spelling.{LineText}
 use Rattle.mtn_changes.specs.Stanzas.{IsPathText}
 
 -- no slash in a component

@@ -1,3 +1,8 @@
 pub mod Changes
-pub mod Stanzas
 pub mod Lines
+pub mod Stanzas
+pub mod Heads
+pub mod Slots
+pub mod Lists
+pub mod Faults
+pub mod ChangesText

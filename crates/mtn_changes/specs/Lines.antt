@@ -14,6 +14,10 @@ abbrev pub id_alone : List Value → Option Id
 id_alone (Hex (Some id) ∷ []) = Some id
 id_alone _ = None
 
+abbrev pub parent_alone : List Value → Option (Option Id)
+parent_alone (Hex id ∷ []) = Some id
+parent_alone _ = None
+
 -- the one text of a line of this symbol
 abbrev pub text_behind : List ℕ → LineText → Option (List ℕ)
 text_behind symbol l = if pointwise nat_eq l.symbol symbol then text_alone l.values else None
@@ -21,3 +25,7 @@ text_behind symbol l = if pointwise nat_eq l.symbol symbol then text_alone l.val
 -- the one id of a line of this symbol
 abbrev pub id_behind : List ℕ → LineText → Option Id
 id_behind symbol l = if pointwise nat_eq l.symbol symbol then id_alone l.values else None
+
+-- the one id or empty id of a line of this symbol
+abbrev pub parent_behind : List ℕ → LineText → Option (Option Id)
+parent_behind symbol l = if pointwise nat_eq l.symbol symbol then parent_alone l.values else None

@@ -1,5 +1,5 @@
 -- The stanza of each change, as Monotone spells it.
-use Rattle.std.specs.Prelude.{◌≡◌, ◌⊎◌, ℕ, List, [], ◌∷◌, codes, Option, Some, None}
+use Rattle.std.specs.Prelude.{◌≡◌, ℕ, List, [], ◌∷◌, codes, Option, Some, None}
 use Rattle.mtn_base.specs.declared.id.Id.{Id}
 use Rattle.mtn_base.specs.Comps.{AreComps}
 use Rattle.mtn_base.specs.Paths.{path_text}

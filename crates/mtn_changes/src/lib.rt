@@ -6,10 +6,24 @@
 //! rise and whose slots differ. A *revision* names its manifest and has one edge or two.
 //!
 //! The crates above rely on this: what is read of a stanza is the one change that the stanza spells
-//! (`specs/Stanzas.antt`), and None comes exactly where it spells none.
+//! (`specs/Stanzas.antt`), and None comes exactly where it spells none; a list of changes is read
+//! exactly, and otherwise the first stanza at fault has its number (`specs/ChangesText.antt`). A list
+//! of n changes costs n looks into an ordered set.
 #![tactic(auto)]
 
 mod change;
+mod error;
+mod head;
 mod lines;
+mod order;
+mod reading;
+mod slot;
+mod stanzas;
+#[cfg(test)]
+mod tests;
 
 pub use change::{Change, Changeset, Edge, MAX_KEY, Revision};
+pub use error::ChangeTextError;
+pub use head::{Head, head_of, stanza_of_head};
+pub use reading::read_changes;
+pub use stanzas::{change_of, stanza_of};

@@ -1,15 +1,14 @@
 // Lines of one value.
-ghost use Rattle.std.specs.Prelude.{◌≡◌, IfOk};
+ghost use Rattle.std.specs.Prelude.{◌≡◌, IfOk, IfSome};
 ghost use Rattle.std.specs.Option.{option_copied};
-ghost use Rattle.mtn_changes.specs.Lines.{text_behind, id_behind};
-ghost use Rattle.mtn_changes.specs.Stanzas.{IsPathOf, IsPathText};
+ghost use Rattle.mtn_changes.specs.Lines.{id_behind, parent_behind, text_behind};
+ghost use Rattle.mtn_changes.specs.Stanzas.{IsPathOf, IsPathText, id_line, line_of, text_line};
 
 use mtn_base::{Id, NoMemory, Path, PathError};
 use mtn_basic_io::{Line, Value};
 use std::alloc::Global;
 
-/// The text of a line of this symbol, which has one value.
-pub fn text_of<'a>(line: &'a Line, symbol: &[u8]) -> Option<&'a [u8]>
+fn text_alone<'a>(line: &'a Line, symbol: &[u8]) -> Option<&'a [u8]>
     ensures { option_copied result ≡ text_behind symbol.now line.entry.now }
 {
     if line.symbol.as_slice() != symbol {
@@ -21,8 +20,7 @@ pub fn text_of<'a>(line: &'a Line, symbol: &[u8]) -> Option<&'a [u8]>
     }
 }
 
-/// The id of a line of this symbol, which has one value.
-pub fn id_of(line: &Line, symbol: &[u8]) -> Option<Id>
+fn id_alone(line: &Line, symbol: &[u8]) -> Option<Id>
     ensures { result ≡ id_behind symbol.now line.now }
 {
     if line.symbol.as_slice() != symbol {
@@ -32,6 +30,42 @@ pub fn id_of(line: &Line, symbol: &[u8]) -> Option<Id>
         [Value::Hex(Some(id))] => Some(*id),
         _ => None,
     }
+}
+
+fn parent_alone(line: &Line, symbol: &[u8]) -> Option<Option<Id>>
+    ensures { result ≡ parent_behind symbol.now line.now }
+{
+    if line.symbol.as_slice() != symbol {
+        return None;
+    }
+    match line.values.as_slice() {
+        [Value::Hex(id)] => Some(*id),
+        _ => None,
+    }
+}
+
+/// The id or empty id of a line of this symbol, which has one value.
+pub fn parent_of(line: &Line, symbol: &[u8]) -> Option<Option<Id>>
+    ensures value { result ≡ parent_behind symbol.now line.now }
+    ensures spells { IfSome result (λ id. line.now ≡ line_of symbol.now (Value.Hex id)) }
+{
+    parent_alone(line, symbol)
+}
+
+/// The text of a line of this symbol, which has one value.
+pub fn text_of<'a>(line: &'a Line, symbol: &[u8]) -> Option<&'a [u8]>
+    ensures value { option_copied result ≡ text_behind symbol.now line.entry.now }
+    ensures spells { IfSome (option_copied result) (λ text. line.entry.now ≡ text_line symbol.now text) }
+{
+    text_alone(line, symbol)
+}
+
+/// The id of a line of this symbol, which has one value.
+pub fn id_of(line: &Line, symbol: &[u8]) -> Option<Id>
+    ensures value { result ≡ id_behind symbol.now line.now }
+    ensures spells { IfSome result (λ id. line.now ≡ id_line symbol.now id) }
+{
+    id_alone(line, symbol)
 }
 
 #[tactic(auto, using(crate::proofs::PathText::refused_text))]

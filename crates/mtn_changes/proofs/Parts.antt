@@ -1,0 +1,77 @@
+-- A list of changes with one more.
+use Rattle.std.proofs.Common.{◌≡◌, ℕ, zero, suc, ◌+◌, ◌<◌, ◌≤◌, Bool, true, false, cond, List, [], ◌∷◌, ◌++◌, length, get_or, take, drop, map, refl, sym, ap, subst, ◌∙◌, arith}
+use Rattle.std.specs.Prelude.{◌||◌, not}
+use Rattle.std.specs.List.{list_any}
+use Rattle.std.proofs.lemmas.Bool.{not-true, not-false}
+use Rattle.std.proofs.lemmas.List.{length-take-le, length-map}
+use Rattle.std.proofs.lemmas.List.Folds.{list_any-append}
+use Rattle.std.specs.BTreeSet.{BTreeSet, contains, Updates}
+use Rattle.std.specs.BTreeMap.{is_at}
+use Rattle.mtn_changes.specs.declared.change.Change.{Change}
+use Rattle.mtn_changes.specs.declared.slot.Slot.{Slot}
+use Rattle.mtn_changes.specs.Changes.{IsChange, rank}
+use Rattle.mtn_changes.specs.Slots.{slot_of, slot_cmp}
+use Rattle.mtn_basic_io.specs.Spelling.{LineText}
+use Rattle.mtn_changes.specs.declared.order.Fault.{Fault}
+use Rattle.mtn_changes.specs.declared.order.Fault.TheVariants.{BadStanza, BadOrder, Repeated, NoMemory}
+use Rattle.mtn_changes.specs.declared.error.ChangeTextError.{ChangeTextError}
+use Rattle.mtn_changes.specs.Stanzas.{stanza_of}
+use Rattle.mtn_changes.specs.Faults.{numbered_of}
+use Rattle.mtn_changes.specs.ChangesText.{AreChanges, IsFaultAt, IsListFault}
+use Rattle.mtn_changes.specs.Lists.{last_rank, is_taken, IsFault}
+
+pub last_rank-push : (cs : List Change) (c : Change) → last_rank (cs ++ c ∷ []) ≡ rank c
+last_rank-push [] c = refl
+last_rank-push (b ∷ []) c = refl
+last_rank-push (a ∷ b ∷ cs) c = last_rank-push (b ∷ cs) c
+
+or_swap : (a b : Bool) → cond a true b ≡ (b || (a || false))
+or_swap true true = refl
+or_swap true false = refl
+or_swap false true = refl
+or_swap false false = refl
+
+abbrev pub AreSlots : BTreeSet Slot → List Change → Type 0
+AreSlots slots cs = (s : Slot) → contains slot_cmp slots s ≡ list_any (λ c. is_at (slot_cmp (slot_of c)) s) cs
+
+pub taken : (cs : List Change) (slots : BTreeSet Slot) (c : Change) (slot : Slot) (fresh : Bool) → slot ≡ slot_of c → AreSlots slots cs → fresh ≡ not (contains slot_cmp slots slot) → fresh ≡ false → is_taken cs c ≡ true
+taken cs slots c slot fresh is slots_are added old =
+    let has : contains slot_cmp slots slot ≡ true = not-false (contains slot_cmp slots slot) (sym added ∙ old) in
+    sym (slots_are (slot_of c)) ∙ ap (contains slot_cmp slots) (sym is) ∙ has
+
+pub not_taken : (cs : List Change) (slots : BTreeSet Slot) (c : Change) (slot : Slot) (fresh : Bool) → slot ≡ slot_of c → AreSlots slots cs → fresh ≡ not (contains slot_cmp slots slot) → fresh ≡ true → is_taken cs c ≡ false
+not_taken cs slots c slot fresh is slots_are added new =
+    let lacks : contains slot_cmp slots slot ≡ false = not-true (contains slot_cmp slots slot) (sym added ∙ new) in
+    sym (slots_are (slot_of c)) ∙ ap (contains slot_cmp slots) (sym is) ∙ lacks
+
+pub slots_more : (cs : List Change) (old new : BTreeSet Slot) (c : Change) (slot : Slot) → slot ≡ slot_of c → AreSlots old cs → Updates slot_cmp old new slot true → AreSlots new (cs ++ c ∷ [])
+slots_more cs old new c slot is slots_are updates s =
+    updates.0 s
+    ∙ ap (λ (k : Slot). cond (is_at (slot_cmp k) s) true (contains slot_cmp old s)) is
+    ∙ ap (λ (b : Bool). cond (is_at (slot_cmp (slot_of c)) s) true b) (slots_are s)
+    ∙ or_swap (is_at (slot_cmp (slot_of c)) s) (list_any (λ d. is_at (slot_cmp (slot_of d)) s) cs)
+    ∙ sym (list_any-append (λ d. is_at (slot_cmp (slot_of d)) s) cs (c ∷ []))
+
+-- the stanza at a place, behind those before it
+cut_at : (ss : List (List LineText)) (at : ℕ) (s : List LineText) → at < length ss → s ≡ get_or ss at s → ss ≡ take at ss ++ s ∷ drop (suc at) ss
+cut_at [] at s lt is = absurd (omega arith)
+cut_at (t ∷ ss) zero s lt is = ap (λ (u : List LineText). u ∷ ss) (sym is)
+cut_at (t ∷ ss) (suc at) s lt is = ap (λ (us : List (List LineText)). t ∷ us) (cut_at ss at s (omega arith) is)
+
+fault_of : (ss : List (List LineText)) (at : ℕ) (cs : List Change) (s : List LineText) (why : Fault) → at < length ss → s ≡ get_or ss at s → AreChanges cs → take at ss ≡ map stanza_of cs → IsFault cs s why → IsFaultAt ss (at + 1) why
+fault_of ss at cs s why lt is lawful read fault = record {
+  before = cs;
+  stanza = s;
+  rest = drop (suc at) ss;
+  lawful = lawful;
+  whole = cut_at ss at s lt is ∙ ap (λ (us : List (List LineText)). us ++ s ∷ drop (suc at) ss) read;
+  place = omega (arith, length-take-le at ss (omega arith), ap length read, length-map cs stanza_of);
+  fault = fault;
+}
+
+pub list_fault : (ss : List (List LineText)) (at : ℕ) (cs : List Change) (s : List LineText) (why : Fault) (e : ChangeTextError) → at < length ss → s ≡ get_or ss at s → AreChanges cs → take at ss ≡ map stanza_of cs → IsFault cs s why
+    → e ≡ numbered_of why (at + 1) → IsListFault ss e
+list_fault ss at cs s BadStanza e lt is lawful read fault same = let P : ChangeTextError → Type 0 = λ x. IsListFault ss x in subst P (sym same) (fault_of ss at cs s BadStanza lt is lawful read fault)
+list_fault ss at cs s BadOrder e lt is lawful read fault same = let P : ChangeTextError → Type 0 = λ x. IsListFault ss x in subst P (sym same) (fault_of ss at cs s BadOrder lt is lawful read fault)
+list_fault ss at cs s Repeated e lt is lawful read fault same = let P : ChangeTextError → Type 0 = λ x. IsListFault ss x in subst P (sym same) (fault_of ss at cs s Repeated lt is lawful read fault)
+list_fault ss at cs s NoMemory e lt is lawful read fault same = let P : ChangeTextError → Type 0 = λ x. IsListFault ss x in subst P (sym same) tt

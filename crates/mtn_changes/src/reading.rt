@@ -1,0 +1,41 @@
+// Texts of changes.
+ghost use Rattle.std.specs.Prelude.{◌≡◌, IfOk, IfErr};
+ghost use Rattle.mtn_changes.specs.ChangesText.{IsChangesFault, IsChangesText, IsList, IsListFault};
+
+use crate::change::{Change, Changeset};
+use crate::error::{ChangeTextError, numbered, of_text};
+use crate::order::Part;
+use mtn_base::List;
+use mtn_basic_io::{Stanza, read};
+use std::alloc::Global;
+
+fn list_of(alloc: Global, stanzas: &[Stanza]) -> Result<List<Change>, ChangeTextError>
+    ensures ok { IfOk result (λ cs. IsList stanzas.now cs) }
+    ensures err { IfErr result (λ e. IsListFault stanzas.now e) }
+{
+    let mut part = Part::new(alloc);
+    for (at, stanza) in stanzas.iter().enumerate() {
+        if let Err(fault) = part.add(alloc, stanza) {
+            return Err(numbered(fault, at as u64 + 1));
+        }
+    }
+    let Part {
+        changes,
+        slots: _,
+        last: _,
+    } = part;
+    Ok(changes)
+}
+
+/// The changes of one edge that a text spells, in its order.
+pub fn read_changes(alloc: Global, text: &[u8]) -> Result<Changeset, ChangeTextError>
+    ensures ok { IfOk result (λ cs. IsChangesText text.now cs) }
+    ensures err { IfErr result (λ e. IsChangesFault text.now e) }
+{
+    let stanzas = match read(alloc, text) {
+        Ok(stanzas) => stanzas,
+        Err(error) => return Err(of_text(error)),
+    };
+    let changes = list_of(alloc, stanzas.as_slice())?;
+    Ok(Changeset { changes })
+}
