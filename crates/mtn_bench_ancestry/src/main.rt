@@ -8,10 +8,9 @@ ghost use Rattle.std.specs.Prelude.{◌≡◌, ◌<◌, ◌+◌, All, IsTrue, le
 use mtn_ancestry::{Graph, ParentList, Pos, uncommon};
 use mtn_base::{Id, NoMemory};
 use std::alloc::Global;
-use std::env;
-use std::io;
 use std::process::ExitCode;
 use std::time::Instant;
+use std::{env, io};
 
 // Appends a revision whose parents stand in the graph.
 fn add(graph: &mut Graph, parents: ParentList) -> Result<(), NoMemory> {
@@ -98,7 +97,11 @@ fn main(rt: HostRuntime) -> io::Result<ExitCode> {
     let third = start.elapsed(&rt)?.as_micros();
     println!(rt; "is_ancestor {is_old}")?;
     println!(rt; "ancestors {}", ancestors.as_slice().len())?;
-    println!(rt; "uncommon {} {}", sets.0.as_slice().len(), sets.1.as_slice().len())?;
+    println!(rt;
+        "uncommon {} {}",
+        sets.0.as_slice().len(),
+        sets.1.as_slice().len()
+    )?;
     if words.next().is_some() {
         println!(rt; "after {first} {second} {third}")?;
     }
