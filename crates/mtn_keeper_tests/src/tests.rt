@@ -26,7 +26,10 @@ fn close(keeper: FileKeeper) -> Result<Memory, Error>
 {
     match keeper.into_connection().close_files() {
         Ok(Files { log: _, db }) => Ok(db),
-        Err((error, _)) => Err(error),
+        Err((error, store)) => {
+            drop(store.close());
+            Err(error)
+        }
     }
 }
 
