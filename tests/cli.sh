@@ -94,6 +94,13 @@ file_row "64 MiB go into a file" 0 "$work/most" "$(sha1sum <"$work/most" | cut -
 verdict "and come out" cmp -s "$work/out" "$work/most"
 rm -f "$work"/big.mtn* "$work/most" "$work/input"
 
+# Little memory.
+little() { (ulimit -v 150000; ./mtn "$store" put_file <"$work/zeros" >"$work/out" 2>"$work/err"); [ $? = 7 ] && [ ! -s "$work/out" ] && [ ! -s "$work/err" ]; }
+head -c 67108864 /dev/zero >"$work/zeros"
+verdict "want of memory has its status" little
+rm -f "$work/zeros"
+verdict "and leaves the store" asks "$store" 'SELECT count(*) FROM kept' 4
+
 # A damaged store, made by sqlite3.
 cp "$store" "$work/bad.mtn"
 sqlite3 "$work/bad.mtn" "UPDATE kept SET body = x'010203' WHERE kind = 1 AND name = CAST('count' AS BLOB)"
