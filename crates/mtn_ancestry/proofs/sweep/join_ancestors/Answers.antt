@@ -1,7 +1,7 @@
 use Rattle.std.specs.Prelude.{Contains}
-use Rattle.std.proofs.Common.{◌≡◌, ◌↔◌, ◌⊎◌, ℕ, ◌-◌, ◌<◌, length, get_or, sym, subst, arith}
+use Rattle.std.proofs.Common.{◌↔◌, ◌⊎◌, ℕ, ◌-◌, ◌<◌, length, sym, subst, arith}
 use Rattle.mtn_ancestry.specs.Log.{parents_of}
-use Rattle.mtn_ancestry.specs.Sets.{HasFlag, IsFlaggedIn}
+use Rattle.mtn_ancestry.specs.Sets.{IsFlaggedIn}
 use Rattle.mtn_ancestry.proofs.Placing.{parents_read}
 use Rattle.mtn_ancestry.proofs.Sweeping.{swept_start, swept_more, swept_all}
 use Rattle.mtn_ancestry.proofs.Joining.{set_within}

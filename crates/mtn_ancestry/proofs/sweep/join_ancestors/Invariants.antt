@@ -1,4 +1,4 @@
-use Rattle.std.proofs.Common.{◌≡◌, ℕ, ◌≤◌, length}
+use Rattle.std.proofs.Common.{ℕ, ◌≤◌, length}
 use Rattle.mtn_ancestry.specs.Log.{parents_of}
 use Rattle.mtn_ancestry.specs.Sets.{IsFlaggedIn}
 use Rattle.mtn_ancestry.proofs.Sweeping.{IsSwept}

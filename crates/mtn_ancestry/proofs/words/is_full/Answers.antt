@@ -1,5 +1,4 @@
-use Rattle.std.proofs.Common.{◌≡◌, ◌≤◌, sym, subst}
-use Rattle.std.specs.Int.{trailing_ones, w64}
+use Rattle.std.proofs.Common.{◌≤◌, sym, subst}
 use Rattle.std.proofs.lemmas.Bool.{leb-true, le-leb}
 use Rattle.mtn_ancestry.proofs.Joining.{full}
 use Rattle.mtn_ancestry.proofs.words.is_full.Goals as goal
