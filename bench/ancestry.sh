@@ -1,7 +1,8 @@
 #!/bin/sh
 # Asks a graph of a million revisions, a chain of forks and merges, for what git can be asked too:
 # whether the root is an ancestor of the newest, how many ancestors the newest has, and what the two
-# revisions of the last fork have in common. Prints the time of each beside that of git over the same
+# revisions of the last fork have not in common. Git lists no common ancestors, so how long those of the
+# newest four take stands beside our own `ancestors`. Prints the time of each beside that of git over the same
 # graph in the same run; git's includes its start and its reading of the graph, so the time to make our
 # graph and start is printed too. It drives the built program mtn_bench_ancestry: give its path, or have
 # it built by `rt run` in crates/mtn_bench_ancestry.
@@ -50,9 +51,10 @@ count=$(microseconds git rev-list --count main)
 base=$(microseconds git merge-base main^1 main^2)
 whole=$(microseconds "$program" "$diamonds" time)
 set -- $(sed -n 's/^after //p' "$work/out")
-awk -v o="$old" -v c="$count" -v b="$base" -v w="$whole" -v x="$1" -v y="$2" -v z="$3" 'BEGIN {
+awk -v o="$old" -v c="$count" -v b="$base" -v w="$whole" -v x="$1" -v y="$2" -v z="$3" -v f="$4" 'BEGIN {
     printf "is_ancestor %d us, git %d us: %.3f\n", x, o, x / o
     printf "ancestors   %d us, git %d us: %.3f\n", y - x, c, (y - x) / c
     printf "uncommon    %d us, git %d us: %.3f\n", z - y, b, (z - y) / b
+    printf "common of four %d us, ancestors %d us: %.3f\n", f - z, y - x, (f - z) / (y - x)
     printf "with the start and the making of the graph %d us, git all three %d us: %.3f\n", w, o + c + b, w / (o + c + b)
 }'

@@ -4,6 +4,7 @@ pub mod Listing
 pub mod Placing
 pub mod Ancestry
 pub mod Sweeping
+pub mod Joining
 pub mod Answering
 pub mod Reaching
 pub mod Walks

@@ -69,17 +69,6 @@ pub fn flag_parents(flags: &mut [bool], parents: &ParentList)
     }
 }
 
-/// Keeps the flags that are among the others too.
-pub fn keep_flagged(flags: &mut [bool], others: &[bool])
-    requires { length flags.old ≡ length others.now }
-    ensures count { length flags.new ≡ length flags.old }
-    ensures exact { (x : ℕ) → IsFlagged flags.new x ↔ (IsFlagged flags.old x × IsFlagged others.now x) }
-{
-    for at in 0..others.len() {
-        flags[at] = flags[at] && others[at];
-    }
-}
-
 /// Turns the flags into those of the given positions that were not flagged.
 pub fn flag_rest(given: &[bool], flags: &mut [bool])
     requires { length flags.old ≡ length given.now }

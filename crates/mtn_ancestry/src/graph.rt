@@ -17,7 +17,8 @@ use std::marker::Model;
 
 /// The graph of revisions, which contracts see as the log: its entries, oldest first.
 ///
-/// Each call below that takes memory walks over the log once, and takes a byte or two for each position.
+/// Each call below that takes memory walks over the log once, and takes a byte or two for each position;
+/// [`Graph::common`] alone walks once for each 64 of the given positions, and takes nine bytes for each of the log.
 #[derive(Drop)]
 pub struct Graph {
     log: Vec<LogEntry>,

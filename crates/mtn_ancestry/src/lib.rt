@@ -5,7 +5,7 @@
 //! steps reaches from it. The *uncommon* revisions of two are the ancestors of one that are none of the other.
 //!
 //! The crates above rely on this: each call gives exactly such a set, as a list that ascends without repeats.
-//! A call of [`Graph`] sweeps over the log once (`common` once for each given position). [`uncommon`] asks
+//! A call of [`Graph`] sweeps over the log once (`common` once for each 64 given positions). [`uncommon`] asks
 //! whoever keeps the graph, and for no position twice or below the uncommon part.
 #![tactic(auto)]
 
@@ -16,6 +16,7 @@ mod pos;
 mod set;
 mod sweep;
 mod walk;
+mod words;
 
 pub use graph::Graph;
 pub use pos::{LogEntry, ParentList, Pos};

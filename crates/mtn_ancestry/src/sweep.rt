@@ -1,12 +1,11 @@
 // Sweeps over the log, which find what follows from flagged positions.
-ghost use Rattle.std.specs.Prelude.{◌≡◌, ℕ, ◌↔◌, ◌<◌, ◌≤◌, ◌+◌, ◌⊎◌, length, vec_len, All, Contains, IsTrue, IfOk};
+ghost use Rattle.std.specs.Prelude.{◌≡◌, ℕ, ◌↔◌, ◌<◌, ◌≤◌, ◌+◌, ◌⊎◌, length, vec_len, slice_index, All, Contains, IsTrue, IfOk};
 ghost use Rattle.mtn_ancestry.specs.Ancestors.{IsAncestor, IsProperAncestor, ParentsAreEarlier};
 ghost use Rattle.mtn_ancestry.specs.Log.{list_of, parents_of};
-ghost use Rattle.mtn_ancestry.specs.Sets.{IsFlagged};
+ghost use Rattle.mtn_ancestry.specs.Sets.{IsFlagged, IsFlaggedIn};
 
-use crate::flags::{
-    all_flags, flag, flag_parents, flag_rest, flags_of, is_flagged, keep_flagged, no_flags,
-};
+use crate::flags::{all_flags, flag, flag_parents, flag_rest, flags_of, is_flagged, no_flags};
+use crate::words::{FLAGS, flag_each, join_parents, keep_full, no_words};
 use crate::{LogEntry, ParentList, Pos};
 use mtn_base::NoMemory;
 use std::alloc::Global;
@@ -91,7 +90,7 @@ fn flag_proper_ancestors(log: &[LogEntry], of: &[Pos], flags: &mut [bool])
     flag_ancestors(log, flags, Pos(0));
 }
 
-/// The flags of the ancestors of every one of these. It sweeps once for each.
+/// The flags of the ancestors of every one of these. It sweeps once for each `FLAGS` of them.
 pub fn common_ancestors(alloc: Global, log: &[LogEntry], of: &[Pos]) -> Result<Vec<bool>, NoMemory>
     requires earlier { ParentsAreEarlier (parents_of log.now) }
     requires within { All (λ r. r < length log.now) of.now }
@@ -101,36 +100,58 @@ pub fn common_ancestors(alloc: Global, log: &[LogEntry], of: &[Pos]) -> Result<V
         ↔ ((r : ℕ) → Contains of.now r → IsAncestor (parents_of log.now) x r)) }
 {
     let mut common = all_flags(alloc, log.len())?;
-    for at in of {
-        let ancestors = own_ancestors(alloc, log, *at)?;
-        keep_flagged(&mut common, &ancestors);
+    let mut from = 0;
+    while from < of.len() {
+        let sets = (of.len() - from).min(FLAGS);
+        let words = ancestor_words(alloc, log, &of[from..from + sets])?;
+        keep_full(&mut common, &words, sets);
+        from += sets;
     }
     Ok(common)
 }
 
-// The flags of a position and its ancestors.
-fn own_ancestors(alloc: Global, log: &[LogEntry], at: Pos) -> Result<Vec<bool>, NoMemory>
+// For each of these the set of it and its ancestors.
+fn ancestor_words(alloc: Global, log: &[LogEntry], of: &[Pos]) -> Result<Vec<u64>, NoMemory>
     requires earlier { ParentsAreEarlier (parents_of log.now) }
-    requires within { at < length log.now }
-    ensures count { IfOk result (λ f. vec_len f ≡ length log.now) }
-    ensures exact { IfOk result (λ f. (x : ℕ) → IsFlagged f.items x
-        ↔ IsAncestor (parents_of log.now) x at) }
+    requires within { All (λ r. r < length log.now) of.now }
+    requires few { length of.now ≤ 64 }
+    ensures count { IfOk result (λ w. vec_len w ≡ length log.now) }
+    ensures exact { IfOk result (λ w. (j x : ℕ) → IsFlaggedIn w.items j x
+        ↔ ((j < length of.now) × IsAncestor (parents_of log.now) x (slice_index of.now j))) }
 {
-    let mut flags = no_flags(alloc, log.len())?;
-    flag_own_ancestors(log, &mut flags, at);
-    Ok(flags)
+    let mut words = no_words(alloc, log.len())?;
+    flag_ancestors_of_each(log, &mut words, of);
+    Ok(words)
 }
 
-fn flag_own_ancestors(log: &[LogEntry], flags: &mut [bool], at: Pos)
+fn flag_ancestors_of_each(log: &[LogEntry], words: &mut [u64], of: &[Pos])
     requires earlier { ParentsAreEarlier (parents_of log.now) }
-    requires room { length flags.old ≡ length log.now }
-    requires within { at < length log.now }
-    requires none { (x : ℕ) → ¬ IsFlagged flags.old x }
-    ensures count { length flags.new ≡ length flags.old }
-    ensures exact { (x : ℕ) → IsFlagged flags.new x ↔ IsAncestor (parents_of log.now) x at }
+    requires within { All (λ r. r < length log.now) of.now }
+    requires few { length of.now ≤ 64 }
+    requires room { length words.old ≡ length log.now }
+    requires none { (j x : ℕ) → ¬ IsFlaggedIn words.old j x }
+    ensures count { length words.new ≡ length words.old }
+    ensures exact { (j x : ℕ) → IsFlaggedIn words.new j x
+        ↔ ((j < length of.now) × IsAncestor (parents_of log.now) x (slice_index of.now j)) }
 {
-    flag(flags, at);
-    flag_ancestors(log, flags, Pos(0));
+    flag_each(words, of);
+    join_ancestors(log, words);
+}
+
+// Adds to each set the ancestors of what is in it. Each position is looked at once, after its children.
+fn join_ancestors(log: &[LogEntry], words: &mut [u64])
+    requires earlier { ParentsAreEarlier (parents_of log.now) }
+    requires room { length words.old ≡ length log.now }
+    ensures count { length words.new ≡ length words.old }
+    ensures exact { (j x : ℕ) → IsFlaggedIn words.new j x
+        ↔ ((r : ℕ) × IsFlaggedIn words.old j r × IsAncestor (parents_of log.now) x r) }
+{
+    let mut at = words.len();
+    while 0 < at {
+        at -= 1;
+        let word = words[at];
+        join_parents(words, &log[at].parents, word);
+    }
 }
 
 /// The flags of those of these that are proper ancestors of no other.

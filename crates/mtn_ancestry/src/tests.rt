@@ -96,6 +96,29 @@ fn queries_on_a_small_graph(rt: HostRuntime) -> Result<(), Fail> {
     Ok(())
 }
 
+// As many as one walk takes, and one more, which has fewer ancestors.
+#[test]
+fn common_of_more_than_one_walk_takes(rt: HostRuntime) -> Result<(), Fail> {
+    let alloc = rt.alloc();
+    let all = [
+        ParentList::Zero,
+        ParentList::One(Pos(0)),
+        ParentList::One(Pos(1)),
+        ParentList::One(Pos(0)),
+    ];
+    let graph = graph_of(alloc, &all)?;
+    let mut some = [Pos(2); 65];
+    assert!(rt; are_within(&graph, &some));
+    assert_eq!(rt;
+        graph.common(alloc, &some)?.as_slice(),
+        [Pos(0), Pos(1), Pos(2)].as_slice()
+    );
+    some[64] = Pos(3);
+    assert!(rt; are_within(&graph, &some));
+    assert_eq!(rt; graph.common(alloc, &some)?.as_slice(), [Pos(0)].as_slice());
+    Ok(())
+}
+
 #[test]
 fn queries_with_no_position(rt: HostRuntime) -> Result<(), Fail> {
     let alloc = rt.alloc();

@@ -64,6 +64,19 @@ fn are_within(graph: &Graph, of: &[Pos]) -> bool
     true
 }
 
+// How many ancestors the newest four revisions have in common.
+fn common_of_newest(alloc: Global, graph: &Graph) -> Result<usize, NoMemory> {
+    let len = graph.len();
+    if len < 4 {
+        return Ok(0);
+    }
+    let tips = [Pos(len - 1), Pos(len - 2), Pos(len - 3), Pos(len - 4)];
+    if !are_within(graph, &tips) {
+        return Ok(0);
+    }
+    Ok(graph.common(alloc, &tips)?.as_slice().len())
+}
+
 fn main(rt: HostRuntime) -> io::Result<ExitCode> {
     let mut words = env::args(&rt)?;
     let _program = words.next();
@@ -95,6 +108,10 @@ fn main(rt: HostRuntime) -> io::Result<ExitCode> {
         return Ok(ExitCode::FAILURE);
     };
     let third = start.elapsed(&rt)?.as_micros();
+    let Ok(common) = common_of_newest(rt.alloc(), &graph) else {
+        return Ok(ExitCode::FAILURE);
+    };
+    let fourth = start.elapsed(&rt)?.as_micros();
     println!(rt; "is_ancestor {is_old}")?;
     println!(rt; "ancestors {}", ancestors.as_slice().len())?;
     println!(rt;
@@ -102,8 +119,9 @@ fn main(rt: HostRuntime) -> io::Result<ExitCode> {
         sets.0.as_slice().len(),
         sets.1.as_slice().len()
     )?;
+    println!(rt; "common {common}")?;
     if words.next().is_some() {
-        println!(rt; "after {first} {second} {third}")?;
+        println!(rt; "after {first} {second} {third} {fourth}")?;
     }
     Ok(ExitCode::SUCCESS)
 }
