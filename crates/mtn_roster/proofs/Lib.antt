@@ -8,6 +8,7 @@ pub mod Ordered
 pub mod Searching
 pub mod BySlot
 pub mod Childless
+pub mod Near
 pub mod Pathing
 pub mod Telling
 pub mod Building
