@@ -9,7 +9,7 @@ ghost use Rattle.mtn_roster.specs.Tree.{entry_of, IsSaneMap};
 ghost use Rattle.mtn_roster.specs.Index.{IsIndex};
 ghost use Rattle.std.specs.Prelude.{◌==◌};
 
-use crate::index::root_place;
+use crate::index::{index_of, root_place};
 use crate::roster::place_among;
 use crate::{BuildError, Entry, Slot};
 use mtn_base::{Comp, NoMemory, NodeName};
@@ -114,10 +114,17 @@ fn all_reach(alloc: Global, ups: Vec<usize>, root: usize) -> Result<bool, NoMemo
     Ok(all_at(&jumps, root))
 }
 
-/// Whether entries by ascending name, with their index, make a sane tree.
-pub fn check_shape(alloc: Global, entries: &[Entry], by_slot: &[usize]) -> Result<(), BuildError>
+/// Whether entries by ascending name, with their index and parents, make a sane tree.
+fn check_shape(
+    alloc: Global,
+    entries: &[Entry],
+    by_slot: &[usize],
+    ups: Vec<usize>,
+) -> Result<(), BuildError>
     requires rising { IsTrue (rises name_cmp (map (λ (e : Entry). e.name) entries.now)) }
     requires index { IsIndex entries.now by_slot.now }
+    requires ups { AreUps entries.now ups.items }
+    requires well { (k : ℕ) → k < length entries.now → hangs_well entries.now (slot_in entries.now k) ≡ true }
     ensures ok { OnOk result (IsSaneMap (entry_of entries.now)) }
     ensures insane { IsErrOf result BuildError.Insane → IsSaneMap (entry_of entries.now) → ⊥ }
 {
@@ -127,9 +134,21 @@ pub fn check_shape(alloc: Global, entries: &[Entry], by_slot: &[usize]) -> Resul
     if !entries[root].body.is_dir() {
         return Err(BuildError::Insane);
     }
-    let ups = ups_of(alloc, entries)?;
     if !all_reach(alloc, ups, root)? {
         return Err(BuildError::Insane);
     }
     Ok(())
+}
+
+/// The places of entries by ascending name in the order of their slots; Insane where they make no sane tree.
+pub fn checked_index(alloc: Global, entries: &[Entry]) -> Result<Vec<usize>, BuildError>
+    requires rising { IsTrue (rises name_cmp (map (λ (e : Entry). e.name) entries.now)) }
+    ensures index { IfOk result (λ by_slot. IsIndex entries.now by_slot.items) }
+    ensures ok { OnOk result (IsSaneMap (entry_of entries.now)) }
+    ensures insane { IsErrOf result BuildError.Insane → IsSaneMap (entry_of entries.now) → ⊥ }
+{
+    let ups = ups_of(alloc, entries)?;
+    let by_slot = index_of(alloc, entries, &ups)?;
+    check_shape(alloc, entries, &by_slot, ups)?;
+    Ok(by_slot)
 }

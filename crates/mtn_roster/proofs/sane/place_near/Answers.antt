@@ -1,5 +1,5 @@
 -- The names are apart.
-use Rattle.std.proofs.Common.{◌≡◌, ◌<◌, length, Some, rules, refl, sym, slice_get, get_or}
+use Rattle.std.proofs.Common.{◌≡◌, ◌<◌, length, rules, refl, sym, get_or}
 use Rattle.std.proofs.lemmas.Option.{slice_get_read}
 use Rattle.mtn_roster.proofs.Near.{named_there}
 use Rattle.mtn_roster.proofs.sane.place_near.Goals as goal

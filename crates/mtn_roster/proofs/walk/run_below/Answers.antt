@@ -1,5 +1,5 @@
 -- A file has no children.
-use Rattle.std.proofs.Common.{◌≡◌, false, sym, ◌∙◌}
+use Rattle.std.proofs.Common.{◌≡◌, false, sym}
 use Rattle.mtn_roster.specs.Tree.{is_dir}
 use Rattle.mtn_roster.proofs.Childless.{childless}
 use Rattle.mtn_roster.proofs.walk.run_below.Goals as goal

@@ -5,7 +5,7 @@ use Rattle.mtn_roster.specs.declared.walk.Stop.{Stop}
 use Rattle.std.specs.Cmp.{first_so}
 use Rattle.std.proofs.lemmas.Option.{slice_get-get_or}
 use Rattle.mtn_roster.proofs.Telling.{root_by_sane}
-use Rattle.mtn_roster.proofs.Walking.{kids, has}
+use Rattle.mtn_roster.proofs.Walking.{has}
 use Rattle.mtn_roster.proofs.Stops.{stop_at, begins, waits_within, goes_on, nearer, ends}
 use Rattle.mtn_roster.proofs.walk.stops_of.Goals as goal
 use Rattle.mtn_roster.proofs.walk.stops_of.Goals.{in-Some+in_ok-push, in_default}
