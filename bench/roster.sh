@@ -40,8 +40,9 @@ seconds() {
     echo "$best"
 }
 sort=$(LC_ALL=C seconds sort)
+read=$(seconds "$program" read)
 build=$(seconds "$program" build)
-walk=$(seconds "$program" build walk)
+walk=$(seconds "$program" walk)
 all=$(seconds "$program")
 cp "$work/out" "$work/manifest"
 sum=$(seconds sha1sum "$work/manifest")

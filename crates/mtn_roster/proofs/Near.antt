@@ -42,7 +42,7 @@ module _ (t : Tree) (rising : rises name_cmp (map (λ (e : Entry). e.name) t) �
     | inr ge ↦ elim (cases_lt b a) [
       | inl gt ↦ names_total.antisymm (get_or t a d).name (get_or t b d).name ∙ ap ordering_reverse (less_names b a d gt la) ∙ nat_cmp_is a b Greater gt
       | inr le ↦ let e : a ≡ b = omega arith in
-        ap (λ k. name_cmp (get_or t a d).name (get_or t k d).name) (sym e) ∙ tied_itself names_total (get_or t a d).name ∙ nat_cmp_is a b Equal e
+          ap (λ k. name_cmp (get_or t a d).name (get_or t k d).name) (sym e) ∙ tied_itself names_total (get_or t a d).name ∙ nat_cmp_is a b Equal e
     ]
   ]
 

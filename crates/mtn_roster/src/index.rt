@@ -145,11 +145,7 @@ fn sort_places(entries: &[Entry], ups: &[usize], places: &mut Vec<usize>) -> boo
 }
 
 /// The places of entries in the order of their slots; Insane where two have the same.
-pub fn index_of(
-    alloc: Global,
-    entries: &[Entry],
-    ups: &[usize],
-) -> Result<Vec<usize>, BuildError>
+pub fn index_of(alloc: Global, entries: &[Entry], ups: &[usize]) -> Result<Vec<usize>, BuildError>
     requires rising { IsTrue (rises name_cmp (map (λ (e : Entry). e.name) entries.now)) }
     requires ups { AreUps entries.now ups.now }
     ensures index { IfOk result (λ by_slot. IsIndex entries.now by_slot.items) }
