@@ -1,6 +1,6 @@
-// Builds the roster of the paths on standard input, one a line, where a directory ends with a slash, and
-// writes its manifest to standard output; under the word `build` it only builds, under `walk` it also
-// walks. `bench/roster.sh` times it.
+// Builds the roster of the paths on standard input, one a line, where a directory ends with a slash,
+// walks it and writes its manifest to standard output. Under the word `read`, `build` or `walk` it ends
+// after that step, with no output. `bench/roster.sh` times it.
 #![tactic(auto)]
 
 use mtn_base::{Comp, Id, List, NodeName, Path};
@@ -58,39 +58,49 @@ fn entry_of(alloc: Global, line: &[u8]) -> Option<Entry> {
     })
 }
 
-fn roster_of(alloc: Global, text: &[u8]) -> Option<Roster> {
+fn entries_of(alloc: Global, text: &[u8]) -> Option<Vec<Entry>> {
     let mut entries = Vec::new(alloc);
     for line in text.split(|byte| *byte == b'\n') {
         if !line.is_empty() {
             entries.push(entry_of(alloc, line)?).ok()?;
         }
     }
-    Roster::build(alloc, entries).ok()
+    Some(entries)
+}
+
+/// The manifest of the entries, or what comes before it: none after `read`, and none after `build`.
+fn manifest_of(alloc: Global, text: &[u8], stop: Option<&str>) -> Option<Vec<u8>> {
+    let mut manifest = Vec::new(alloc);
+    let entries = entries_of(alloc, text)?;
+    if stop == Some("read") {
+        return Some(manifest);
+    }
+    let roster = Roster::build(alloc, entries).ok()?;
+    if stop == Some("build") {
+        return Some(manifest);
+    }
+    let _names = roster.walk(alloc).ok()?;
+    if stop == Some("walk") {
+        return Some(manifest);
+    }
+    mtn_manifest::write(&roster, &mut manifest).ok()?;
+    Some(manifest)
 }
 
 fn main(rt: HostRuntime) -> io::Result<ExitCode> {
     let alloc = rt.alloc();
     let mut text = Vec::new(alloc);
     rt.stdin().read_to_end(&mut text)?;
-    let Some(roster) = roster_of(alloc, &text) else {
+    let mut words = env::args(&rt)?;
+    let _program = words.next();
+    let word = words.next();
+    let stop = match &word {
+        Some(text) => Some(text.as_str()),
+        None => None,
+    };
+    let Some(manifest) = manifest_of(alloc, &text, stop) else {
         return Ok(ExitCode::FAILURE);
     };
-    let words = env::args(&rt)?;
-    if words.len() > 2 {
-        let walked = roster.walk(alloc).is_ok();
-        return Ok(if walked {
-            ExitCode::SUCCESS
-        } else {
-            ExitCode::FAILURE
-        });
-    }
-    if words.len() > 1 {
-        return Ok(ExitCode::SUCCESS);
-    }
-    let mut manifest = Vec::new(alloc);
-    if mtn_manifest::write(&roster, &mut manifest).is_err() {
-        return Ok(ExitCode::FAILURE);
-    }
     rt.stdout().write_all(&manifest)?;
     Ok(ExitCode::SUCCESS)
 }

@@ -7,6 +7,8 @@ pub mod Sorting
 pub mod Ordered
 pub mod Searching
 pub mod BySlot
+pub mod Childless
+pub mod Near
 pub mod Pathing
 pub mod Telling
 pub mod Building

@@ -21,7 +21,7 @@ use Rattle.mtn_roster.proofs.Sorting.{less_at}
 use Rattle.mtn_roster.proofs.BySlot.{slots_total}
 
 module _ (p : ℕ → Bool) where
-  filter_none : (xs : List ℕ) → ((k : ℕ) → k < length xs → p (get_or xs k 0) ≡ false) → filter p xs ≡ []
+  pub filter_none : (xs : List ℕ) → ((k : ℕ) → k < length xs → p (get_or xs k 0) ≡ false) → filter p xs ≡ []
   filter_none [] h = refl
   filter_none (x ∷ xs) h = ap (λ b. cond b (x ∷ filter p xs) (filter p xs)) (h zero (omega arith)) ∙ filter_none xs (λ k l. h (suc k) (omega (arith, l)))
 

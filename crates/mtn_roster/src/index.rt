@@ -1,12 +1,14 @@
 // The places of entries by slot.
-ghost use Rattle.std.specs.Prelude.{◌≡◌, ◌<◌, ◌↔◌, length, option_and_then, slice_get, IsTrue, IfSome, IfOk, OnOk, IsErrOf};
+ghost use Rattle.std.specs.Prelude.{◌≡◌, ◌<◌, ◌↔◌, length, map, option_and_then, slice_get, slice_index_or, IsTrue, IfSome, IfOk, OnOk, IsErrOf};
 ghost use Rattle.mtn_roster.specs.declared.entry.Slot.TheVariants.{Root, Below};
-ghost use Rattle.mtn_roster.specs.Tree.{root_of, child_of};
+ghost use Rattle.mtn_roster.specs.Tree.{root_of, child_of, rises};
+ghost use Rattle.mtn_base.specs.Names.{name_cmp};
+ghost use Rattle.mtn_roster.specs.Walk.{component};
 ghost use Rattle.mtn_roster.specs.Index.{ArePlaces, IsIndex, slot_cmp, slot_in};
-ghost use Rattle.mtn_roster.specs.Building.{SlotsDiffer};
+ghost use Rattle.mtn_roster.specs.Building.{SlotsDiffer, AreUps};
 
 use crate::{BuildError, Entry, Slot};
-use mtn_base::{Comp, NoMemory};
+use mtn_base::{Comp, NoMemory, NodeName};
 use std::alloc::Global;
 use std::cmp::Ordering;
 
@@ -22,14 +24,14 @@ fn compare_root(entries: &[Entry], at: usize) -> Ordering
     }
 }
 
-fn compare_child(entries: &[Entry], at: usize, above: &Entry, name: &Comp) -> Ordering
-    ensures { result ≡ slot_cmp (slot_in entries.now at) (Below above.now.name name.now) }
+fn compare_below(entries: &[Entry], at: usize, above: &NodeName, name: &Comp) -> Ordering
+    ensures { result ≡ slot_cmp (slot_in entries.now at) (Below above.now name.now) }
 {
     match entries.get(at) {
         None => Ordering::Less,
         Some(entry) => match &entry.slot {
             Slot::Root => Ordering::Less,
-            Slot::Below { parent, name: own } => match parent.compare(&above.name) {
+            Slot::Below { parent, name: own } => match parent.compare(above) {
                 Ordering::Less => Ordering::Less,
                 Ordering::Equal => own.cmp(name),
                 Ordering::Greater => Ordering::Greater,
@@ -61,43 +63,62 @@ pub fn child_place(
     ensures within { IfSome result (λ at. at < length entries.now) }
     ensures entry { option_and_then (slice_get entries.now) result ≡ child_of entries.now name.now above.now }
 {
-    match by_slot.binary_search_by(|at| compare_child(entries, *at, above, name)) {
+    match by_slot.binary_search_by(|at| compare_below(entries, *at, &above.name, name)) {
         Ok(i) => Some(by_slot[i]),
         Err(_) => None,
     }
 }
 
-fn compare_slots(first: &Slot, second: &Slot) -> Ordering
-    ensures { result ≡ slot_cmp first.now second.now }
-{
-    match first {
-        Slot::Root => match second {
-            Slot::Root => Ordering::Equal,
-            Slot::Below { .. } => Ordering::Less,
-        },
-        Slot::Below { parent, name } => match second {
-            Slot::Root => Ordering::Greater,
-            Slot::Below { parent: p, name: n } => match parent.compare(p) {
-                Ordering::Less => Ordering::Less,
-                Ordering::Equal => name.cmp(n),
-                Ordering::Greater => Ordering::Greater,
-            },
-        },
-    }
-}
-
-fn compare_places(entries: &[Entry], first: usize, second: usize) -> Ordering
+/// How the slots at two places stand, by the names of their parents.
+fn compare_slots(entries: &[Entry], first: usize, second: usize) -> Ordering
     ensures { result ≡ slot_cmp (slot_in entries.now first) (slot_in entries.now second) }
 {
     match entries.get(second) {
         None => compare_root(entries, first),
-        Some(e) => match entries.get(first) {
-            None => match &e.slot {
-                Slot::Root => Ordering::Equal,
-                Slot::Below { .. } => Ordering::Less,
-            },
-            Some(f) => compare_slots(&f.slot, &e.slot),
+        Some(entry) => match &entry.slot {
+            Slot::Root => compare_root(entries, first),
+            Slot::Below { parent, name } => compare_below(entries, first, parent, name),
         },
+    }
+}
+
+/// The component of what stands at a place.
+fn component_at(entries: &[Entry], at: usize) -> &[u8]
+    ensures { result.now ≡ component (slot_in entries.now at) }
+{
+    match entries.get(at) {
+        None => b"",
+        Some(entry) => match &entry.slot {
+            Slot::Root => b"",
+            Slot::Below { name, .. } => name.bytes(),
+        },
+    }
+}
+
+/// The place of the parent of what stands at a place; outside, the place itself.
+fn up_at(ups: &[usize], at: usize) -> usize
+    ensures { result ≡ slice_index_or ups.now at at }
+{
+    match ups.get(at) {
+        None => at,
+        Some(up) => *up,
+    }
+}
+
+/// The same as `compare_slots`, by the places of the parents: most pairs are told apart without a look
+/// at the entries. What is its own parent is the root, or no part of a sane tree.
+fn compare_places(entries: &[Entry], ups: &[usize], first: usize, second: usize) -> Ordering
+    ensures { AreUps entries.now ups.now → IsTrue (rises name_cmp (map (λ (e : Entry). e.name) entries.now)) → result ≡ slot_cmp (slot_in entries.now first) (slot_in entries.now second) }
+{
+    let above_first = up_at(ups, first);
+    let above_second = up_at(ups, second);
+    if above_first == first || above_second == second {
+        return compare_slots(entries, first, second);
+    }
+    match above_first.cmp(&above_second) {
+        Ordering::Less => Ordering::Less,
+        Ordering::Equal => component_at(entries, first).cmp(component_at(entries, second)),
+        Ordering::Greater => Ordering::Greater,
     }
 }
 
@@ -112,23 +133,27 @@ fn places_of(alloc: Global, count: usize) -> Result<Vec<usize>, NoMemory>
 }
 
 /// Puts the places of entries in the order of their slots, and says whether these are apart.
-fn sort_places(entries: &[Entry], places: &mut Vec<usize>) -> bool
-    requires { ArePlaces (length entries.now) places.old.items }
+fn sort_places(entries: &[Entry], ups: &[usize], places: &mut Vec<usize>) -> bool
+    requires rising { IsTrue (rises name_cmp (map (λ (e : Entry). e.name) entries.now)) }
+    requires ups { AreUps entries.now ups.now }
+    requires places { ArePlaces (length entries.now) places.old.items }
     ensures apart { IsTrue result ↔ SlotsDiffer entries.now }
     ensures index { IsTrue result → IsIndex entries.now places.new.items }
 {
-    places.sort_unstable_by(|first, second| compare_places(entries, *first, *second));
-    places.is_sorted_by(|first, second| compare_places(entries, *first, *second).is_lt())
+    places.sort_unstable_by(|first, second| compare_places(entries, ups, *first, *second));
+    places.is_sorted_by(|first, second| compare_places(entries, ups, *first, *second).is_lt())
 }
 
 /// The places of entries in the order of their slots; Insane where two have the same.
-pub fn index_of(alloc: Global, entries: &[Entry]) -> Result<Vec<usize>, BuildError>
+pub fn index_of(alloc: Global, entries: &[Entry], ups: &[usize]) -> Result<Vec<usize>, BuildError>
+    requires rising { IsTrue (rises name_cmp (map (λ (e : Entry). e.name) entries.now)) }
+    requires ups { AreUps entries.now ups.now }
     ensures index { IfOk result (λ by_slot. IsIndex entries.now by_slot.items) }
     ensures apart { OnOk result (SlotsDiffer entries.now) }
     ensures insane { IsErrOf result BuildError.Insane → SlotsDiffer entries.now → ⊥ }
 {
     let mut places = places_of(alloc, entries.len())?;
-    if !sort_places(entries, &mut places) {
+    if !sort_places(entries, ups, &mut places) {
         return Err(BuildError::Insane);
     }
     Ok(places)

@@ -8,8 +8,8 @@ ghost use Rattle.mtn_roster.specs.Index.{IsIndex};
 ghost use Rattle.mtn_roster.specs.Walk.{by_path, children_of, path_at, AreStops};
 
 use crate::build::{sort_all_keys, sort_names};
-use crate::index::{child_place, index_of, root_place};
-use crate::sane::check_shape;
+use crate::index::{child_place, root_place};
+use crate::sane::checked_index;
 use crate::walk::{Stop, run_of, stops_of};
 use crate::{BuildError, Entry, Slot};
 use mtn_base::{Comp, NoMemory, NodeName, Path};
@@ -49,8 +49,7 @@ impl Roster {
         if !sort_names(&mut entries) {
             return Err(BuildError::Insane);
         }
-        let by_slot = index_of(alloc, &entries)?;
-        check_shape(alloc, &entries, &by_slot)?;
+        let by_slot = checked_index(alloc, &entries)?;
         Ok(Roster { entries, by_slot })
     }
 

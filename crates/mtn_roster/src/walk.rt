@@ -1,6 +1,6 @@
 // The children of a node, and the walk over a tree.
-ghost use Rattle.std.specs.Prelude.{◌≡◌, ◌++◌, filter, map, reverse, OnOk, IfOk};
-ghost use Rattle.mtn_roster.specs.Tree.{IsSane};
+ghost use Rattle.std.specs.Prelude.{◌≡◌, ◌++◌, filter, map, reverse, Some, OnOk, IfOk};
+ghost use Rattle.mtn_roster.specs.Tree.{IsSane, entry_of};
 ghost use Rattle.mtn_roster.specs.Index.{IsIndex, slot_in};
 ghost use Rattle.mtn_roster.specs.Walk.{is_below, parent_cmp, AreStops};
 ghost use Rattle.std.specs.declared.cmp.Ordering.TheVariants.{Less};
@@ -33,6 +33,20 @@ pub fn run_of<'a>(entries: &[Entry], by_slot: &'a [usize], name: &NodeName) -> &
     let rest = &by_slot[first..];
     let count = rest.partition_point(|at| compare_parent(entries, *at, name).is_le());
     &rest[..count]
+}
+
+/// The same for an entry of a sane tree: a file has none, which takes no search.
+fn run_below<'a>(entries: &[Entry], by_slot: &'a [usize], above: &Entry) -> &'a [usize]
+    requires sane { IsSane entries.now }
+    requires index { IsIndex entries.now by_slot.now }
+    requires node { entry_of entries.now above.now.name ≡ Some above.now }
+    ensures { result.now ≡ filter (λ k. is_below above.now.name (slot_in entries.now k)) by_slot.now }
+{
+    if above.body.is_dir() {
+        run_of(entries, by_slot, &above.name)
+    } else {
+        &by_slot[..0]
+    }
 }
 
 /// A node on the walk: its place among the entries, and how many stops before its parent's.
@@ -69,7 +83,7 @@ pub fn stops_of(alloc: Global, entries: &[Entry], by_slot: &[usize]) -> Result<V
         waiting.push(Stop { place, above: 0 })?;
     }
     while let Some(stop) = waiting.pop() {
-        let run = run_of(entries, by_slot, &entries[stop.place].name);
+        let run = run_below(entries, by_slot, &entries[stop.place]);
         push_run(run, stops.len(), &mut waiting)?;
         stops.push(stop)?;
     }

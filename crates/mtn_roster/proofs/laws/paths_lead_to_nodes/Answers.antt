@@ -1,4 +1,3 @@
-use Rattle.std.proofs.lemmas.List.{reverse-reverse}
 use Rattle.std.specs.Prelude.{reverse}
 use Rattle.mtn_roster.proofs.Forest.{node_there}
 use Rattle.mtn_roster.proofs.Ordered.{forest_of}

@@ -1,21 +1,14 @@
 -- By the tests.
-use Rattle.std.proofs.Common.{◌≡◌, ◌<◌, ℕ, length, Some, Err, sym, ◌∙◌, ap, slice_get, get_or}
-use Rattle.std.specs.Prelude.{Result}
-use Rattle.std.proofs.lemmas.Result.{err_from_is_err_and}
+use Rattle.std.proofs.Common.{◌≡◌, ◌<◌, ℕ, length, Some, sym, ◌∙◌, ap, slice_get, get_or}
 use Rattle.std.proofs.lemmas.Option.{slice_get-get_or}
-use Rattle.mtn_roster.specs.declared.build.BuildError.{BuildError}
-use Rattle.mtn_roster.specs.declared.build.BuildError.TheVariants.{Insane}
 use Rattle.mtn_roster.specs.declared.entry.Entry.{Entry}
 use Rattle.mtn_roster.specs.Tree.{Tree, root_of, is_dir}
-use Rattle.mtn_roster.proofs.Telling.{sane_by_test, root_by_sane, well_by_sane, reach_by_sane}
+use Rattle.mtn_roster.proofs.Telling.{sane_by_test, root_by_sane, reach_by_sane}
 use Rattle.mtn_roster.proofs.sane.check_shape.Goals as goal
 
 -- what was indexed
 held : (t : Tree) (at : ℕ) (e : Entry) → at < length t → e ≡ get_or t at e → slice_get t at ≡ Some e
 held t at e low is = slice_get-get_or t at e low ∙ ap Some (sym is)
-
-handed : {T : Type 0} (r : Result T BuildError) (y d : BuildError) → r ≡ Err y → y ≡ d → r ≡ Err Insane → d ≡ Insane
-handed r y d p q h = cc
 
 pub returns-in_default-clause-insane : goal.returns-in_default-clause-insane
 returns-in_default-clause-insane c = λ _ s. let a = root_by_sane c.args.entries.now c.requires.rising s in let b = c.in_default.ensures.entry in absurd cc
@@ -31,26 +24,18 @@ returns-then-not-is_dir-clause-insane c = λ _ s.
     let same : e ≡ s.root.1 = cc in
     absurd cc
 
-pub returns-in_err-ups-clause-insane : goal.returns-in_err-ups-clause-insane
-returns-in_err-ups-clause-insane c = λ h s.
-    let p = err_from_is_err_and c.from_residual.result c.from_residual.ensures.1 in
-    let bad = c.in_err-ups.ensures.insane (ap Err (handed c.from_residual.result p.0 c.in_err-ups.field-0.0 p.1 p.2 h)) in
-    let a = well_by_sane c.args.entries.now c.requires.rising s bad.0 bad.1 in
-    let f = bad.2 in
-    absurd cc
-
 pub returns-then-not-branch-clause-insane : goal.returns-then-not-branch-clause-insane
 returns-then-not-branch-clause-insane c = λ h s.
     let l = c.in_ok-all_reach.ensures.some c.if-not-branch.true in
     let e : Entry = c.index-entries-root.result in
     let i = held c.args.entries.now c.in-Some.root e c.in-Some.ensures.within c.index-entries-root.is in
     let is : root_of c.args.entries.now ≡ Some e = sym c.in-Some.ensures.entry ∙ i in
-    l.4 (reach_by_sane c.args.entries.now c.requires.rising s c.args.by_slot.now c.requires.index c.in-Some.root c.in-Some.ensures.within e i is c.in_ok-ups.ups.items c.in_ok-ups.ensures.ups l.0 l.1 l.2 l.3)
+    l.4 (reach_by_sane c.args.entries.now c.requires.rising s c.args.by_slot.now c.requires.index c.in-Some.root c.in-Some.ensures.within e i is c.args.ups.items c.requires.ups l.0 l.1 l.2 l.3)
 
 pub returns-clause-ok : goal.returns-clause-ok
 returns-clause-ok c =
     let e : Entry = c.index-entries-root.result in
     let i = held c.args.entries.now c.in-Some.root e c.in-Some.ensures.within c.index-entries-root.is in
     let is : root_of c.args.entries.now ≡ Some e = sym c.in-Some.ensures.entry ∙ i in
-    sane_by_test c.args.entries.now c.requires.rising c.args.by_slot.now c.requires.index c.in-Some.root c.in-Some.ensures.within e i is c.in_ok-ups.ups.items c.in_ok-ups.ensures.ups
-    (ap (λ (f : Entry). is_dir f) c.index-entries-root.is ∙ sym c.if-not-is_dir.ensures) c.in_ok-ups.ensures.well (c.in_ok-all_reach.ensures.all c.if-not-branch.false)
+    sane_by_test c.args.entries.now c.requires.rising c.args.by_slot.now c.requires.index c.in-Some.root c.in-Some.ensures.within e i is c.args.ups.items c.requires.ups
+    (ap (λ (f : Entry). is_dir f) c.index-entries-root.is ∙ sym c.if-not-is_dir.ensures) c.requires.well (c.in_ok-all_reach.ensures.all c.if-not-branch.false)

@@ -1,10 +1,11 @@
 -- By the walk's steps.
-use Rattle.std.proofs.Common.{◌≡◌, ◌<◌, ◌++◌, ◌∷◌, [], List, length, arith, rules, refl, sym, ◌∙◌, ap}
+use Rattle.std.proofs.Common.{◌≡◌, ◌<◌, ◌++◌, ◌∷◌, [], List, length, Some, arith, rules, refl, sym, ◌∙◌, ap}
 use Rattle.mtn_roster.specs.declared.entry.Entry.{Entry}
 use Rattle.mtn_roster.specs.declared.walk.Stop.{Stop}
 use Rattle.std.specs.Cmp.{first_so}
+use Rattle.std.proofs.lemmas.Option.{slice_get-get_or}
 use Rattle.mtn_roster.proofs.Telling.{root_by_sane}
-use Rattle.mtn_roster.proofs.Walking.{kids}
+use Rattle.mtn_roster.proofs.Walking.{has}
 use Rattle.mtn_roster.proofs.Stops.{stop_at, begins, waits_within, goes_on, nearer, ends}
 use Rattle.mtn_roster.proofs.walk.stops_of.Goals as goal
 use Rattle.mtn_roster.proofs.walk.stops_of.Goals.{in-Some+in_ok-push, in_default}
@@ -33,13 +34,20 @@ offset_bounds-entries-stop c =
     let low : c.in-Some-pop.stop.place < length c.args.entries.now = waits_within c.args.entries.now c.requires.sane c.args.by_slot.now c.requires.index c.loop-stop.stops.items c.loop-stop.waiting.items c.pop.new.self.items c.in-Some-pop.stop c.in-Some-pop.ensures.items c.loop-stop.invariant in
     search rules
 
+pub run_below-run-requires-clause-node : goal.run_below-run-requires-clause-node
+run_below-run-requires-clause-node c =
+    let t = c.args.entries.now in
+    let e : Entry = c.index-entries-stop.result in
+    let low : c.in-Some-pop.stop.place < length t = waits_within t c.requires.sane c.args.by_slot.now c.requires.index c.loop-stop.stops.items c.loop-stop.waiting.items c.pop.new.self.items c.in-Some-pop.stop c.in-Some-pop.ensures.items c.loop-stop.invariant in
+    has t c.requires.sane c.in-Some-pop.stop.place e low (slice_get-get_or t c.in-Some-pop.stop.place e low ∙ ap Some (sym c.index-entries-stop.is))
+
 pub loop-stop-preserved : goal.loop-stop-preserved
 loop-stop-preserved c =
     let t = c.args.entries.now in
     let e : Entry = c.index-entries-stop.result in
     goes_on t c.requires.sane c.args.by_slot.now c.requires.index c.loop-stop.stops.items c.loop-stop.waiting.items c.pop.new.self.items c.push-in-Some-pop.new.self.items c.push_run.new.waiting.items c.in-Some-pop.stop e
-    c.run_of-run.result.now c.len.result (omega (arith, c.len.ensures)) c.in-Some-pop.ensures.items c.loop-stop.invariant c.index-entries-stop.is
-    (c.run_of-run.ensures ∙ ap (λ (z : Entry). kids t c.requires.sane c.args.by_slot.now c.requires.index z.name) (sym c.index-entries-stop.is))
+    c.run_below-run.result.now c.len.result (omega (arith, c.len.ensures)) c.in-Some-pop.ensures.items c.loop-stop.invariant c.index-entries-stop.is
+    c.run_below-run.ensures
     c.in_ok-push_run.ensures c.in_ok-push-2.ensures.items
 
 pub loop-stop-smaller : goal.loop-stop-smaller
@@ -48,8 +56,8 @@ loop-stop-smaller c =
     let e : Entry = c.index-entries-stop.result in
     nearer t c.requires.sane c.args.by_slot.now c.requires.index c.loop-stop.stops.items c.push-in-Some-pop.new.self.items c.push_run.new.waiting.items c.in-Some-pop.stop c.in_ok-push-2.ensures.items
     (goes_on t c.requires.sane c.args.by_slot.now c.requires.index c.loop-stop.stops.items c.loop-stop.waiting.items c.pop.new.self.items c.push-in-Some-pop.new.self.items c.push_run.new.waiting.items c.in-Some-pop.stop e
-    c.run_of-run.result.now c.len.result (omega (arith, c.len.ensures)) c.in-Some-pop.ensures.items c.loop-stop.invariant c.index-entries-stop.is
-    (c.run_of-run.ensures ∙ ap (λ (z : Entry). kids t c.requires.sane c.args.by_slot.now c.requires.index z.name) (sym c.index-entries-stop.is))
+    c.run_below-run.result.now c.len.result (omega (arith, c.len.ensures)) c.in-Some-pop.ensures.items c.loop-stop.invariant c.index-entries-stop.is
+    c.run_below-run.ensures
     c.in_ok-push_run.ensures c.in_ok-push-2.ensures.items)
 
 pub returns : goal.returns

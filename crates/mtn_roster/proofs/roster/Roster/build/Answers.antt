@@ -9,12 +9,11 @@ use Rattle.mtn_roster.specs.declared.build.BuildError.TheVariants.{Insane}
 use Rattle.mtn_roster.specs.declared.entry.Entry.{Entry}
 use Rattle.mtn_roster.specs.Tree.{Tree, rises, entry_of, in_order, IsSane, IsSaneMap}
 use Rattle.mtn_roster.specs.Index.{IsIndex}
-use Rattle.mtn_roster.specs.Building.{NamesDiffer, KeysDiffer, SlotsDiffer, with_keys_in_order, tree_of}
+use Rattle.mtn_roster.specs.Building.{NamesDiffer, KeysDiffer, with_keys_in_order, tree_of}
 use Rattle.mtn_roster.proofs.Ordered.{in_order-rises}
 use Rattle.std.proofs.Math.Seq.{take-append_seam}
 use Rattle.mtn_roster.proofs.Sorting.{long_map}
 use Rattle.mtn_roster.proofs.Building.{differ_still, differed, made_sane}
-use Rattle.mtn_roster.proofs.Telling.{slots_by_sane}
 use Rattle.mtn_roster.proofs.roster.Roster.build.Goals as goal
 
 handed : {T : Type 0} (r : Result T BuildError) (y d : BuildError) → r ≡ Err y → y ≡ d → r ≡ Err Insane → d ≡ Insane
@@ -46,21 +45,21 @@ returns-in_err-by_slot-clause-insane c =
     λ h b.
     let p = err_from_is_err_and c.from_residual.result c.from_residual.ensures.1 in
     c.in_err-by_slot.ensures.insane (ap Err (handed c.from_residual.result p.0 c.in_err-by_slot.field-0.0 p.1 p.2 h))
-    (subst SlotsDiffer (sym made) (slots_by_sane (tree_of es) (in_order-rises (map with_keys_in_order es)) b.sane))
+    (subst (λ (t : Tree). IsSaneMap (entry_of t)) (sym made) b.sane)
 
-pub check_shape-requires-clause-rising : goal.check_shape-requires-clause-rising
-check_shape-requires-clause-rising c =
+pub checked_index-requires : goal.checked_index-requires
+checked_index-requires c =
     let es = c.args.entries.items in
     let back : take c.args.entries.len (c.sort_all_keys.new.entries ++ drop (length c.sort_all_keys.new.entries) es) ≡ map with_keys_in_order es = written c.args.entries.items c.deref_mut.result.now c.sort_all_keys.new.entries c.args.entries.len c.deref_mut.ensures.len c.deref_mut.ensures.value (c.if-not-sort_all_keys.ensures.order refl) in
-    let made : c.deref-2.result.now ≡ tree_of es = c.deref-2.ensures.value ∙ c.if-not-sort_names.ensures.order refl ∙ ap in_order back in
-    subst (λ (t : Tree). IsTrue (rises name_cmp (map (λ (e : Entry). e.name) t))) (sym made) (in_order-rises (map with_keys_in_order es))
+    let made : c.deref.result.now ≡ tree_of es = c.deref.ensures.value ∙ c.if-not-sort_names.ensures.order refl ∙ ap in_order back in
+    record { rising = subst (λ (t : Tree). IsTrue (rises name_cmp (map (λ (e : Entry). e.name) t))) (sym made) (in_order-rises (map with_keys_in_order es)) }
 
 pub invariant_of-result : goal.invariant_of-result
 invariant_of-result c =
     let es = c.args.entries.items in
     let back : take c.args.entries.len (c.sort_all_keys.new.entries ++ drop (length c.sort_all_keys.new.entries) es) ≡ map with_keys_in_order es = written c.args.entries.items c.deref_mut.result.now c.sort_all_keys.new.entries c.args.entries.len c.deref_mut.ensures.len c.deref_mut.ensures.value (c.if-not-sort_all_keys.ensures.order refl) in
     let made : c.sort_names.new.entries.items ≡ tree_of es = c.if-not-sort_names.ensures.order refl ∙ ap in_order back in (
-      subst IsSane (sym made) (made_sane es (subst (λ (t : Tree). IsSaneMap (entry_of t)) (c.deref-2.ensures.value ∙ made) c.in_ok-check_shape.ensures.ok)),
+      subst IsSane (sym made) (made_sane es (subst (λ (t : Tree). IsSaneMap (entry_of t)) (c.deref.ensures.value ∙ made) c.in_ok-by_slot.ensures.ok)),
       subst (λ (t : Tree). IsIndex t c.in_ok-by_slot.by_slot.items) c.deref.ensures.value c.in_ok-by_slot.ensures.index,
     )
 
@@ -72,5 +71,5 @@ returns-clause-made c =
     record {
       names = (told es _ true back c.if-not-sort_names.ensures.apart).0 refl;
       keys = subst (λ (xs : List Entry). AllByRecursion KeysDiffer xs) c.deref_mut.ensures.value (c.if-not-sort_all_keys.ensures.apart.0 refl);
-      sane = subst (λ (t : Tree). IsSaneMap (entry_of t)) (c.deref-2.ensures.value ∙ made) c.in_ok-check_shape.ensures.ok;
+      sane = subst (λ (t : Tree). IsSaneMap (entry_of t)) (c.deref.ensures.value ∙ made) c.in_ok-by_slot.ensures.ok;
     }
