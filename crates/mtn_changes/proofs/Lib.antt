@@ -1,3 +1,5 @@
 pub mod PathText
 pub mod Seven
 pub mod Parts
+pub mod Fronts
+pub mod Edges

@@ -6,3 +6,5 @@ pub mod Slots
 pub mod Lists
 pub mod Faults
 pub mod ChangesText
+pub mod RevisionText
+pub mod Runs

@@ -15,8 +15,10 @@ mod change;
 mod error;
 mod head;
 mod lines;
+mod opening;
 mod order;
 mod reading;
+mod revision;
 mod slot;
 mod stanzas;
 #[cfg(test)]
@@ -26,4 +28,5 @@ pub use change::{Change, Changeset, Edge, MAX_KEY, Revision};
 pub use error::ChangeTextError;
 pub use head::{Head, head_of, stanza_of_head};
 pub use reading::read_changes;
+pub use revision::read_revision;
 pub use stanzas::{change_of, stanza_of};

@@ -19,6 +19,7 @@ pub enum Fault {
     BadStanza,
     BadOrder,
     Repeated,
+    BadEdge,
     NoMemory,
 }
 
@@ -75,6 +76,17 @@ impl Part {
             slots: BTreeSet::new(alloc),
             last: 0,
         }
+    }
+
+    pub fn into_changes(self) -> List<Change>
+        ensures { result ≡ self.changes }
+    {
+        let Part {
+            changes,
+            slots: _,
+            last: _,
+        } = self;
+        changes
     }
 
     /// Puts a change behind the others.
