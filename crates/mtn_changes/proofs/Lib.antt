@@ -3,3 +3,4 @@ pub mod Seven
 pub mod Parts
 pub mod Fronts
 pub mod Edges
+pub mod Places

@@ -8,3 +8,4 @@ pub mod Faults
 pub mod ChangesText
 pub mod RevisionText
 pub mod Runs
+pub mod Sorting

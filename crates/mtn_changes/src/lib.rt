@@ -20,9 +20,11 @@ mod order;
 mod reading;
 mod revision;
 mod slot;
+mod sorting;
 mod stanzas;
 #[cfg(test)]
 mod tests;
+mod writing;
 
 pub use change::{Change, Changeset, Edge, MAX_KEY, Revision};
 pub use error::ChangeTextError;
@@ -30,3 +32,4 @@ pub use head::{Head, head_of, stanza_of_head};
 pub use reading::read_changes;
 pub use revision::read_revision;
 pub use stanzas::{change_of, stanza_of};
+pub use writing::{write_changes, write_revision};

@@ -42,7 +42,8 @@ pub struct Part {
     pub last: u8,
 }
 
-fn rank(change: &Change) -> u8
+/// The place of its kind in an edge.
+pub fn rank(change: &Change) -> u8
     ensures { result ≡ rank_of_change change.now }
 {
     match change {
