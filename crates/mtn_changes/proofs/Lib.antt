@@ -4,3 +4,4 @@ pub mod Parts
 pub mod Fronts
 pub mod Edges
 pub mod Places
+pub mod Sorted

@@ -1,7 +1,7 @@
 // Writes texts of changes and of revisions.
 ghost use Rattle.std.specs.Prelude.{◌≡◌, ◌++◌, ◌∷◌, map, OnOk, OnErr};
 ghost use Rattle.mtn_changes.specs.Heads.{head_stanza};
-ghost use Rattle.mtn_changes.specs.Sorting.{EdgeWritten, EdgesWritten, WritesChanges, WritesRevision};
+ghost use Rattle.mtn_changes.specs.Sorting.{AreUnsorted, AreUnsortedEdges, EdgeWritten, EdgesWritten, WritesChanges, WritesRevision};
 ghost use Rattle.mtn_changes.specs.Stanzas.{stanza_of as spelled};
 
 use crate::change::{Change, Changeset, Edge, Revision};
@@ -27,6 +27,7 @@ fn push_changes(
 
 /// Appends the text of the changes, sorted by rank, path and key. An `Err` leaves `out` as it was.
 pub fn write_changes(alloc: Global, changes: &Changeset, out: &mut Vec<u8>) -> Result<(), NoMemory>
+    requires { AreUnsorted changes.now }
     ensures ok { OnOk result (WritesChanges out.old.items changes.now out.new.items) }
     ensures err { OnErr result (out.new.items ≡ out.old.items) }
 {
@@ -57,6 +58,7 @@ fn push_edges(alloc: Global, edges: &[Edge], stanzas: &mut Vec<Stanza>) -> Resul
 /// Appends the text of the revision, the changes of each edge sorted by rank, path and key. An `Err`
 /// leaves `out` as it was.
 pub fn write_revision(alloc: Global, revision: &Revision, out: &mut Vec<u8>) -> Result<(), NoMemory>
+    requires { AreUnsortedEdges revision.now.edges }
     ensures ok { OnOk result (WritesRevision out.old.items revision.now out.new.items) }
     ensures err { OnErr result (out.new.items ≡ out.old.items) }
 {
