@@ -1,5 +1,5 @@
 -- A revision of one edge or two.
-use Rattle.std.proofs.Common.{◌≡◌, ℕ, ◌+◌, ◌-◌, ◌<◌, ◌≤◌, List, [], ◌∷◌, ◌++◌, length, take, drop, map, Option, Some, None, refl, sym, ap, subst, ◌∙◌, inl, inr, arith}
+use Rattle.std.proofs.Common.{◌≡◌, ℕ, ◌+◌, ◌-◌, List, [], ◌∷◌, ◌++◌, length, take, drop, map, Option, Some, refl, sym, ap, subst, ◌∙◌, inl, arith}
 use Rattle.std.specs.List.{flat_map}
 use Rattle.std.proofs.lemmas.List.{append-nil, length-append, length-map, length-drop, take_all}
 use Rattle.std.proofs.Common.{append_assoc}
@@ -15,9 +15,8 @@ use Rattle.mtn_changes.specs.declared.error.ChangeTextError.{ChangeTextError}
 use Rattle.mtn_changes.specs.declared.error.ChangeTextError.TheVariants.{NotText, BadStanza, BadOrder, Repeated, BadEdge, NoMemory}
 use Rattle.mtn_changes.specs.Stanzas.{stanza_of}
 use Rattle.mtn_changes.specs.Heads.{head_stanza}
-use Rattle.mtn_changes.specs.Lists.{IsFault}
 use Rattle.mtn_changes.specs.ChangesText.{AreChanges}
-use Rattle.mtn_changes.specs.RevisionText.{edge_stanzas, Ascend, AreEdges, IsOnlyEdgeFault, IsWrongAt, IsStanzasFault, IsRevision}
+use Rattle.mtn_changes.specs.RevisionText.{edge_stanzas, Ascend, IsOnlyEdgeFault, IsWrongAt, IsStanzasFault, IsRevision}
 use Rattle.mtn_changes.specs.Runs.{IsOpening, IsRun, IsRunFaultAt, IsRunFault, IsSecond, IsSecondFaultAt, IsSecondFault}
 
 -- a list without its first items

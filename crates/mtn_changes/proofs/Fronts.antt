@@ -1,5 +1,5 @@
 -- How a revision may go on.
-use Rattle.std.proofs.Common.{◌≡◌, ℕ, zero, suc, ◌+◌, ◌<◌, ◌≤◌, List, [], ◌∷◌, ◌++◌, length, get_or, take, drop, map, Option, Some, None, refl, sym, ap, subst, ◌∙◌, inl, inr, arith}
+use Rattle.std.proofs.Common.{◌≡◌, ℕ, suc, ◌+◌, ◌<◌, List, [], ◌∷◌, ◌++◌, length, get_or, take, drop, map, Option, Some, None, refl, sym, ap, subst, ◌∙◌, inl, arith}
 use Rattle.std.specs.Prelude.{◌==◌, Bool, false}
 use Rattle.std.specs.List.{flat_map}
 use Rattle.std.proofs.lemmas.List.{length-take-le, length-map, length-drop}
@@ -17,7 +17,7 @@ use Rattle.mtn_changes.specs.Heads.{head_stanza, head_rank, IsParentRead}
 use Rattle.mtn_changes.specs.Faults.{numbered_of}
 use Rattle.mtn_changes.specs.Lists.{IsFault}
 use Rattle.mtn_changes.specs.ChangesText.{AreChanges}
-use Rattle.mtn_changes.specs.RevisionText.{edge_stanzas, IsFront, IsHeadFault, IsNextFault, IsWrongAt, EndsEarly, IsStanzasFault}
+use Rattle.mtn_changes.specs.RevisionText.{edge_stanzas, IsFront, IsHeadFault, IsNextFault, EndsEarly, IsStanzasFault}
 use Rattle.mtn_changes.specs.Runs.{IsOpening, IsRunFaultAt, IsRunFault, EndsRun}
 use Rattle.mtn_changes.proofs.Parts.{cut_at}
 

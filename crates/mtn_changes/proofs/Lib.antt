@@ -5,3 +5,4 @@ pub mod Fronts
 pub mod Edges
 pub mod Places
 pub mod Sorted
+pub mod Unsorted

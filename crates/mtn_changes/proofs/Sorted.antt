@@ -1,7 +1,7 @@
 -- Sorted changes are lawful.
-use Rattle.std.proofs.Common.{◌≡◌, ℕ, zero, suc, ◌+◌, ◌<◌, ◌≤◌, Bool, true, false, cond, List, [], ◌∷◌, ◌++◌, length, get_or, take, drop, map, refl, sym, ap, subst, ◌∙◌, true≢false, Ordering, Less, is_lt, IsPermutation, IsSorted, arith}
-use Rattle.std.specs.Prelude.{All, nat_lt}
-use Rattle.std.specs.List.{list_any, count_by, sum_by}
+use Rattle.std.proofs.Common.{◌≡◌, ℕ, zero, suc, ◌+◌, ◌<◌, ◌≤◌, Bool, true, false, cond, List, [], ◌∷◌, length, get_or, take, drop, refl, sym, ap, subst, ◌∙◌, true≢false, Ordering, is_lt, IsSorted, arith}
+use Rattle.std.specs.Prelude.{nat_lt}
+use Rattle.std.specs.List.{list_any, count_by}
 use Rattle.std.specs.Ordering.{is_eq, nat_cmp, ordering_then}
 use Rattle.std.proofs.lemmas.Bool.Decides.{nat_tests}
 use Rattle.std.proofs.lemmas.Cmp.{tied_itself}
@@ -13,15 +13,15 @@ use Rattle.mtn_changes.specs.declared.change.Change.{Change}
 use Rattle.mtn_changes.specs.declared.change.Edge.{Edge}
 use Rattle.mtn_changes.specs.declared.slot.Slot.{Slot}
 use Rattle.mtn_changes.specs.Changes.{IsChange, rank}
-use Rattle.mtn_changes.specs.Slots.{slot_of, slot_cmp, is_same_slot}
-use Rattle.mtn_changes.specs.Lists.{last_rank, is_taken, Stands}
+use Rattle.mtn_changes.specs.Slots.{slot_of, slot_cmp}
+use Rattle.mtn_changes.specs.Lists.{last_rank, is_taken}
 use Rattle.mtn_changes.specs.ChangesText.{AreChanges}
 use Rattle.mtn_changes.specs.RevisionText.{Ascend, AreEdges}
 use Rattle.mtn_changes.specs.Sorting.{place_cmp, IsSortedAs, AreSortedAs, AreUnsorted, AreUnsortedEdges}
 use Rattle.mtn_changes.proofs.Parts.{last_rank-push}
 use Rattle.mtn_changes.proofs.Places.{slot_total}
 
-abbrev at : Slot → Change → Bool
+abbrev pub at : Slot → Change → Bool
 at s c = is_eq (slot_cmp (slot_of c) s)
 
 -- ranks of a sorted list do not fall
@@ -44,10 +44,10 @@ rises cs up (suc k) d lt =
     omega arith
 
 -- none before it changes the same
-abbrev one_at : Slot → Change → ℕ
+abbrev pub one_at : Slot → Change → ℕ
 one_at s c = cond (at s c) 1 0
 
-count_more : (s : Slot) (c : Change) (cs : List Change) → count_by (at s) (c ∷ cs) ≡ one_at s c + count_by (at s) cs
+pub count_more : (s : Slot) (c : Change) (cs : List Change) → count_by (at s) (c ∷ cs) ≡ one_at s c + count_by (at s) cs
 count_more s c cs = sum_by-cons (one_at s) c cs
 
 none_or : (s : Slot) (c : Change) (cs : List Change) (b : Bool) → at s c ≡ b → count_by (at s) (c ∷ cs) ≡ 0 → (count_by (at s) cs ≡ 0 → list_any (at s) cs ≡ false)

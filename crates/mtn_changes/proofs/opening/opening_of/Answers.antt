@@ -1,4 +1,4 @@
-use Rattle.std.proofs.Common.{◌≡◌, ◌<◌, length, inr, arith}
+use Rattle.std.proofs.Common.{◌<◌, length, inr, arith}
 use Rattle.mtn_changes.proofs.Fronts.{some, wrong1, wrong2, wrong3, early1, early2}
 use Rattle.mtn_changes.proofs.opening.opening_of.Goals as goal
 

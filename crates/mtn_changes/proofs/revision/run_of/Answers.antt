@@ -1,4 +1,3 @@
-use Rattle.std.proofs.Common.{◌≡◌, List, ap, ◌∙◌}
 use Rattle.mtn_changes.proofs.Fronts.{run_ends, run_fault}
 use Rattle.mtn_changes.proofs.revision.run_of.Goals as goal
 

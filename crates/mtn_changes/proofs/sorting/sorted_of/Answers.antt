@@ -1,4 +1,4 @@
-use Rattle.std.proofs.Common.{◌≡◌, List, sym, subst, ◌∙◌, is_lt, IsPermutation, rules}
+use Rattle.std.proofs.Common.{List, subst, ◌∙◌, is_lt, IsPermutation, rules}
 use Rattle.std.proofs.lemmas.List.Sorted.{ranks_by, answers_always}
 use Rattle.mtn_changes.specs.declared.change.Change.{Change}
 use Rattle.mtn_changes.specs.Sorting.{place_of, place_cmp}
