@@ -1,5 +1,5 @@
 -- A list of changes with one more.
-use Rattle.std.proofs.Common.{◌≡◌, ℕ, zero, suc, ◌+◌, ◌<◌, ◌≤◌, Bool, true, false, cond, List, [], ◌∷◌, ◌++◌, length, get_or, take, drop, map, refl, sym, ap, subst, ◌∙◌, arith}
+use Rattle.std.proofs.Common.{◌≡◌, ℕ, zero, suc, ◌+◌, ◌<◌, Bool, true, false, cond, List, [], ◌∷◌, ◌++◌, length, get_or, take, drop, map, refl, sym, ap, subst, ◌∙◌, arith}
 use Rattle.std.specs.Prelude.{◌||◌, not}
 use Rattle.std.specs.List.{list_any}
 use Rattle.std.proofs.lemmas.Bool.{not-true, not-false}
@@ -9,11 +9,11 @@ use Rattle.std.specs.BTreeSet.{BTreeSet, contains, Updates}
 use Rattle.std.specs.BTreeMap.{is_at}
 use Rattle.mtn_changes.specs.declared.change.Change.{Change}
 use Rattle.mtn_changes.specs.declared.slot.Slot.{Slot}
-use Rattle.mtn_changes.specs.Changes.{IsChange, rank}
+use Rattle.mtn_changes.specs.Changes.{rank}
 use Rattle.mtn_changes.specs.Slots.{slot_of, slot_cmp}
 use Rattle.mtn_basic_io.specs.Spelling.{LineText}
 use Rattle.mtn_changes.specs.declared.order.Fault.{Fault}
-use Rattle.mtn_changes.specs.declared.order.Fault.TheVariants.{BadStanza, BadOrder, Repeated, NoMemory}
+use Rattle.mtn_changes.specs.declared.order.Fault.TheVariants.{BadStanza, BadOrder, Repeated, BadEdge, NoMemory}
 use Rattle.mtn_changes.specs.declared.error.ChangeTextError.{ChangeTextError}
 use Rattle.mtn_changes.specs.Stanzas.{stanza_of}
 use Rattle.mtn_changes.specs.Faults.{numbered_of}
@@ -53,7 +53,7 @@ slots_more cs old new c slot is slots_are updates s =
     ∙ sym (list_any-append (λ d. is_at (slot_cmp (slot_of d)) s) cs (c ∷ []))
 
 -- the stanza at a place, behind those before it
-cut_at : (ss : List (List LineText)) (at : ℕ) (s : List LineText) → at < length ss → s ≡ get_or ss at s → ss ≡ take at ss ++ s ∷ drop (suc at) ss
+pub cut_at : (ss : List (List LineText)) (at : ℕ) (s : List LineText) → at < length ss → s ≡ get_or ss at s → ss ≡ take at ss ++ s ∷ drop (suc at) ss
 cut_at [] at s lt is = absurd (omega arith)
 cut_at (t ∷ ss) zero s lt is = ap (λ (u : List LineText). u ∷ ss) (sym is)
 cut_at (t ∷ ss) (suc at) s lt is = ap (λ (us : List (List LineText)). t ∷ us) (cut_at ss at s (omega arith) is)
@@ -74,4 +74,5 @@ pub list_fault : (ss : List (List LineText)) (at : ℕ) (cs : List Change) (s : 
 list_fault ss at cs s BadStanza e lt is lawful read fault same = let P : ChangeTextError → Type 0 = λ x. IsListFault ss x in subst P (sym same) (fault_of ss at cs s BadStanza lt is lawful read fault)
 list_fault ss at cs s BadOrder e lt is lawful read fault same = let P : ChangeTextError → Type 0 = λ x. IsListFault ss x in subst P (sym same) (fault_of ss at cs s BadOrder lt is lawful read fault)
 list_fault ss at cs s Repeated e lt is lawful read fault same = let P : ChangeTextError → Type 0 = λ x. IsListFault ss x in subst P (sym same) (fault_of ss at cs s Repeated lt is lawful read fault)
+list_fault ss at cs s BadEdge e lt is lawful read fault same = absurd fault
 list_fault ss at cs s NoMemory e lt is lawful read fault same = let P : ChangeTextError → Type 0 = λ x. IsListFault ss x in subst P (sym same) tt

@@ -1,5 +1,6 @@
 -- The stanzas of a revision that are no changes, as Monotone spells them.
 use Rattle.std.specs.Prelude.{◌≡◌, ℕ, List, [], ◌∷◌, codes, Option, Some, None}
+use Rattle.mtn_base.specs.declared.id.Id.{Id}
 use Rattle.mtn_basic_io.specs.declared.stanza.Value.TheVariants.{Hex}
 use Rattle.mtn_basic_io.specs.Spelling.{LineText}
 use Rattle.mtn_changes.specs.declared.head.Head.{Head}
@@ -26,3 +27,8 @@ IsHeadReadOf r stanza (Some head) = stanza ≡ head_stanza head
 abbrev pub IsHeadRead : List LineText → Option Head → Type 0
 IsHeadRead stanza None = (head : Head) → stanza ≡ head_stanza head → ⊥
 IsHeadRead stanza (Some head) = stanza ≡ head_stanza head
+
+-- the parent that an `old_revision` names; None where the stanza is none
+abbrev pub IsParentRead : List LineText → Option (Option Id) → Type 0
+IsParentRead stanza None = (id : Option Id) → stanza ≡ head_stanza (Parent id) → ⊥
+IsParentRead stanza (Some id) = stanza ≡ head_stanza (Parent id)

@@ -6,3 +6,6 @@ pub mod Slots
 pub mod Lists
 pub mod Faults
 pub mod ChangesText
+pub mod RevisionText
+pub mod Runs
+pub mod Sorting

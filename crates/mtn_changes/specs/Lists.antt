@@ -8,7 +8,7 @@ use Rattle.mtn_changes.specs.declared.change.Change.{Change}
 use Rattle.mtn_changes.specs.declared.head.Head.{Head}
 use Rattle.mtn_changes.specs.declared.slot.Slot.{Slot}
 use Rattle.mtn_changes.specs.declared.order.Fault.{Fault}
-use Rattle.mtn_changes.specs.declared.order.Fault.TheVariants.{BadStanza, BadOrder, Repeated, NoMemory}
+use Rattle.mtn_changes.specs.declared.order.Fault.TheVariants.{BadStanza, BadOrder, Repeated, BadEdge, NoMemory}
 use Rattle.mtn_changes.specs.Changes.{IsChange, rank}
 use Rattle.mtn_changes.specs.Heads.{head_stanza, IsHeadRead}
 use Rattle.mtn_changes.specs.Slots.{slot_of, slot_cmp, is_same_slot}
@@ -36,6 +36,7 @@ IsFault before stanza BadStanza = IsRead stanza None × IsHeadRead stanza None
 IsFault before stanza BadOrder =
     ((h : Head) × (stanza ≡ head_stanza h)) ⊎ ((c : Change) × IsChange c × (stanza ≡ stanza_of c) × (rank c < last_rank before))
 IsFault before stanza Repeated = (c : Change) × IsChange c × (stanza ≡ stanza_of c) × (last_rank before ≤ rank c) × (is_taken before c ≡ true)
+IsFault before stanza BadEdge = ⊥
 IsFault before stanza NoMemory = Unit {0}
 
 -- the list with the change of the stanza behind it

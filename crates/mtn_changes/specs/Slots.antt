@@ -1,6 +1,5 @@
 -- What a change changes; clear and set of an attribute change the same.
-use Rattle.std.specs.Prelude.{ℕ, Bool, List, []}
-use Rattle.std.specs.List.{list_any}
+use Rattle.std.specs.Prelude.{Bool, []}
 use Rattle.std.specs.declared.cmp.Ordering.{Ordering}
 use Rattle.std.specs.Ordering.{nat_cmp, ordering_then, is_eq}
 use Rattle.mtn_base.specs.Names.{bytes_cmp, path_cmp}

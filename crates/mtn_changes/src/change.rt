@@ -119,7 +119,8 @@ impl Changeset {
     }
 }
 
-fn copy_changes(alloc: Global, changes: &[Change]) -> Result<List<Change>, NoMemory>
+/// Equal changes in the same order.
+pub fn copy_changes(alloc: Global, changes: &[Change]) -> Result<List<Change>, NoMemory>
     ensures { IfOk result (λ l. l ≡ changes.now) }
 {
     let mut copies = List::new(alloc);

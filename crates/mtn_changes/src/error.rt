@@ -47,6 +47,7 @@ pub fn numbered(fault: Fault, number: u64) -> ChangeTextError
         Fault::BadStanza => ChangeTextError::BadStanza { number },
         Fault::BadOrder => ChangeTextError::BadOrder { number },
         Fault::Repeated => ChangeTextError::Repeated { number },
+        Fault::BadEdge => ChangeTextError::BadEdge { number },
         Fault::NoMemory => ChangeTextError::NoMemory,
     }
 }

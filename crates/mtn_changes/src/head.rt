@@ -1,6 +1,6 @@
 // The stanzas of a revision that are no changes.
 ghost use Rattle.std.specs.Prelude.{◌≡◌, IfOk};
-ghost use Rattle.mtn_changes.specs.Heads.{IsHeadRead, IsHeadReadOf, head_stanza};
+ghost use Rattle.mtn_changes.specs.Heads.{IsHeadRead, IsHeadReadOf, IsParentRead, head_stanza};
 
 use crate::lines::{id_of, parent_of, text_of};
 use mtn_base::{Id, NoMemory};
@@ -42,16 +42,23 @@ fn manifest_in(stanza: &Stanza) -> Option<Head>
     Some(Head::Manifest { id })
 }
 
-fn parent_in(stanza: &Stanza) -> Option<Head>
-    ensures { IsHeadReadOf 3 stanza.now result }
+/// The parent that an `old_revision` names; None where the stanza is none.
+pub fn parent_in(stanza: &Stanza) -> Option<Option<Id>>
+    ensures { IsParentRead stanza.now result }
 {
     let [line] = stanza.lines.as_slice() else {
         return None;
     };
-    let Some(id) = parent_of(line, b"old_revision") else {
-        return None;
-    };
-    Some(Head::Parent { id })
+    parent_of(line, b"old_revision")
+}
+
+fn parent_head_in(stanza: &Stanza) -> Option<Head>
+    ensures { IsHeadReadOf 3 stanza.now result }
+{
+    match parent_in(stanza) {
+        Some(id) => Some(Head::Parent { id }),
+        None => None,
+    }
 }
 
 /// The head that a stanza spells; None exactly where it spells none. It takes no memory.
@@ -66,7 +73,7 @@ pub fn head_of(stanza: &Stanza) -> Option<Head>
     if manifest.is_some() {
         return manifest;
     }
-    parent_in(stanza)
+    parent_head_in(stanza)
 }
 
 /// The stanza of a head.

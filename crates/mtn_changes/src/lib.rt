@@ -14,16 +14,24 @@
 mod change;
 mod error;
 mod head;
+mod laws;
 mod lines;
+mod opening;
 mod order;
 mod reading;
+mod revision;
 mod slot;
+mod sorting;
 mod stanzas;
 #[cfg(test)]
 mod tests;
+mod writing;
 
 pub use change::{Change, Changeset, Edge, MAX_KEY, Revision};
 pub use error::ChangeTextError;
 pub use head::{Head, head_of, stanza_of_head};
+pub use laws::lawful_in_any_order;
 pub use reading::read_changes;
+pub use revision::read_revision;
 pub use stanzas::{change_of, stanza_of};
+pub use writing::{write_changes, write_revision};

@@ -19,6 +19,7 @@ pub enum Fault {
     BadStanza,
     BadOrder,
     Repeated,
+    BadEdge,
     NoMemory,
 }
 
@@ -41,7 +42,8 @@ pub struct Part {
     pub last: u8,
 }
 
-fn rank(change: &Change) -> u8
+/// The place of its kind in an edge.
+pub fn rank(change: &Change) -> u8
     ensures { result ≡ rank_of_change change.now }
 {
     match change {
@@ -75,6 +77,17 @@ impl Part {
             slots: BTreeSet::new(alloc),
             last: 0,
         }
+    }
+
+    pub fn into_changes(self) -> List<Change>
+        ensures { result ≡ self.changes }
+    {
+        let Part {
+            changes,
+            slots: _,
+            last: _,
+        } = self;
+        changes
     }
 
     /// Puts a change behind the others.

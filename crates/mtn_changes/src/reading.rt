@@ -19,12 +19,7 @@ fn list_of(alloc: Global, stanzas: &[Stanza]) -> Result<List<Change>, ChangeText
             return Err(numbered(fault, at as u64 + 1));
         }
     }
-    let Part {
-        changes,
-        slots: _,
-        last: _,
-    } = part;
-    Ok(changes)
+    Ok(part.into_changes())
 }
 
 /// The changes of one edge that a text spells, in its order.

@@ -8,6 +8,8 @@ use mtn_basic_io::{Stanza, read, write};
 use std::alloc::Global;
 use std::test::Fail;
 
+mod revisions;
+
 /// A stanza of each kind of change.
 const CHANGES: &[u8] =
     b"delete \"a\"\n\nrename \"a\"\n    to \"b/c\"\n\nadd_dir \"\"\n\nadd_file \"x\"\n content [0123456789abcdef0123456789abcdef01234567]\n\npatch \"x\"\n from [0123456789abcdef0123456789abcdef01234567]\n   to [89abcdef0123456789abcdef0123456789abcdef]\n\nclear \"x\"\n attr \"k\"\n\n  set \"y\"\n attr \"k\"\nvalue \"a \\\"b\\\"\"\n";

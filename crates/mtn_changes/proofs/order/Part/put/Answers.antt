@@ -1,4 +1,4 @@
-use Rattle.std.proofs.Common.{refl, arith, ◌∙◌}
+use Rattle.std.proofs.Common.{refl, arith}
 use Rattle.mtn_changes.proofs.Parts.{last_rank-push, taken, not_taken, slots_more}
 use Rattle.mtn_changes.proofs.order.Part.put.Goals as goal
 

@@ -1,0 +1,4 @@
+use Rattle.mtn_changes.proofs.opening.parent_at.Goals as goal
+
+pub returns-in-None-clause-err : goal.returns-in-None-clause-err
+returns-in-None-clause-err c = c.no_head.ensures 3

@@ -1,0 +1,5 @@
+use Rattle.mtn_changes.proofs.Unsorted.{unsorted}
+use Rattle.mtn_changes.proofs.tests.revisions.sorted_again.Goals as goal
+
+pub write_changes-requires : goal.write_changes-requires
+write_changes-requires c = unsorted c.in_ok-changes.changes c.in_ok-changes.ensures.ok.lawful

@@ -1,0 +1,70 @@
+// The order in which changes are written.
+ghost use Rattle.std.specs.Prelude.{◌≡◌, IfOk};
+ghost use Rattle.mtn_changes.specs.Slots.{slot_of as slot_for};
+ghost use Rattle.mtn_changes.specs.Sorting.{IsSortedAs, place_cmp};
+
+use crate::change::{Change, copy_changes};
+use crate::order::rank;
+use mtn_base::{NoMemory, Path};
+use std::alloc::Global;
+use std::cmp::Ordering;
+
+fn path_of(change: &Change) -> &Path
+    ensures { result.now ≡ (slot_for change.now).path }
+{
+    match change {
+        Change::Delete { path } => path,
+        Change::Rename { path, to: _ } => path,
+        Change::AddDir { path } => path,
+        Change::AddFile { path, content: _ } => path,
+        Change::Patch {
+            path,
+            from: _,
+            to: _,
+        } => path,
+        Change::Clear { path, key: _ } => path,
+        Change::Set {
+            path,
+            key: _,
+            value: _,
+        } => path,
+    }
+}
+
+fn key_of(change: &Change) -> &[u8]
+    ensures { result.now ≡ (slot_for change.now).key }
+{
+    match change {
+        Change::Clear { path: _, key } => key.as_slice(),
+        Change::Set {
+            path: _,
+            key,
+            value: _,
+        } => key.as_slice(),
+        _ => b"",
+    }
+}
+
+/// By rank, then by path, then by key.
+fn compare(a: &Change, b: &Change) -> Ordering
+    ensures { result ≡ place_cmp a.now b.now }
+{
+    match rank(a).cmp(&rank(b)) {
+        Ordering::Less => Ordering::Less,
+        Ordering::Greater => Ordering::Greater,
+        Ordering::Equal => match path_of(a).cmp(path_of(b)) {
+            Ordering::Less => Ordering::Less,
+            Ordering::Greater => Ordering::Greater,
+            Ordering::Equal => key_of(a).cmp(key_of(b)),
+        },
+    }
+}
+
+/// Equal changes in the order in which they are written.
+pub fn sorted_of(alloc: Global, changes: &[Change]) -> Result<Vec<Change>, NoMemory>
+    ensures { IfOk result (λ v. IsSortedAs changes.now v.items) }
+{
+    let mut sorted = copy_changes(alloc, changes)?.into_vec();
+    sorted.sort_by(compare)?;
+    Ok(sorted)
+}
