@@ -1,0 +1,32 @@
+-- What the laws of changesets and joinings speak of.
+use Rattle.std.specs.Prelude.{◌≡◌, ◌≢◌, ◌⊎◌, ℕ, Bool, IsTrue, List, [], Some, Contains, IsSome}
+use Rattle.mtn_base.specs.declared.id.Id.{Id}
+use Rattle.mtn_base.specs.declared.name.NodeName.{NodeName}
+use Rattle.mtn_roster.specs.declared.entry.Entry.{Entry}
+use Rattle.mtn_changes.specs.declared.change.Change.{Change}
+use Rattle.mtn_changes.specs.declared.change.Change.TheVariants.{Rename}
+use Rattle.mtn_roster.specs.Tree.{Tree, entry_of, attr_of, is_dir, IsSane}
+
+-- the old tree of a revision: none, or a sane one
+abbrev pub IsOldTree : Tree → Type 0
+IsOldTree old = (old ≡ []) ⊎ IsSane old
+
+-- no two renames of one old path, as in each changeset that was read
+abbrev pub RenamesDiffer : List Change → Type 0
+RenamesDiffer all = (p q r : List (List ℕ)) → Contains all (Rename p q) → Contains all (Rename p r) → q ≡ r
+
+-- no node of the tree is born in the new revision
+abbrev pub NoneBornIn : Tree → Id → Type 0
+NoneBornIn old new = (n : NodeName) (e : Entry) → entry_of old n ≡ Some e → n.birth ≡ new → ⊥
+
+-- what the tree that a changeset makes has of the nodes of the old one
+pub record Descends (old after : Tree) (new : Id) : Type 0 where
+  pub from : (n : NodeName) (e : Entry) → entry_of after n ≡ Some e → n.birth ≢ new → IsSome (entry_of old n)
+  pub kind : (n : NodeName) (e f : Entry) → entry_of after n ≡ Some e → entry_of old n ≡ Some f → is_dir e ≡ is_dir f
+  pub keys : (n : NodeName) (k : List ℕ) (e f : Entry) → entry_of after n ≡ Some e → entry_of old n ≡ Some f → IsSome (attr_of f.attrs k) → IsSome (attr_of e.attrs k)
+
+-- The birth of an old node that stands in both trees is an ancestor of both parents
+abbrev pub CommonAreKnown : Tree → Tree → Id → (Id → Bool) → (Id → Bool) → Type 0
+CommonAreKnown left right new above_left above_right =
+    (n : NodeName) (x y : Entry) → entry_of left n ≡ Some x → entry_of right n ≡ Some y → n.birth ≢ new →
+    IsTrue (above_left n.birth) × IsTrue (above_right n.birth)
