@@ -1,5 +1,5 @@
 -- The manifest of a tree, which names a revision's files: Monotone's format 1, with live attributes alone.
-use Rattle.std.specs.Prelude.{ℕ, ◌<◌, List, [], ◌∷◌, ◌++◌, length, slice_index_or, map, filter_map, codes, Option, Some, option_map}
+use Rattle.std.specs.Prelude.{ℕ, ◌<◌, ◌&&◌, not, if◌then◌else◌, List, [], ◌∷◌, ◌++◌, length, slice_index_or, map, filter_map, codes, Option, Some, option_map}
 use Rattle.mtn_base.specs.Paths.{path_text}
 use Rattle.mtn_basic_io.specs.Spelling.{LineText}
 use Rattle.mtn_basic_io.specs.declared.stanza.Value.{Value}
@@ -10,7 +10,7 @@ use Rattle.mtn_roster.specs.declared.entry.Body.{Body}
 use Rattle.mtn_roster.specs.declared.entry.Body.TheVariants.{Dir, File}
 use Rattle.mtn_roster.specs.declared.entry.Slot.{Slot}
 use Rattle.mtn_roster.specs.declared.entry.Slot.TheVariants.{Root, Below}
-use Rattle.mtn_roster.specs.Tree.{Tree, path_of}
+use Rattle.mtn_roster.specs.Tree.{Tree, path_of, is_dir, is_root_slot}
 use Rattle.mtn_roster.specs.Walk.{by_path}
 
 -- a line of its values
@@ -30,26 +30,24 @@ attr_line a = option_map (λ value. line_of (codes "attr") (Text a.key ∷ Text 
 abbrev pub node_stanza : List ℕ → Entry → List LineText
 node_stanza path e = body_lines path e.body ++ filter_map attr_line e.attrs
 
+-- `format_version "1"`
+abbrev pub head_stanza : List LineText
+head_stanza = line_of (codes "format_version") (Text (codes "1") ∷ []) ∷ []
+
 -- `format_version`, and a stanza for each node by ascending paths
 abbrev pub manifest_of : Tree → List (List LineText)
-manifest_of t = (line_of (codes "format_version") (Text (codes "1") ∷ []) ∷ []) ∷ map (λ (e : Entry). node_stanza (path_text (path_of t e)) e) (by_path t)
+manifest_of t = head_stanza ∷ map (λ (e : Entry). node_stanza (path_text (path_of t e)) e) (by_path t)
 
--- what stands before a component below a path
-abbrev pub prefix_of : List (List ℕ) → List ℕ
-prefix_of [] = []
-prefix_of (c ∷ cs) = c ++ (47 ∷ prefix_of cs)
+-- what is kept of a node at a path for its children: for those of the root, and below a file, nothing stands before them
+abbrev pub kept_at : List ℕ → Entry → List ℕ
+kept_at text e = if is_dir e && not (is_root_slot e.slot) then text ++ 47 ∷ [] else []
 
--- the text of the path of what hangs there, by what stands before the children of each node met so far
+-- the text of the path of what hangs there, by what is kept of each node met so far
 abbrev pub text_at : List (List ℕ) → Slot → ℕ → List ℕ
-text_at prefixes Root above = []
-text_at prefixes (Below parent name) above = slice_index_or prefixes above [] ++ name
-
--- what stands before its children
-abbrev pub prefix_at : List (List ℕ) → Slot → ℕ → List ℕ
-prefix_at prefixes Root above = []
-prefix_at prefixes (Below parent name) above = slice_index_or prefixes above [] ++ name ++ 47 ∷ []
+text_at kept Root above = []
+text_at kept (Below parent name) above = slice_index_or kept above [] ++ name
 
 -- the parent was met
 abbrev pub IsMet : List (List ℕ) → Slot → ℕ → Type 0
-IsMet prefixes Root above = Unit {0}
-IsMet prefixes (Below parent name) above = above < length prefixes
+IsMet kept Root above = Unit {0}
+IsMet kept (Below parent name) above = above < length kept

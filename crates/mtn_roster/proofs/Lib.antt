@@ -14,7 +14,7 @@ pub mod Telling
 pub mod Building
 pub mod KeysInOrder
 pub mod Indexing
-pub mod Climbing
+pub mod Marking
 pub mod Running
 pub mod Paths
 pub mod Walking

@@ -14,7 +14,7 @@ use Rattle.mtn_roster.specs.declared.entry.Slot.{Slot}
 use Rattle.mtn_roster.specs.declared.entry.Slot.TheVariants.{Root, Below}
 use Rattle.mtn_roster.specs.Building.{IsUp, AreUps}
 use Rattle.mtn_roster.specs.Index.{slot_cmp, slot_in}
-use Rattle.mtn_roster.specs.Walk.{component}
+use Rattle.mtn_roster.specs.Walk.{component, parent_cmp}
 use Rattle.mtn_roster.specs.Tree.{Tree, entry_of, rises}
 use Rattle.mtn_roster.proofs.Finding.{Split, later}
 use Rattle.mtn_roster.proofs.Forest.{name_of}
@@ -89,3 +89,13 @@ module _ (t : Tree) (rising : rises name_cmp (map (λ (e : Entry). e.name) t) �
   decided x y a b o ea eb na nb is =
       slots_by_ups x y (λ e. na (ea ∙ e)) (λ e. nb (eb ∙ e))
       ∙ ap (λ o. ordering_then o (bytes_cmp (component (slot_in t x)) (component (slot_in t y)))) (ap (λ k. nat_cmp k (get_or ups y y)) (sym ea) ∙ ap (nat_cmp a) (sym eb) ∙ sym is)
+
+  -- how a parent stands to the node at a place
+  pub parent_stands : (x a up : ℕ) (n : NodeName) → up ≡ get_or ups x x → (up ≡ x → ⊥) → a < length t → slice_get t a ≡ entry_of t n → parent_cmp (slot_in t x) n ≡ nat_cmp up a
+  parent_stands x a up n is not low at = stands (slot_in t x) refl
+    where
+      stands : (s : Slot) → slot_in t x ≡ s → parent_cmp s n ≡ nat_cmp up a
+      stands Root e = absurd (not (is ∙ up_there x Root e (λ q. not (is ∙ q))))
+      stands (Below p name) e =
+          let u = up_there x (Below p name) e (λ q. not (is ∙ q)) in
+          parents_cmp t rising (get_or ups x x) a p n u.0 low u.1 at ∙ ap (λ k. nat_cmp k a) (sym is)

@@ -43,6 +43,10 @@ module _ (t : Tree) (rising : rises name_cmp (map (λ (e : Entry). e.name) t) �
     root_slot : e.slot ≡ Root
     root_slot = same_slot-is e.slot Root (found (λ (f : Entry). same_slot f.slot Root) t e is).passes
 
+    -- the root is its own parent
+    pub top_is : get_or ups r 0 ≡ r
+    top_is = subst (λ s. IsUp t s r (get_or ups r 0)) (slot_is t r e at ∙ root_slot) (up.each r low)
+
     step_up : (s : Slot) (k u : ℕ) → IsUp t s k u → (u < length t → EndsAtRoot (entry_of t) (slot_in t u)) → EndsAtRoot (entry_of t) s
     step_up Root k u h ends = top
     step_up (Below parent name) k u h ends =

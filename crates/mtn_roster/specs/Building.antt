@@ -1,5 +1,5 @@
 -- Entries that a tree can be made of, and the tests that tell it.
-use Rattle.std.specs.Prelude.{◌≡◌, ℕ, zero, suc, ◌<◌, Bool, true, ◌&&◌, not, List, map, length, slice_get, slice_index}
+use Rattle.std.specs.Prelude.{◌≡◌, ℕ, zero, suc, ◌<◌, Bool, true, false, ◌&&◌, not, List, map, length, slice_get, slice_index, slice_index_or}
 use Rattle.std.specs.List.{AllByRecursion, IsDistinct}
 use Rattle.mtn_base.specs.Names.{same_bytes, same_name, bytes_cmp}
 use Rattle.mtn_roster.specs.declared.entry.Attr.{Attr}
@@ -54,3 +54,11 @@ pub record AreUps (t : Tree) (ups : List ℕ) : Type 0 where
 abbrev pub climbed : List ℕ → ℕ → ℕ → ℕ
 climbed ups zero k = k
 climbed ups (suc n) k = climbed ups n (slice_index ups k)
+
+-- the way up from a place leads to another
+abbrev pub Leads : List ℕ → ℕ → ℕ → Type 0
+Leads ups root k = (n : ℕ) × (climbed ups n k ≡ root)
+
+-- the ways up from all marked places lead there
+abbrev pub MarkedLead : List ℕ → ℕ → List Bool → Type 0
+MarkedLead ups root marked = (k : ℕ) → slice_index_or marked k false ≡ true → Leads ups root k

@@ -1,7 +1,9 @@
 // Entries put in order.
 ghost use Rattle.std.specs.Prelude.{◌≡◌, ◌↔◌, IsTrue, map};
 ghost use Rattle.std.specs.List.{AllByRecursion, IsDistinct};
-ghost use Rattle.mtn_base.specs.Names.{same_bytes, bytes_cmp};
+ghost use Rattle.std.specs.List.Sorted.{IsPermutation, IsSortedBy};
+ghost use Rattle.std.specs.Ordering.{is_lt};
+ghost use Rattle.mtn_base.specs.Names.{same_bytes, bytes_cmp, name_cmp};
 ghost use Rattle.mtn_roster.specs.Tree.{ordered, in_order};
 ghost use Rattle.mtn_roster.specs.Building.{NamesDiffer, KeysDiffer, with_keys_in_order};
 
@@ -86,11 +88,32 @@ pub fn sort_all_keys(alloc: Global, entries: &mut [Entry]) -> bool
     true
 }
 
+/// Sorts entries by their names. Where the first half ascends, as at an earlier tree's entries with some
+/// more behind them, runs are kept and merged; where there is no memory for that, in place.
+fn sort_entries(entries: &mut Vec<Entry>)
+    ensures permutation { IsPermutation entries.old.items entries.new.items }
+    ensures sorted { IsSortedBy (λ (e : Entry) (f : Entry). is_lt (name_cmp e.name f.name)) entries.new.items }
+{
+    let half = entries.len() / 2;
+    let rises = entries[..half].is_sorted_by(|first, second| first
+        .name
+        .compare(&second.name)
+        .is_lt());
+    if rises
+        && entries
+            .sort_by(|first, second| first.name.compare(&second.name))
+            .is_ok()
+    {
+        return;
+    }
+    entries.sort_unstable_by(|first, second| first.name.compare(&second.name));
+}
+
 /// Puts entries in order by their names, and says whether these are apart.
 pub fn sort_names(entries: &mut Vec<Entry>) -> bool
     ensures apart { IsTrue result ↔ NamesDiffer entries.old.items }
     ensures order { IsTrue result → entries.new.items ≡ in_order entries.old.items }
 {
-    entries.sort_unstable_by(|first, second| first.name.compare(&second.name));
+    sort_entries(entries);
     entries.is_sorted_by(|first, second| first.name.compare(&second.name).is_lt())
 }

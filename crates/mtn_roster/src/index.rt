@@ -96,7 +96,7 @@ fn component_at(entries: &[Entry], at: usize) -> &[u8]
 }
 
 /// The place of the parent of what stands at a place; outside, the place itself.
-fn up_at(ups: &[usize], at: usize) -> usize
+pub fn up_at(ups: &[usize], at: usize) -> usize
     ensures { result ≡ slice_index_or ups.now at at }
 {
     match ups.get(at) {

@@ -20,6 +20,8 @@ use std::marker::Model;
 #[derive(Debug, Drop)]
 pub struct Roster {
     entries: Vec<Entry>,
+    // For each place of an entry that of its parent; the root's is its own.
+    ups: Vec<usize>,
     // The places of the entries by ascending slot: the children of a node stand together.
     by_slot: Vec<usize>,
 }
@@ -27,12 +29,13 @@ pub struct Roster {
 impl Model for Roster {
     ghost use Rattle.mtn_roster.specs.Tree.{Tree, IsSane};
     ghost use Rattle.mtn_roster.specs.Index.{IsIndex};
+    ghost use Rattle.mtn_roster.specs.Building.{AreUps};
 
     ghost Value = { Tree };
 
     ghost view = { λ r. r.entries.items };
 
-    ghost invariant = { λ r. IsSane r.entries.items × IsIndex r.entries.items r.by_slot.items };
+    ghost invariant = { λ r. IsSane r.entries.items × IsIndex r.entries.items r.by_slot.items × AreUps r.entries.items r.ups.items };
 }
 
 impl Roster {
@@ -49,8 +52,12 @@ impl Roster {
         if !sort_names(&mut entries) {
             return Err(BuildError::Insane);
         }
-        let by_slot = checked_index(alloc, &entries)?;
-        Ok(Roster { entries, by_slot })
+        let (ups, by_slot) = checked_index(alloc, &entries)?;
+        Ok(Roster {
+            entries,
+            ups,
+            by_slot,
+        })
     }
 
     /// How many nodes the tree has. It takes no memory.
@@ -109,7 +116,7 @@ impl Roster {
     pub fn walk(&self, alloc: Global) -> Result<Vec<NodeName>, NoMemory>
         ensures { IfOk result (λ names. names.items ≡ map (λ (e : Entry). e.name) (by_path self.now)) }
     {
-        let stops = stops_of(alloc, &self.entries, &self.by_slot)?;
+        let stops = stops_of(alloc, &self.entries, &self.ups, &self.by_slot)?;
         names_along(alloc, &self.entries, &stops)
     }
 
@@ -117,7 +124,7 @@ impl Roster {
     pub fn stops(&self, alloc: Global) -> Result<Vec<Stop>, NoMemory>
         ensures { IfOk result (λ stops. AreStops self.now stops.items) }
     {
-        stops_of(alloc, &self.entries, &self.by_slot)
+        stops_of(alloc, &self.entries, &self.ups, &self.by_slot)
     }
 }
 

@@ -3,7 +3,7 @@ use Rattle.std.proofs.Common.{◌≡◌, ◌<◌, ℕ, length, Some, sym, ◌∙
 use Rattle.std.proofs.lemmas.Option.{slice_get-get_or}
 use Rattle.mtn_roster.specs.declared.entry.Entry.{Entry}
 use Rattle.mtn_roster.specs.Tree.{Tree, root_of, is_dir}
-use Rattle.mtn_roster.proofs.Telling.{sane_by_test, root_by_sane, reach_by_sane}
+use Rattle.mtn_roster.proofs.Telling.{top_is, sane_by_test, root_by_sane, reach_by_sane}
 use Rattle.mtn_roster.proofs.sane.check_shape.Goals as goal
 
 -- what was indexed
@@ -24,18 +24,25 @@ returns-then-not-is_dir-clause-insane c = λ _ s.
     let same : e ≡ s.root.1 = cc in
     absurd cc
 
+pub all_lead-requires-clause-top : goal.all_lead-requires-clause-top
+all_lead-requires-clause-top c =
+    let t = c.args.entries.now in
+    let e : Entry = c.index-entries-root.result in
+    let i = held t c.in-Some.root e c.in-Some.ensures.within c.index-entries-root.is in
+    top_is t c.requires.rising c.args.by_slot.now c.requires.index c.in-Some.root c.in-Some.ensures.within e i (sym c.in-Some.ensures.entry ∙ i) c.args.ups.now c.requires.ups
+
 pub returns-then-not-branch-clause-insane : goal.returns-then-not-branch-clause-insane
 returns-then-not-branch-clause-insane c = λ h s.
-    let l = c.in_ok-all_reach.ensures.some c.if-not-branch.true in
+    let l = c.in_ok-all_lead.ensures.some c.if-not-branch.true in
     let e : Entry = c.index-entries-root.result in
     let i = held c.args.entries.now c.in-Some.root e c.in-Some.ensures.within c.index-entries-root.is in
     let is : root_of c.args.entries.now ≡ Some e = sym c.in-Some.ensures.entry ∙ i in
-    l.4 (reach_by_sane c.args.entries.now c.requires.rising s c.args.by_slot.now c.requires.index c.in-Some.root c.in-Some.ensures.within e i is c.args.ups.items c.requires.ups l.0 l.1 l.2 l.3)
+    l.4 (reach_by_sane c.args.entries.now c.requires.rising s c.args.by_slot.now c.requires.index c.in-Some.root c.in-Some.ensures.within e i is c.args.ups.now c.requires.ups l.0 l.1 l.2 l.3)
 
 pub returns-clause-ok : goal.returns-clause-ok
 returns-clause-ok c =
     let e : Entry = c.index-entries-root.result in
     let i = held c.args.entries.now c.in-Some.root e c.in-Some.ensures.within c.index-entries-root.is in
     let is : root_of c.args.entries.now ≡ Some e = sym c.in-Some.ensures.entry ∙ i in
-    sane_by_test c.args.entries.now c.requires.rising c.args.by_slot.now c.requires.index c.in-Some.root c.in-Some.ensures.within e i is c.args.ups.items c.requires.ups
-    (ap (λ (f : Entry). is_dir f) c.index-entries-root.is ∙ sym c.if-not-is_dir.ensures) c.requires.well (c.in_ok-all_reach.ensures.all c.if-not-branch.false)
+    sane_by_test c.args.entries.now c.requires.rising c.args.by_slot.now c.requires.index c.in-Some.root c.in-Some.ensures.within e i is c.args.ups.now c.requires.ups
+    (ap (λ (f : Entry). is_dir f) c.index-entries-root.is ∙ sym c.if-not-is_dir.ensures) c.requires.well (c.in_ok-all_lead.ensures.all c.if-not-branch.false)

@@ -41,6 +41,16 @@ run_below-run-requires-clause-node c =
     let low : c.in-Some-pop.stop.place < length t = waits_within t c.requires.sane c.args.by_slot.now c.requires.index c.loop-stop.stops.items c.loop-stop.waiting.items c.pop.new.self.items c.in-Some-pop.stop c.in-Some-pop.ensures.items c.loop-stop.invariant in
     has t c.requires.sane c.in-Some-pop.stop.place e low (slice_get-get_or t c.in-Some-pop.stop.place e low ∙ ap Some (sym c.index-entries-stop.is))
 
+pub run_below-run-requires-clause-within : goal.run_below-run-requires-clause-within
+run_below-run-requires-clause-within c = waits_within c.args.entries.now c.requires.sane c.args.by_slot.now c.requires.index c.loop-stop.stops.items c.loop-stop.waiting.items c.pop.new.self.items c.in-Some-pop.stop c.in-Some-pop.ensures.items c.loop-stop.invariant
+
+pub run_below-run-requires-clause-there : goal.run_below-run-requires-clause-there
+run_below-run-requires-clause-there c =
+    let t = c.args.entries.now in
+    let e : Entry = c.index-entries-stop.result in
+    let low : c.in-Some-pop.stop.place < length t = waits_within t c.requires.sane c.args.by_slot.now c.requires.index c.loop-stop.stops.items c.loop-stop.waiting.items c.pop.new.self.items c.in-Some-pop.stop c.in-Some-pop.ensures.items c.loop-stop.invariant in
+    slice_get-get_or t c.in-Some-pop.stop.place e low ∙ ap Some (sym c.index-entries-stop.is)
+
 pub loop-stop-preserved : goal.loop-stop-preserved
 loop-stop-preserved c =
     let t = c.args.entries.now in

@@ -9,7 +9,7 @@ use Rattle.mtn_roster.specs.declared.build.BuildError.TheVariants.{Insane}
 use Rattle.mtn_roster.specs.declared.entry.Entry.{Entry}
 use Rattle.mtn_roster.specs.Tree.{Tree, rises, entry_of, in_order, IsSane, IsSaneMap}
 use Rattle.mtn_roster.specs.Index.{IsIndex}
-use Rattle.mtn_roster.specs.Building.{NamesDiffer, KeysDiffer, with_keys_in_order, tree_of}
+use Rattle.mtn_roster.specs.Building.{NamesDiffer, KeysDiffer, with_keys_in_order, tree_of, AreUps}
 use Rattle.mtn_roster.proofs.Ordered.{in_order-rises}
 use Rattle.std.proofs.Math.Seq.{take-append_seam}
 use Rattle.mtn_roster.proofs.Sorting.{long_map}
@@ -37,14 +37,14 @@ returns-then-not-sort_names-clause-insane c =
     let back : take c.args.entries.len (c.sort_all_keys.new.entries ++ drop (length c.sort_all_keys.new.entries) c.args.entries.items) ≡ map with_keys_in_order c.args.entries.items = written c.args.entries.items c.deref_mut.result.now c.sort_all_keys.new.entries c.args.entries.len c.deref_mut.ensures.len c.deref_mut.ensures.value (c.if-not-sort_all_keys.ensures.order refl) in
     λ _ b. let f = (told c.args.entries.items _ false back c.if-not-sort_names.ensures.apart).1 b.names in absurd cc
 
-pub returns-in_err-by_slot-clause-insane : goal.returns-in_err-by_slot-clause-insane
-returns-in_err-by_slot-clause-insane c =
+pub returns-in_err-ups-clause-insane : goal.returns-in_err-ups-clause-insane
+returns-in_err-ups-clause-insane c =
     let es = c.args.entries.items in
     let back : take c.args.entries.len (c.sort_all_keys.new.entries ++ drop (length c.sort_all_keys.new.entries) es) ≡ map with_keys_in_order es = written c.args.entries.items c.deref_mut.result.now c.sort_all_keys.new.entries c.args.entries.len c.deref_mut.ensures.len c.deref_mut.ensures.value (c.if-not-sort_all_keys.ensures.order refl) in
     let made : c.deref.result.now ≡ tree_of es = c.deref.ensures.value ∙ c.if-not-sort_names.ensures.order refl ∙ ap in_order back in
     λ h b.
     let p = err_from_is_err_and c.from_residual.result c.from_residual.ensures.1 in
-    c.in_err-by_slot.ensures.insane (ap Err (handed c.from_residual.result p.0 c.in_err-by_slot.field-0.0 p.1 p.2 h))
+    c.in_err-ups.ensures.insane (ap Err (handed c.from_residual.result p.0 c.in_err-ups.field-0.0 p.1 p.2 h))
     (subst (λ (t : Tree). IsSaneMap (entry_of t)) (sym made) b.sane)
 
 pub checked_index-requires : goal.checked_index-requires
@@ -59,8 +59,9 @@ invariant_of-result c =
     let es = c.args.entries.items in
     let back : take c.args.entries.len (c.sort_all_keys.new.entries ++ drop (length c.sort_all_keys.new.entries) es) ≡ map with_keys_in_order es = written c.args.entries.items c.deref_mut.result.now c.sort_all_keys.new.entries c.args.entries.len c.deref_mut.ensures.len c.deref_mut.ensures.value (c.if-not-sort_all_keys.ensures.order refl) in
     let made : c.sort_names.new.entries.items ≡ tree_of es = c.if-not-sort_names.ensures.order refl ∙ ap in_order back in (
-      subst IsSane (sym made) (made_sane es (subst (λ (t : Tree). IsSaneMap (entry_of t)) (c.deref.ensures.value ∙ made) c.in_ok-by_slot.ensures.ok)),
-      subst (λ (t : Tree). IsIndex t c.in_ok-by_slot.by_slot.items) c.deref.ensures.value c.in_ok-by_slot.ensures.index,
+      subst IsSane (sym made) (made_sane es (subst (λ (t : Tree). IsSaneMap (entry_of t)) (c.deref.ensures.value ∙ made) c.in_ok-ups.ensures.ok)),
+      subst (λ (t : Tree). IsIndex t c.in_ok-ups.by_slot.items) c.deref.ensures.value c.in_ok-ups.ensures.index,
+      subst (λ (t : Tree). AreUps t c.in_ok-ups.ups.items) c.deref.ensures.value c.in_ok-ups.ensures.ups,
     )
 
 pub returns-clause-made : goal.returns-clause-made
@@ -71,5 +72,5 @@ returns-clause-made c =
     record {
       names = (told es _ true back c.if-not-sort_names.ensures.apart).0 refl;
       keys = subst (λ (xs : List Entry). AllByRecursion KeysDiffer xs) c.deref_mut.ensures.value (c.if-not-sort_all_keys.ensures.apart.0 refl);
-      sane = subst (λ (t : Tree). IsSaneMap (entry_of t)) (c.deref.ensures.value ∙ made) c.in_ok-by_slot.ensures.ok;
+      sane = subst (λ (t : Tree). IsSaneMap (entry_of t)) (c.deref.ensures.value ∙ made) c.in_ok-ups.ensures.ok;
     }
