@@ -9,3 +9,4 @@ pub mod Unsorted
 pub mod Decoded
 pub mod Splits
 pub mod OneValue
+pub mod ReadBack

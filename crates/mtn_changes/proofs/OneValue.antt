@@ -18,10 +18,10 @@ use Rattle.mtn_changes.specs.Stanzas.{stanza_of}
 use Rattle.mtn_changes.specs.Heads.{head_stanza, head_rank}
 use Rattle.mtn_changes.specs.Lists.{Stands, IsFault}
 use Rattle.mtn_changes.specs.ChangesText.{AreChanges, IsFaultAt, IsListFault, IsChangesText, IsChangesFault}
-use Rattle.mtn_changes.specs.RevisionText.{edge_stanzas, revision_stanzas, Ascend, AreEdges, IsFront, IsHeadFault, IsOnlyEdgeFault, IsNextFault, IsWrongAt, EndsEarly, IsStanzasFault, IsRevisionText, IsRevisionFault}
+use Rattle.mtn_changes.specs.RevisionText.{edge_stanzas, revision_stanzas, Ascend, AreEdges, IsFront, IsHeadFault, IsOnlyEdgeFault, IsNextFault, IsWrongAt, IsStanzasFault, IsRevisionText, IsRevisionFault}
 use Rattle.mtn_changes.proofs.Decoded.{one_head, one_manifest, one_parent, no_both}
 use Rattle.mtn_changes.proofs.Edges.{join2}
-use Rattle.mtn_changes.proofs.Splits.{others, same_first, same_others, none_more, no_change_at, Inside, Cut, cut, one_run, one_list, each, stands_at, no_fault, no_fault_inside}
+use Rattle.mtn_changes.proofs.Splits.{others, same_first, same_others, none_more, no_change_at, Cut, cut, one_run, one_list, each, stands_at, no_fault, no_fault_inside}
 
 -- ---- lists of changes
 
@@ -32,9 +32,9 @@ same_changes text a b ok_a ok_b is_a is_b =
 no_fault_at : (cs : List Change) (number : ℕ) (why : Fault) → AreChanges cs → IsFaultAt (map stanza_of cs) number why → why ≡ one.NoMemory
 no_fault_at cs number why lawful f =
     at (cut f.before cs f.stanza f.rest [] (each f.before f.lawful) (each cs lawful) tt (sym f.whole ∙ sym (append-nil (map stanza_of cs)))) where
-  at : Cut f.before f.stanza f.rest cs [] → why ≡ one.NoMemory
-  at (inl inside) = no_fault_inside f.before cs f.stanza why lawful inside f.fault
-  at (inr behind) = absurd (none_more f.stanza f.rest behind.left)
+      at : Cut f.before f.stanza f.rest cs [] → why ≡ one.NoMemory
+      at (inl inside) = no_fault_inside f.before cs f.stanza why lawful inside f.fault
+      at (inr behind) = absurd (none_more f.stanza f.rest behind.left)
 
 no_list_fault : (cs : List Change) (e : ChangeTextError) → AreChanges cs → IsListFault (map stanza_of cs) e → e ≡ NoMemory
 no_list_fault cs (NotText place) lawful f = absurd f
@@ -159,22 +159,22 @@ one_of_one : (e g : Edge) (s : List LineText) (rest : List (List LineText)) (why
     → IsOnlyEdgeFault e s why → why ≡ one.NoMemory
 one_of_one e g s rest why is_e is_g same f =
     at (cut e.changes g.changes s rest [] (each e.changes is_e) (each g.changes is_g) tt (runs e g (s ∷ rest) [] (sym (loose1 e (s ∷ rest)) ∙ same))) where
-  at : Cut e.changes s rest g.changes [] → why ≡ one.NoMemory
-  at (inl i) = only_inside e i.change s why (stands_at e.changes i.change i.more g.changes is_g i.parts) i.spelled f
-  at (inr behind) = absurd (none_more s rest behind.left)
+      at : Cut e.changes s rest g.changes [] → why ≡ one.NoMemory
+      at (inl i) = only_inside e i.change s why (stands_at e.changes i.change i.more g.changes is_g i.parts) i.spelled f
+      at (inr behind) = absurd (none_more s rest behind.left)
 
 -- behind one edge of a revision of two
 one_of_two : (e g k : Edge) (s : List LineText) (rest : List (List LineText)) (why : Fault) → AreChanges e.changes → AreChanges g.changes → Ascend g.parent k.parent
     → flat_map edge_stanzas (e ∷ []) ++ s ∷ rest ≡ flat_map edge_stanzas (g ∷ k ∷ []) → IsOnlyEdgeFault e s why → why ≡ one.NoMemory
 one_of_two e g k s rest why is_e is_g up same f =
     at (cut e.changes g.changes s rest (last_edge k) (each e.changes is_e) (each g.changes is_g) (no_change_at (Parent k.parent) (map stanza_of k.changes ++ [])) (runs e g (s ∷ rest) (last_edge k) whole)) where
-  whole : head_stanza (Parent e.parent) ∷ (map stanza_of e.changes ++ s ∷ rest) ≡ head_stanza (Parent g.parent) ∷ (map stanza_of g.changes ++ last_edge k)
-  whole = sym (loose1 e (s ∷ rest)) ∙ same
+      whole : head_stanza (Parent e.parent) ∷ (map stanza_of e.changes ++ s ∷ rest) ≡ head_stanza (Parent g.parent) ∷ (map stanza_of g.changes ++ last_edge k)
+      whole = sym (loose1 e (s ∷ rest)) ∙ same
 
-  at : Cut e.changes s rest g.changes (last_edge k) → why ≡ one.NoMemory
-  at (inl i) = only_inside e i.change s why (stands_at e.changes i.change i.more g.changes is_g i.parts) i.spelled f
-  at (inr behind) =
-      only_behind e k.parent s why (subst (λ (p : Option Id). Ascend p k.parent) (sym (parents e g (s ∷ rest) (last_edge k) whole)) up) (same_first s (head_stanza (Parent k.parent)) rest (map stanza_of k.changes ++ []) behind.left) f
+      at : Cut e.changes s rest g.changes (last_edge k) → why ≡ one.NoMemory
+      at (inl i) = only_inside e i.change s why (stands_at e.changes i.change i.more g.changes is_g i.parts) i.spelled f
+      at (inr behind) =
+          only_behind e k.parent s why (subst (λ (p : Option Id). Ascend p k.parent) (sym (parents e g (s ∷ rest) (last_edge k) whole)) up) (same_first s (head_stanza (Parent k.parent)) rest (map stanza_of k.changes ++ []) behind.left) f
 
 -- behind two edges
 two_of_one : (e f g : Edge) (more : List (List LineText)) → AreChanges e.changes → AreChanges g.changes → flat_map edge_stanzas (e ∷ f ∷ []) ++ more ≡ flat_map edge_stanzas (g ∷ []) → ⊥
@@ -191,9 +191,9 @@ two_of_two e f g k s rest why is_e is_g same fault =
     let run =
     one_run e.changes g.changes (head_stanza (Parent f.parent) ∷ left) (last_edge k) (each e.changes is_e.0) (each g.changes is_g.0) (no_change_at (Parent f.parent) left) (no_change_at (Parent k.parent) (map stanza_of k.changes ++ [])) (runs e g (head_stanza (Parent f.parent) ∷ left) (last_edge k) (sym (loose2 e f (s ∷ rest)) ∙ same)) in
     at (cut f.changes k.changes s rest [] (each f.changes is_e.1) (each k.changes is_g.1) tt (runs f k (s ∷ rest) [] run.left)) where
-  at : Cut f.changes s rest k.changes [] → why ≡ one.NoMemory
-  at (inl inside) = no_fault_inside f.changes k.changes s why is_g.1 inside fault
-  at (inr behind) = absurd (none_more s rest behind.left)
+      at : Cut f.changes s rest k.changes [] → why ≡ one.NoMemory
+      at (inl inside) = no_fault_inside f.changes k.changes s why is_g.1 inside fault
+      at (inr behind) = absurd (none_more s rest behind.left)
 
 wrong_edges : (es gs : List Edge) (s : List LineText) (rest : List (List LineText)) (why : Fault) → AreEdges es → AreEdges gs → flat_map edge_stanzas es ++ s ∷ rest ≡ flat_map edge_stanzas gs
     → IsNextFault (Version ∷ Version ∷ []) es s why → why ≡ one.NoMemory

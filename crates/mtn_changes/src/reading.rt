@@ -1,6 +1,8 @@
 // Texts of changes.
-ghost use Rattle.std.specs.Prelude.{◌≡◌, IfOk, IfErr};
+ghost use Rattle.std.specs.Prelude.{◌≡◌, map, IfOk, IfErr};
+ghost use Rattle.mtn_basic_io.specs.Spelling.{AreStanzas};
 ghost use Rattle.mtn_changes.specs.ChangesText.{IsChangesFault, IsChangesText, IsList, IsListFault};
+ghost use Rattle.mtn_changes.specs.Stanzas.{stanza_of};
 
 use crate::change::{Change, Changeset};
 use crate::error::{ChangeTextError, numbered, of_text};
@@ -25,6 +27,8 @@ fn list_of(alloc: Global, stanzas: &[Stanza]) -> Result<List<Change>, ChangeText
 /// The changes of one edge that a text spells, in its order.
 pub fn read_changes(alloc: Global, text: &[u8]) -> Result<Changeset, ChangeTextError>
     ensures ok { IfOk result (λ cs. IsChangesText text.now cs) }
+    // Its ids are twenty bytes, so no other value has this text.
+    ensures stanzas { IfOk result (λ cs. AreStanzas (map stanza_of cs)) }
     ensures err { IfErr result (λ e. IsChangesFault text.now e) }
 {
     let stanzas = match read(alloc, text) {

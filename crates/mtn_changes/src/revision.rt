@@ -1,6 +1,7 @@
 // Texts of revisions.
 ghost use Rattle.std.specs.Prelude.{◌≡◌, ◌<◌, ◌+◌, ◌^◌, ◌↔◌, length, IfOk, IfErr, IsTrue};
-ghost use Rattle.mtn_changes.specs.RevisionText.{Ascend, IsRevision, IsRevisionFault, IsRevisionText, IsStanzasFault};
+ghost use Rattle.mtn_basic_io.specs.Spelling.{AreStanzas};
+ghost use Rattle.mtn_changes.specs.RevisionText.{Ascend, IsRevision, IsRevisionFault, IsRevisionText, IsStanzasFault, revision_stanzas};
 ghost use Rattle.mtn_changes.specs.Runs.{IsRun, IsRunFault, IsSecond, IsSecondFault};
 
 use crate::change::{Change, Changeset, Edge, Revision};
@@ -106,6 +107,8 @@ fn revision_of(alloc: Global, stanzas: &[Stanza]) -> Result<Revision, ChangeText
 /// The revision that a text spells, with each edge's changes in the text's order.
 pub fn read_revision(alloc: Global, text: &[u8]) -> Result<Revision, ChangeTextError>
     ensures ok { IfOk result (λ r. IsRevisionText text.now r) }
+    // Its ids are twenty bytes, so no other value has this text.
+    ensures stanzas { IfOk result (λ r. AreStanzas (revision_stanzas r)) }
     ensures err { IfErr result (λ e. IsRevisionFault text.now e) }
 {
     let stanzas = match read(alloc, text) {
