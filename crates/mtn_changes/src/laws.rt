@@ -40,6 +40,7 @@ pub fn lawful_is_read()
 pub fn sorted_changes(alloc: Global, changes: &Changeset) -> Result<Changeset, ChangeTextError>
     requires { AreUnsorted changes.now }
     ensures sorted { IfOk result (λ cs. IsSortedAs changes.now cs) }
+    ensures lawful { IfOk result (λ cs. AreChanges cs) }
     ensures memory { IfErr result (λ e. e ≡ NoMemory) }
 {
     let mut text = Vec::new(alloc);
@@ -52,6 +53,7 @@ pub fn sorted_revision(alloc: Global, revision: &Revision) -> Result<Revision, C
     requires { AreUnsortedEdges revision.now.edges }
     ensures manifest { IfOk result (λ r. r.manifest ≡ revision.now.manifest) }
     ensures edges { IfOk result (λ r. AreSortedAs revision.now.edges r.edges) }
+    ensures lawful { IfOk result (λ r. AreEdges r.edges) }
     ensures memory { IfErr result (λ e. e ≡ NoMemory) }
 {
     let mut text = Vec::new(alloc);
