@@ -10,3 +10,5 @@ pub mod Decoded
 pub mod Splits
 pub mod OneValue
 pub mod ReadBack
+pub mod Ascending
+pub mod Rising

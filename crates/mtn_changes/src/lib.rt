@@ -11,9 +11,11 @@
 //! of n changes costs n looks into an ordered set.
 #![tactic(auto)]
 
+mod apart;
 mod change;
 mod error;
 mod head;
+mod lawful;
 mod laws;
 mod lines;
 mod opening;
