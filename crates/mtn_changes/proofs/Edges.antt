@@ -23,7 +23,7 @@ use Rattle.mtn_changes.specs.Runs.{IsOpening, IsRun, IsRunFaultAt, IsRunFault, I
 pub tail : (n : ℕ) (ss : List (List LineText)) → take (length ss - n) (drop n ss) ≡ drop n ss
 tail n ss = take_all (length ss - n) (drop n ss) (omega (arith, length-drop n ss))
 
-abbrev edge : Option Id → List Change → Edge
+abbrev pub edge : Option Id → List Change → Edge
 edge p cs = record { parent = p; changes = cs }
 
 -- the heads, one edge and what follows
@@ -38,7 +38,7 @@ count1 : (p : Option Id) (cs : List Change) → length (flat_map edge_stanzas (e
 count1 p cs = omega (arith, length-append (map stanza_of cs) [], length-map cs stanza_of)
 
 -- two edges and what follows
-join2 : (p q : Option Id) (cs bs : List Change) (more : List (List LineText))
+pub join2 : (p q : Option Id) (cs bs : List Change) (more : List (List LineText))
     → head_stanza (Parent p) ∷ (map stanza_of cs ++ head_stanza (Parent q) ∷ (map stanza_of bs ++ more)) ≡ flat_map edge_stanzas (edge p cs ∷ edge q bs ∷ []) ++ more
 join2 p q cs bs more =
     let lone : head_stanza (Parent q) ∷ (map stanza_of bs ++ more) ≡ (head_stanza (Parent q) ∷ (map stanza_of bs ++ [])) ++ more =

@@ -6,3 +6,9 @@ pub mod Edges
 pub mod Places
 pub mod Sorted
 pub mod Unsorted
+pub mod Decoded
+pub mod Splits
+pub mod OneValue
+pub mod ReadBack
+pub mod Ascending
+pub mod Rising

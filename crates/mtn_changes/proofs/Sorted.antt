@@ -70,7 +70,7 @@ few s cs n =
     ap (count_by (at s)) (sym (take-append-drop n cs)) ∙ sum_by-append (λ (c : Change). cond (at s c) 1 0) (take n cs) (drop n cs) in
     omega arith
 
-fresh : (cs : List Change) → ((s : Slot) → count_by (at s) cs ≤ 1) → (k : ℕ) (d : Change) → k < length cs → is_taken (take k cs) (get_or cs k d) ≡ false
+pub fresh : (cs : List Change) → ((s : Slot) → count_by (at s) cs ≤ 1) → (k : ℕ) (d : Change) → k < length cs → is_taken (take k cs) (get_or cs k d) ≡ false
 fresh cs apart k d lt =
     let s : Slot = slot_of (get_or cs k d) in
     let here : at s (get_or cs k d) ≡ true = ap is_eq (tied_itself slot_total s) in

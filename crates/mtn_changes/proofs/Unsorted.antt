@@ -19,7 +19,7 @@ use Rattle.mtn_changes.specs.Sorting.{AreUnsorted, AreUnsortedEdges}
 use Rattle.mtn_changes.proofs.Places.{slot_total}
 use Rattle.mtn_changes.proofs.Sorted.{at, one_at, count_more}
 
-equal : (o : Ordering) → is_eq o ≡ true → o ≡ Equal
+pub equal : (o : Ordering) → is_eq o ≡ true → o ≡ Equal
 equal Less e = absurd (true≢false (sym e))
 equal Equal e = refl
 equal Greater e = absurd (true≢false (sym e))

@@ -43,8 +43,13 @@ pub record IsChangesText (text : List ℕ) (changes : List Change) : Type 0 wher
   pub lawful : AreChanges changes
   pub spelled : text ≡ spelling (map stanza_of changes)
 
+-- it is the printed form of no stanzas, and begins one up to this place
+pub record IsNoText (text : List ℕ) (place : ℕ) : Type 0 where
+  pub none : (stanzas : List (List LineText)) → AreStanzas stanzas → text ≡ spelling stanzas → ⊥
+  pub begun : IsPlace text place
+
 -- why a text is none
 abbrev pub IsChangesFault : List ℕ → ChangeTextError → Type 0
-IsChangesFault text (NotText place) = IsPlace text place
+IsChangesFault text (NotText place) = IsNoText text place
 IsChangesFault text NoMemory = Unit {0}
 IsChangesFault text e = (stanzas : List (List LineText)) × AreStanzas stanzas × (text ≡ spelling stanzas) × IsListFault stanzas e

@@ -5,7 +5,6 @@ use Rattle.std.specs.declared.cmp.Ordering.TheVariants.{Less}
 use Rattle.mtn_base.specs.Names.{bytes_cmp}
 use Rattle.mtn_base.specs.declared.id.Id.{Id}
 use Rattle.mtn_basic_io.specs.Spelling.{LineText, AreStanzas, spelling}
-use Rattle.mtn_basic_io.specs.Begun.{IsPlace}
 use Rattle.mtn_changes.specs.declared.change.Change.{Change}
 use Rattle.mtn_changes.specs.declared.change.Edge.{Edge}
 use Rattle.mtn_changes.specs.declared.change.Revision.{Revision}
@@ -19,7 +18,7 @@ use Rattle.mtn_changes.specs.Changes.{IsChange}
 use Rattle.mtn_changes.specs.Stanzas.{stanza_of, IsRead}
 use Rattle.mtn_changes.specs.Heads.{head_stanza, head_rank, IsHeadRead}
 use Rattle.mtn_changes.specs.Lists.{IsFault}
-use Rattle.mtn_changes.specs.ChangesText.{AreChanges}
+use Rattle.mtn_changes.specs.ChangesText.{AreChanges, IsNoText}
 
 -- `old_revision` and then the changes
 abbrev pub edge_stanzas : Edge → List (List LineText)
@@ -108,6 +107,6 @@ pub record IsRevisionText (text : List ℕ) (r : Revision) : Type 0 where
 
 -- why a text is none
 abbrev pub IsRevisionFault : List ℕ → ChangeTextError → Type 0
-IsRevisionFault text (NotText place) = IsPlace text place
+IsRevisionFault text (NotText place) = IsNoText text place
 IsRevisionFault text NoMemory = Unit {0}
 IsRevisionFault text e = (stanzas : List (List LineText)) × AreStanzas stanzas × (text ≡ spelling stanzas) × IsStanzasFault stanzas e

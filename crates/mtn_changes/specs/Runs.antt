@@ -1,5 +1,5 @@
 -- The changes of an edge, up to the next `old_revision` or the end.
-use Rattle.std.specs.Prelude.{◌≡◌, ◌+◌, ℕ, List, ◌∷◌, ◌++◌, length, map, drop, Option, Some, None}
+use Rattle.std.specs.Prelude.{◌≡◌, ◌+◌, ◌<◌, ◌≤◌, ℕ, List, ◌∷◌, ◌++◌, length, map, take, drop, slice_index_or, Option, Some, None}
 use Rattle.mtn_base.specs.declared.id.Id.{Id}
 use Rattle.mtn_basic_io.specs.Spelling.{LineText}
 use Rattle.mtn_changes.specs.declared.change.Change.{Change}
@@ -9,9 +9,10 @@ use Rattle.mtn_changes.specs.declared.order.Fault.{Fault}
 use Rattle.mtn_changes.specs.declared.order.Fault.TheVariants as one
 use Rattle.mtn_changes.specs.declared.error.ChangeTextError.{ChangeTextError}
 use Rattle.mtn_changes.specs.declared.error.ChangeTextError.TheVariants.{NotText, BadStanza, BadOrder, Repeated, BadEdge, NoMemory}
+use Rattle.mtn_changes.specs.Changes.{IsChange, rank}
 use Rattle.mtn_changes.specs.Stanzas.{stanza_of}
 use Rattle.mtn_changes.specs.Heads.{head_stanza}
-use Rattle.mtn_changes.specs.Lists.{IsFault}
+use Rattle.mtn_changes.specs.Lists.{last_rank, IsFault}
 use Rattle.mtn_changes.specs.ChangesText.{AreChanges}
 use Rattle.mtn_changes.specs.RevisionText.{Ascend}
 
@@ -23,6 +24,10 @@ pub record IsOpening (stanzas : List (List LineText)) (manifest : Id) (parent : 
 abbrev pub EndsRun : List (List LineText) → List Change → Option (Option Id) → Type 0
 EndsRun stanzas changes None = stanzas ≡ map stanza_of changes
 EndsRun stanzas changes (Some parent) = (rest : List (List LineText)) × (stanzas ≡ map stanza_of changes ++ head_stanza (Parent parent) ∷ rest)
+
+-- each is a change, and their ranks do not fall
+abbrev pub AreRising : List Change → Type 0
+AreRising changes = (k : ℕ) (d : Change) → k < length changes → IsChange (slice_index_or changes k d) × (last_rank (take k changes) ≤ rank (slice_index_or changes k d))
 
 -- lawful changes up to there
 pub record IsRun (stanzas : List (List LineText)) (changes : List Change) (next : Option (Option Id)) : Type 0 where

@@ -1,5 +1,6 @@
 -- What a change changes; clear and set of an attribute change the same.
-use Rattle.std.specs.Prelude.{Bool, []}
+use Rattle.std.specs.Prelude.{◌≤◌, Bool, List, []}
+use Rattle.std.specs.List.{count_by}
 use Rattle.std.specs.declared.cmp.Ordering.{Ordering}
 use Rattle.std.specs.Ordering.{nat_cmp, ordering_then, is_eq}
 use Rattle.mtn_base.specs.Names.{bytes_cmp, path_cmp}
@@ -22,3 +23,7 @@ slot_cmp a b = ordering_then (nat_cmp a.kind b.kind) (ordering_then (path_cmp a.
 -- two changes of the same thing
 abbrev pub is_same_slot : Change → Change → Bool
 is_same_slot b c = is_eq (slot_cmp (slot_of b) (slot_of c))
+
+-- no two change the same thing
+abbrev pub AreApart : List Change → Type 0
+AreApart changes = (s : Slot) → count_by (λ c. is_eq (slot_cmp (slot_of c) s)) changes ≤ 1

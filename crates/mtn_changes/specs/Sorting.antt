@@ -1,16 +1,15 @@
 -- The order in which changes are written, and the texts in that order.
-use Rattle.std.specs.Prelude.{◌≡◌, ◌≤◌, ℕ, List, [], ◌∷◌, ◌++◌, map, All}
-use Rattle.std.specs.List.{flat_map, count_by}
-use Rattle.std.specs.Ordering.{is_eq}
+use Rattle.std.specs.Prelude.{◌≡◌, ℕ, List, [], ◌∷◌, ◌++◌, map, All}
+use Rattle.std.specs.List.{flat_map}
 use Rattle.std.specs.List.Sorted.{IsPermutation, IsSorted}
 use Rattle.std.specs.declared.cmp.Ordering.{Ordering}
-use Rattle.mtn_basic_io.specs.Spelling.{LineText, spelling}
+use Rattle.mtn_basic_io.specs.Spelling.{LineText, AreStanzas, spelling}
 use Rattle.mtn_changes.specs.declared.change.Change.{Change}
 use Rattle.mtn_changes.specs.declared.change.Edge.{Edge}
 use Rattle.mtn_changes.specs.declared.change.Revision.{Revision}
 use Rattle.mtn_changes.specs.declared.slot.Slot.{Slot}
 use Rattle.mtn_changes.specs.Changes.{IsChange, rank}
-use Rattle.mtn_changes.specs.Slots.{slot_of, slot_cmp}
+use Rattle.mtn_changes.specs.Slots.{slot_of, slot_cmp, AreApart}
 use Rattle.mtn_changes.specs.Stanzas.{stanza_of}
 use Rattle.mtn_changes.specs.RevisionText.{Ascend, AreEdges, edge_stanzas, revision_stanzas}
 use Rattle.mtn_changes.specs.ChangesText.{AreChanges}
@@ -37,7 +36,7 @@ AreSortedAs _ _ = ⊥
 -- lawful apart from order: no two change the same thing
 pub record AreUnsorted (changes : List Change) : Type 0 where
   pub each : All IsChange changes
-  pub apart : (s : Slot) → count_by (λ c. is_eq (slot_cmp (slot_of c) s)) changes ≤ 1
+  pub apart : AreApart changes
 
 -- one edge, or two whose parents ascend, lawful apart from the order of changes
 abbrev pub AreUnsortedEdges : List Edge → Type 0
@@ -46,11 +45,13 @@ AreUnsortedEdges (e ∷ []) = AreUnsorted e.changes
 AreUnsortedEdges (e ∷ f ∷ []) = AreUnsorted e.changes × AreUnsorted f.changes × Ascend e.parent f.parent
 AreUnsortedEdges (e ∷ f ∷ g ∷ more) = ⊥
 
--- behind what stood there, the text of the changes in that order
+-- behind what stood there, the text of the changes in that order; the ids of values in memory are twenty bytes, so
+-- their stanzas are stanzas
 pub record WritesChanges (before : List ℕ) (changes : List Change) (after : List ℕ) : Type 0 where
   pub sorted : List Change
   pub lawful : AreChanges sorted
   pub is : IsSortedAs changes sorted
+  pub stanzas : AreStanzas (map stanza_of sorted)
   pub spelled : after ≡ before ++ spelling (map stanza_of sorted)
 
 -- the same of a revision
@@ -58,6 +59,7 @@ pub record WritesRevision (before : List ℕ) (r : Revision) (after : List ℕ) 
   pub sorted : List Edge
   pub lawful : AreEdges sorted
   pub are : AreSortedAs r.edges sorted
+  pub stanzas : AreStanzas (revision_stanzas (record { manifest = r.manifest; edges = sorted }))
   pub spelled : after ≡ before ++ spelling (revision_stanzas (record { manifest = r.manifest; edges = sorted }))
 
 -- behind other stanzas, those of an edge in that order

@@ -11,9 +11,11 @@
 //! of n changes costs n looks into an ordered set.
 #![tactic(auto)]
 
+mod apart;
 mod change;
 mod error;
 mod head;
+mod lawful;
 mod laws;
 mod lines;
 mod opening;
@@ -30,7 +32,7 @@ mod writing;
 pub use change::{Change, Changeset, Edge, MAX_KEY, Revision};
 pub use error::ChangeTextError;
 pub use head::{Head, head_of, stanza_of_head};
-pub use laws::lawful_in_any_order;
+pub use laws::{lawful_in_any_order, lawful_is_read, one_value, sorted_changes, sorted_revision};
 pub use reading::read_changes;
 pub use revision::read_revision;
 pub use stanzas::{change_of, stanza_of};

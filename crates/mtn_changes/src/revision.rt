@@ -1,24 +1,19 @@
 // Texts of revisions.
 ghost use Rattle.std.specs.Prelude.{◌≡◌, ◌<◌, ◌+◌, ◌^◌, ◌↔◌, length, IfOk, IfErr, IsTrue};
-ghost use Rattle.mtn_changes.specs.RevisionText.{Ascend, IsRevision, IsRevisionFault, IsRevisionText, IsStanzasFault};
+ghost use Rattle.mtn_basic_io.specs.Spelling.{AreStanzas};
+ghost use Rattle.mtn_changes.specs.RevisionText.{Ascend, IsRevision, IsRevisionFault, IsRevisionText, IsStanzasFault, revision_stanzas};
 ghost use Rattle.mtn_changes.specs.Runs.{IsRun, IsRunFault, IsSecond, IsSecondFault};
 
-use crate::change::{Change, Changeset, Edge, Revision};
+use crate::change::{Changeset, Edge, Revision};
 use crate::error::{ChangeTextError, numbered, of_text};
 use crate::head::parent_in;
+use crate::lawful::{Run, lawful_run};
 use crate::opening::{Opening, opening_of};
 use crate::order::Part;
 use mtn_base::{Id, List};
 use mtn_basic_io::{Stanza, read};
 use std::alloc::Global;
 use std::cmp::Ordering;
-
-/// The changes of one edge, and the parent of the next one where one follows.
-#[derive(Drop)]
-struct Run {
-    changes: List<Change>,
-    next: Option<Option<Id>>,
-}
 
 /// The changes at the front of the stanzas, which stand behind so many others.
 fn run_of(alloc: Global, stanzas: &[Stanza], from: usize) -> Result<Run, ChangeTextError>
@@ -44,6 +39,18 @@ fn run_of(alloc: Global, stanzas: &[Stanza], from: usize) -> Result<Run, ChangeT
         changes,
         next: None,
     })
+}
+
+/// The same: lawful changes are read with no set, and where they are none the exact pass decides.
+fn run_in(alloc: Global, stanzas: &[Stanza], from: usize) -> Result<Run, ChangeTextError>
+    requires { from + length stanzas.now < 2 ^ 64 }
+    ensures ok { IfOk result (λ r. IsRun stanzas.now r.changes r.next) }
+    ensures err { IfErr result (λ e. IsRunFault stanzas.now from e) }
+{
+    if let Some(run) = lawful_run(alloc, stanzas)? {
+        return Ok(run);
+    }
+    run_of(alloc, stanzas, from)
 }
 
 /// Both parents are there, and the second follows the first.
@@ -77,7 +84,7 @@ fn second_of(
             number: from as u64,
         });
     }
-    let Run { changes, next } = run_of(alloc, stanzas, from)?;
+    let Run { changes, next } = run_in(alloc, stanzas, from)?;
     if let Some(_) = next {
         let number = (from + changes.as_slice().len()) as u64 + 1;
         return Err(ChangeTextError::BadOrder { number });
@@ -91,7 +98,7 @@ fn revision_of(alloc: Global, stanzas: &[Stanza]) -> Result<Revision, ChangeText
     ensures err { IfErr result (λ e. IsStanzasFault stanzas.now e) }
 {
     let Opening { manifest, parent } = opening_of(alloc, stanzas)?;
-    let Run { changes, next } = run_of(alloc, &stanzas[3..], 3)?;
+    let Run { changes, next } = run_in(alloc, &stanzas[3..], 3)?;
     let end = 3 + changes.as_slice().len();
     let changes = Changeset { changes };
     let mut edges = List::new(alloc);
@@ -106,6 +113,8 @@ fn revision_of(alloc: Global, stanzas: &[Stanza]) -> Result<Revision, ChangeText
 /// The revision that a text spells, with each edge's changes in the text's order.
 pub fn read_revision(alloc: Global, text: &[u8]) -> Result<Revision, ChangeTextError>
     ensures ok { IfOk result (λ r. IsRevisionText text.now r) }
+    // Its ids are twenty bytes, so no other value has this text.
+    ensures stanzas { IfOk result (λ r. AreStanzas (revision_stanzas r)) }
     ensures err { IfErr result (λ e. IsRevisionFault text.now e) }
 {
     let stanzas = match read(alloc, text) {

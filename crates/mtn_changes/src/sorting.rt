@@ -1,6 +1,8 @@
 // The order in which changes are written.
 ghost use Rattle.std.specs.Prelude.{◌≡◌, IfOk};
-ghost use Rattle.mtn_changes.specs.Slots.{slot_of as slot_for};
+ghost use Rattle.std.specs.Ordering.{ordering_then};
+ghost use Rattle.mtn_base.specs.Names.{bytes_cmp, path_cmp};
+ghost use Rattle.mtn_changes.specs.Slots.{slot_cmp, slot_of as slot_for};
 ghost use Rattle.mtn_changes.specs.Sorting.{IsSortedAs, place_cmp};
 
 use crate::change::{Change, copy_changes};
@@ -8,6 +10,20 @@ use crate::order::rank;
 use mtn_base::{NoMemory, Path};
 use std::alloc::Global;
 use std::cmp::Ordering;
+
+fn kind_of(change: &Change) -> u8
+    ensures { result ≡ (slot_for change.now).kind }
+{
+    match change {
+        Change::Clear { path: _, key: _ } => 6,
+        Change::Set {
+            path: _,
+            key: _,
+            value: _,
+        } => 6,
+        _ => rank(change),
+    }
+}
 
 fn path_of(change: &Change) -> &Path
     ensures { result.now ≡ (slot_for change.now).path }
@@ -45,11 +61,11 @@ fn key_of(change: &Change) -> &[u8]
     }
 }
 
-/// By rank, then by path, then by key.
-fn compare(a: &Change, b: &Change) -> Ordering
-    ensures { result ≡ place_cmp a.now b.now }
+/// By path, then by key, where the kinds are the same.
+fn compare_rest(kinds: Ordering, a: &Change, b: &Change) -> Ordering
+    ensures { result ≡ ordering_then kinds (ordering_then (path_cmp (slot_for a.now).path (slot_for b.now).path) (bytes_cmp (slot_for a.now).key (slot_for b.now).key)) }
 {
-    match rank(a).cmp(&rank(b)) {
+    match kinds {
         Ordering::Less => Ordering::Less,
         Ordering::Greater => Ordering::Greater,
         Ordering::Equal => match path_of(a).cmp(path_of(b)) {
@@ -58,6 +74,20 @@ fn compare(a: &Change, b: &Change) -> Ordering
             Ordering::Equal => key_of(a).cmp(key_of(b)),
         },
     }
+}
+
+/// By rank, then by path, then by key.
+fn compare(a: &Change, b: &Change) -> Ordering
+    ensures { result ≡ place_cmp a.now b.now }
+{
+    compare_rest(rank(a).cmp(&rank(b)), a, b)
+}
+
+/// By what they change.
+pub fn compare_slots(a: &Change, b: &Change) -> Ordering
+    ensures { result ≡ slot_cmp (slot_for a.now) (slot_for b.now) }
+{
+    compare_rest(kind_of(a).cmp(&kind_of(b)), a, b)
 }
 
 /// Equal changes in the order in which they are written.

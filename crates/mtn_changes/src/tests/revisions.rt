@@ -1,7 +1,7 @@
 // Texts of revisions: each fault at each kind of stanza, and texts that are read and written again.
 use crate::{
-    ChangeTextError, lawful_in_any_order, read_changes, read_revision, write_changes,
-    write_revision,
+    ChangeTextError, lawful_in_any_order, lawful_is_read, one_value, read_changes, read_revision,
+    sorted_changes, sorted_revision, write_changes, write_revision,
 };
 use std::alloc::Global;
 use std::test::Fail;
@@ -223,7 +223,7 @@ const REVISIONS: [&[&[u8]]; 8] = [
 
 #[tactic(auto, using(crate::proofs::Unsorted::unsorted_edges))]
 fn written_again(alloc: Global, text: &[u8]) -> Result<Vec<u8>, Fail> {
-    let revision = read_revision(alloc, text)?;
+    let revision = sorted_revision(alloc, &read_revision(alloc, text)?)?;
     let mut out = Vec::new(alloc);
     write_revision(alloc, &revision, &mut out)?;
     Ok(out)
@@ -232,6 +232,8 @@ fn written_again(alloc: Global, text: &[u8]) -> Result<Vec<u8>, Fail> {
 #[test]
 fn revisions_are_read_written_and_read_again(rt: HostRuntime) -> Result<(), Fail> {
     lawful_in_any_order();
+    lawful_is_read();
+    one_value();
     assert_eq!(rt; joined(rt.alloc(), REVISIONS[0])?.len(), 105);
     assert_eq!(rt; joined(rt.alloc(), REVISIONS[1])?.len(), 199);
     for stanzas in REVISIONS {
@@ -269,7 +271,7 @@ const SORTED: [&[u8]; 8] = [
 ];
 
 fn sorted_again(alloc: Global, text: &[u8]) -> Result<Vec<u8>, Fail> {
-    let changes = read_changes(alloc, text)?;
+    let changes = sorted_changes(alloc, &read_changes(alloc, text)?)?;
     let mut out = Vec::new(alloc);
     write_changes(alloc, &changes, &mut out)?;
     Ok(out)
