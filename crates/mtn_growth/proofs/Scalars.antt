@@ -6,7 +6,7 @@ use Rattle.mtn_ancestry.specs.Ancestors.IsAncestor.{itself, through}
 use Rattle.mtn_ancestry.proofs.Members.{Contains-head, Contains-later}
 use Rattle.mtn_ancestry.proofs.Ancestry.{IsAncestor-trans}
 use Rattle.mtn_marks.specs.Marks.{NeverComesBack}
-use Rattle.mtn_marks.specs.Rule.{IsSideAt, AreUncommon, IsMarkByRule}
+use Rattle.mtn_marks.specs.Rule.{Side, IsSideAt, AreUncommon, IsMarkByRule}
 use Rattle.mtn_marks.proofs.Local.{root_rule, one_rule, two_rule}
 use Rattle.mtn_marks.proofs.Stable.{Agree, get_kept, get_last, early_by, IsSideAt-kept, AreUncommon-kept}
 use Rattle.mtn_roster.specs.declared.entry.Body.{Body}
@@ -109,26 +109,39 @@ module _ (log : List Revision) (new : Revision) (grown : IsGrown (log ++ new ∷
   the_parents : parents_at (log ++ new ∷ []) (length log) ≡ new.parents
   the_parents = ap revision_parents (get_last log new)
 
-  pub two_marked : (p q : ℕ) → new.parents ≡ p ∷ q ∷ [] → (left right : Scalar → List ℕ) →
-      AreMarksAt log p left → AreMarksAt log q right → (only_left only_right : List ℕ) →
+  -- by what the parents have of the scalar
+  pub two_sided : (p q : ℕ) → new.parents ≡ p ∷ q ∷ [] → (l r : Option (Side Value)) →
+      IsSideAt Value (parents_at log) (value_at log s) p l → IsSideAt Value (parents_at log) (value_at log s) q r → (only_left only_right : List ℕ) →
       AreUncommon (parents_at log) p q only_left → AreUncommon (parents_at log) q p only_right → (x : ℕ) →
-      IsMarkByRule Value (length log) v only_left only_right (side_of (value_at log s p) (left s)) (side_of (value_at log s q) (right s)) x
-      ↔ IsMark (log ++ new ∷ []) s (length log) x
-  two_marked p q both left right hl hr only_left only_right ul ur =
+      IsMarkByRule Value (length log) v only_left only_right l r x ↔ IsMark (log ++ new ∷ []) s (length log) x
+  two_sided p q both l r hl hr only_left only_right ul ur =
       let lp : p < length log = grown.earlier (length log) p (subst (λ ps. Contains ps p) (sym (the_parents ∙ both)) (Contains-head p (q ∷ []))) in
       let lq : q < length log = grown.earlier (length log) q (subst (λ ps. Contains ps q) (sym (the_parents ∙ both)) (Contains-later p (q ∷ []) (Contains-head q []))) in
       let g = agrees s log new grown.earlier in
-      two_rule Value tell_value _ grown.earlier _ (never_back (log ++ new ∷ []) grown s) (length log) v there p q (the_parents ∙ both) _ _
-      (IsSideAt-kept g p _ lp (side_is log p left hl s (value_at log s p) refl)) (IsSideAt-kept g q _ lq (side_is log q right hr s (value_at log s q) refl))
+      two_rule Value tell_value _ grown.earlier _ (never_back (log ++ new ∷ []) grown s) (length log) v there p q (the_parents ∙ both) l r
+      (IsSideAt-kept g p l lp hl) (IsSideAt-kept g q r lq hr)
       only_left only_right (AreUncommon-kept g p q only_left lp lq ul) (AreUncommon-kept g q p only_right lq lp ur)
+
+  pub one_sided : (p : ℕ) → new.parents ≡ p ∷ [] → (l : Option (Side Value)) → IsSideAt Value (parents_at log) (value_at log s) p l → (x : ℕ) →
+      IsMarkByRule Value (length log) v [] [] l None x ↔ IsMark (log ++ new ∷ []) s (length log) x
+  one_sided p one l h =
+      let lp : p < length log = grown.earlier (length log) p (subst (λ ps. Contains ps p) (sym (the_parents ∙ one)) (Contains-head p [])) in
+      one_rule Value tell_value _ grown.earlier _ (never_back (log ++ new ∷ []) grown s) (length log) v there p (the_parents ∙ one) l
+      (IsSideAt-kept (agrees s log new grown.earlier) p l lp h)
 
   pub root_marked : new.parents ≡ [] → (x : ℕ) →
       IsMarkByRule Value (length log) v [] [] None None x ↔ IsMark (log ++ new ∷ []) s (length log) x
   root_marked none = root_rule Value tell_value _ grown.earlier _ (never_back (log ++ new ∷ []) grown s) (length log) v there (the_parents ∙ none)
 
+  -- by the marks of all scalars of the parents
+  pub two_marked : (p q : ℕ) → new.parents ≡ p ∷ q ∷ [] → (left right : Scalar → List ℕ) →
+      AreMarksAt log p left → AreMarksAt log q right → (only_left only_right : List ℕ) →
+      AreUncommon (parents_at log) p q only_left → AreUncommon (parents_at log) q p only_right → (x : ℕ) →
+      IsMarkByRule Value (length log) v only_left only_right (side_of (value_at log s p) (left s)) (side_of (value_at log s q) (right s)) x
+      ↔ IsMark (log ++ new ∷ []) s (length log) x
+  two_marked p q both left right hl hr =
+      two_sided p q both _ _ (side_is log p left hl s (value_at log s p) refl) (side_is log q right hr s (value_at log s q) refl)
+
   pub one_marked : (p : ℕ) → new.parents ≡ p ∷ [] → (marks : Scalar → List ℕ) → AreMarksAt log p marks → (x : ℕ) →
       IsMarkByRule Value (length log) v [] [] (side_of (value_at log s p) (marks s)) None x ↔ IsMark (log ++ new ∷ []) s (length log) x
-  one_marked p one marks h =
-      let lp : p < length log = grown.earlier (length log) p (subst (λ ps. Contains ps p) (sym (the_parents ∙ one)) (Contains-head p [])) in
-      one_rule Value tell_value _ grown.earlier _ (never_back (log ++ new ∷ []) grown s) (length log) v there p (the_parents ∙ one) _
-      (IsSideAt-kept (agrees s log new grown.earlier) p _ lp (side_is log p marks h s (value_at log s p) refl))
+  one_marked p one marks h = one_sided p one _ (side_is log p marks h s (value_at log s p) refl)
