@@ -1,0 +1,4 @@
+pub mod Telling
+pub mod Scalars
+pub mod Growing
+pub mod Born

@@ -1,0 +1,10 @@
+pub mod Keyed
+pub mod ByName
+pub mod ByKey
+pub mod Joined
+pub mod Rows
+pub mod Siding
+pub mod Telling
+pub mod Knowing
+pub mod Zips
+pub mod Historic

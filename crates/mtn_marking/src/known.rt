@@ -1,0 +1,122 @@
+// What a parent has of a node, and of each of its scalars.
+ghost use Rattle.std.specs.Prelude.{◌≡◌, ◌<◌, length, map, find, slice_get, option_and_then, option_map, IsTrue, IfSome};
+ghost use Rattle.mtn_base.specs.Names.{bytes_cmp, same_bytes};
+ghost use Rattle.mtn_base.specs.declared.name.NodeName.{NodeName};
+ghost use Rattle.mtn_growth.specs.Scalars.Scalar.{SlotOf, ContentOf, AttrOf};
+ghost use Rattle.mtn_growth.specs.Scalars.Value.{SlotValue, ContentValue, AttrValue};
+ghost use Rattle.mtn_roster.specs.Tree.{rises};
+ghost use Rattle.mtn_roster.specs.declared.entry.Attr.{Attr};
+ghost use Rattle.mtn_marking.specs.Marking.{birth_or, known_by, side_of};
+ghost use Rattle.mtn_marking.specs.Parts.{seen, IsOrderly, Tells};
+
+use crate::Marking;
+use crate::marked::MarkedRoster;
+use crate::same::{are_same_ids, are_same_slots, are_same_values};
+use crate::side::Have;
+use mtn_ancestry::Pos;
+use mtn_base::{Bytes, Id, NodeName};
+use mtn_roster::{Attr, Body, Entry, Slot};
+
+/// A node of a parent: its entry and its marking.
+#[derive(Clone, Copy)]
+pub struct Known<'a> {
+    pub node: &'a Entry,
+    pub marking: &'a Marking,
+}
+
+/// What a parent has of a node; none where there is no such parent.
+pub fn known_from<'a>(parent: Option<&'a MarkedRoster>, name: &NodeName) -> Option<Known<'a>>
+    ensures known { seen result ≡ known_by (option_map (λ t. t.now) parent.entry) name.now }
+    ensures orderly { IsOrderly (seen result) }
+{
+    match parent {
+        None => None,
+        Some(marked) => marked.known(name),
+    }
+}
+
+/// The birth that the first parent tells that has the node, and the new position where none does.
+pub fn birth_from(at: Pos, left: Option<Known>, right: Option<Known>) -> Pos
+    ensures { result ≡ birth_or (seen left.entry) (birth_or (seen right.entry) at) }
+{
+    match left {
+        Some(known) => known.marking.birth,
+        None => match right {
+            Some(known) => known.marking.birth,
+            None => at,
+        },
+    }
+}
+
+/// What a parent has of the slot of a node, whose new slot this is.
+pub fn have_slot<'a>(known: Option<Known<'a>>, slot: &Slot) -> Option<Have<'a>>
+    ensures { (n : NodeName) → Tells (SlotValue slot.now) (side_of (SlotOf n) (seen known.entry)) result }
+{
+    match known {
+        None => None,
+        Some(found) => Some(Have {
+            equal: are_same_slots(slot, &found.node.slot),
+            marks: &found.marking.slot,
+        }),
+    }
+}
+
+/// What a parent has of the content of a node, whose new content this is.
+pub fn have_content<'a>(known: Option<Known<'a>>, content: Id) -> Option<Have<'a>>
+    ensures { (n : NodeName) → Tells (ContentValue content) (side_of (ContentOf n) (seen known.entry)) result }
+{
+    match known {
+        None => None,
+        Some(found) => match found.node.body {
+            Body::Dir => None,
+            Body::File { content: old } => match &found.marking.content {
+                None => None,
+                Some(marks) => Some(Have {
+                    equal: are_same_ids(content, old),
+                    marks,
+                }),
+            },
+        },
+    }
+}
+
+/// The place of a key among attributes whose keys ascend.
+fn place_of_key(attrs: &[Attr], key: &Bytes) -> Option<usize>
+    requires rising { IsTrue (rises bytes_cmp (map (λ (a : Attr). a.key) attrs.now)) }
+    ensures within { IfSome result (λ place. place < length attrs.now) }
+    ensures attr { option_and_then (slice_get attrs.now) result ≡ find (λ (a : Attr). same_bytes a.key key.now) attrs.now }
+{
+    match attrs.binary_search_by(|attr| attr.key.as_slice().cmp(key.as_slice())) {
+        Ok(place) => Some(place),
+        Err(_) => None,
+    }
+}
+
+/// What a node of a parent has of an attribute, whose new value this is: the marks stand where the value does.
+fn attr_of_node<'a>(found: Known<'a>, attr: &Attr) -> Option<Have<'a>>
+    requires orderly { IsOrderly (seen (Some found)) }
+    ensures { (n : NodeName) → Tells (AttrValue attr.now.value) (side_of (AttrOf n attr.now.key) (seen (Some found.entry))) result }
+{
+    let attrs = found.node.attrs.as_slice();
+    match place_of_key(attrs, &attr.key) {
+        None => None,
+        Some(place) => match found.marking.attrs.as_slice().get(place) {
+            None => None,
+            Some(marked) => Some(Have {
+                equal: are_same_values(&attr.value, &attrs[place].value),
+                marks: &marked.marks,
+            }),
+        },
+    }
+}
+
+/// What a parent has of an attribute, whose new value this is.
+pub fn have_attr<'a>(known: Option<Known<'a>>, attr: &Attr) -> Option<Have<'a>>
+    requires orderly { IsOrderly (seen known) }
+    ensures { (n : NodeName) → Tells (AttrValue attr.now.value) (side_of (AttrOf n attr.now.key) (seen known.entry)) result }
+{
+    match known {
+        None => None,
+        Some(found) => attr_of_node(found, attr),
+    }
+}

@@ -1,0 +1,74 @@
+// Rosters with the marks of their nodes.
+ghost use Rattle.std.specs.Prelude.{◌≡◌, ◌↔◌, IsTrue};
+ghost use Rattle.mtn_marking.specs.Marking.{AreFor};
+ghost use Rattle.mtn_marking.specs.Marking.{known_in};
+ghost use Rattle.mtn_marking.specs.Parts.{seen, IsOrderly};
+
+use crate::MarkMap;
+use crate::known::Known;
+use mtn_base::NodeName;
+use mtn_roster::Roster;
+use std::marker::Model;
+
+/// A roster with the marks of exactly its nodes and their scalars.
+#[derive(Debug, Drop)]
+pub struct MarkedRoster {
+    roster: Roster,
+    marks: MarkMap,
+}
+
+impl Model for MarkedRoster {
+    ghost use Rattle.mtn_marking.specs.Marking.{MarkedTree, AreFor};
+
+    ghost Value = { MarkedTree };
+
+    ghost view = { λ r. record { tree = r.roster; marks = r.marks } };
+
+    ghost invariant = { λ r. AreFor r.roster r.marks };
+}
+
+impl MarkedRoster {
+    /// A roster with its marks. The marks that `mark_root`, `mark_one` and `mark_two` give are such.
+    pub fn new(roster: Roster, marks: MarkMap) -> MarkedRoster
+        requires { AreFor roster marks }
+        ensures { result ≡ record { tree = roster; marks = marks } }
+    {
+        MarkedRoster { roster, marks }
+    }
+
+    /// The roster. It takes no memory.
+    pub fn roster(&self) -> &Roster
+        ensures tree { result.now ≡ self.now.tree }
+        ensures fits { AreFor self.now.tree self.now.marks }
+    {
+        &self.roster
+    }
+
+    /// The marks. It takes no memory.
+    pub fn marks(&self) -> &MarkMap
+        ensures { result.now ≡ self.now.marks }
+    {
+        &self.marks
+    }
+
+    /// What the roster and the marks have of a node: one search by halves, since both have it at one place.
+    pub fn known(&self, name: &NodeName) -> Option<Known>
+        ensures known { seen result ≡ known_in self.now name.now }
+        ensures orderly { IsOrderly (seen result) }
+    {
+        let _sane = self.roster.len();
+        match self.marks.place(name) {
+            None => None,
+            Some(place) => match self.roster.at_place(place) {
+                None => None,
+                Some(entry) => match self.marks.at_place(place) {
+                    None => None,
+                    Some(node) => Some(Known {
+                        node: entry,
+                        marking: &node.marking,
+                    }),
+                },
+            },
+        }
+    }
+}
