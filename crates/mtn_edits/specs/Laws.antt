@@ -6,6 +6,8 @@ use Rattle.mtn_roster.specs.declared.entry.Entry.{Entry}
 use Rattle.mtn_changes.specs.declared.change.Change.{Change}
 use Rattle.mtn_changes.specs.declared.change.Change.TheVariants.{Rename}
 use Rattle.mtn_roster.specs.Tree.{Tree, entry_of, attr_of, is_dir, IsSane}
+use Rattle.mtn_growth.specs.History.{Revision, parents_at, IsPlaceOf}
+use Rattle.mtn_ancestry.specs.Ancestors.{IsAncestor}
 
 -- the old tree of a revision: none, or a sane one
 abbrev pub IsOldTree : Tree → Type 0
@@ -30,3 +32,11 @@ abbrev pub CommonAreKnown : Tree → Tree → Id → (Id → Bool) → (Id → B
 CommonAreKnown left right new above_left above_right =
     (n : NodeName) (x y : Entry) → entry_of left n ≡ Some x → entry_of right n ≡ Some y → n.birth ≢ new →
     IsTrue (above_left n.birth) × IsTrue (above_right n.birth)
+
+-- the history has no revision of that id
+abbrev pub IsFresh : List Revision → Id → Type 0
+IsFresh log id = (b : ℕ) → IsPlaceOf log id b → ⊥
+
+-- the test passes each ancestor of the revision at p
+abbrev pub PassesAncestors : List Revision → ℕ → (Id → Bool) → Type 0
+PassesAncestors log p above = (i : Id) (b : ℕ) → IsPlaceOf log i b → IsAncestor (parents_at log) b p → IsTrue (above i)
