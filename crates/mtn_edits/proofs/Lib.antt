@@ -7,3 +7,4 @@ pub mod Descending
 pub mod Stepping
 pub mod Joins
 pub mod Joining
+pub mod Renaming

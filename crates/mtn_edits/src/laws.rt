@@ -2,12 +2,23 @@
 ghost use Rattle.std.specs.Prelude.{◌≡◌, ◌≢◌, ℕ, ◌<◌, Bool, option_map, List, [], ◌∷◌, length, None};
 ghost use Rattle.mtn_base.specs.declared.id.Id.{Id};
 ghost use Rattle.mtn_changes.specs.declared.change.Change.{Change};
+ghost use Rattle.mtn_changes.specs.Sorting.{AreUnsorted};
 ghost use Rattle.mtn_roster.specs.declared.entry.Entry.{Entry};
 ghost use Rattle.mtn_roster.specs.Tree.{Tree, node_at, IsSane};
 ghost use Rattle.mtn_growth.specs.History.{Revision, tree_at, BirthsAreKnown, IsStep};
 ghost use Rattle.mtn_edits.specs.Changes.{first_fault, tree_after, occupant, occupant_name};
 ghost use Rattle.mtn_edits.specs.Joining.{join_fault, joined};
 ghost use Rattle.mtn_edits.specs.Laws.{IsOldTree, RenamesDiffer, NoneBornIn, Descends, CommonAreKnown, IsFresh, PassesAncestors};
+
+/// Changes that a text may spell, in any order, rename no path twice.
+pub fn renames_differ()
+    ensures { (all : List Change) → AreUnsorted all → RenamesDiffer all }
+{}
+
+/// No tree of a history has a node that is born in a revision which the history lacks.
+pub fn none_is_born_later()
+    ensures { (log : List Revision) (p : ℕ) (id : Id) → BirthsAreKnown log → IsFresh log id → NoneBornIn (tree_at log p) id }
+{}
 
 /// A changeset with no fault makes a sane tree of a sane one, and of none.
 pub fn after_is_sane()
