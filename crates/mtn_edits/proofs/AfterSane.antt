@@ -1,22 +1,24 @@
 -- A changeset with no fault makes a sane tree.
-use Rattle.std.specs.Prelude.{Contains}
+use Rattle.std.specs.Prelude.{Contains, option_map, reverse}
 use Rattle.std.specs.List.{list_all}
 use Rattle.std.specs.Cmp.{second_so}
-use Rattle.std.proofs.Common.{◌≡◌, ℕ, suc, true, List, [], ◌∷◌, ◌++◌, None, refl, sym, ap, subst, arith, ⊎_elim}
+use Rattle.std.proofs.Common.{◌≡◌, ℕ, suc, true, List, [], ◌∷◌, ◌++◌, Option, Some, None, refl, ◌∙◌, sym, ap, subst, arith, ⊎_elim}
 use Rattle.mtn_base.specs.declared.id.Id.{Id}
+use Rattle.mtn_base.specs.declared.name.NodeName.{NodeName}
 use Rattle.mtn_changes.specs.declared.change.Change.{Change}
 use Rattle.mtn_roster.specs.Tree.{Tree, node_at, IsSane}
 use Rattle.mtn_roster.specs.declared.entry.Entry.{Entry}
-use Rattle.std.specs.Prelude.{option_map}
-use Rattle.mtn_edits.specs.Changes.{first_fault, tree_after, occupant, occupant_name}
-use Rattle.mtn_edits.specs.Laws.{IsOldTree, RenamesDiffer, NoneBornIn}
+use Rattle.mtn_edits.specs.Changes.{Occupant, first_fault, tree_after, occupant, occupant_name}
+use Rattle.mtn_edits.specs.Changes.Occupant.{Old, Added}
+use Rattle.mtn_edits.specs.Laws.{IsOldTree, RenamesDiffer, NoneBornIn, AreNamedByPath}
 use Rattle.mtn_roster.proofs.Finding.{Split}
 use Rattle.mtn_edits.proofs.Passing.{passes}
 use Rattle.mtn_roster.proofs.Forest.{IsForest}
 use Rattle.mtn_edits.proofs.After.{after_sane, at_paths}
 use Rattle.mtn_roster.proofs.Ordered.{forest_of, no_forest}
 use Rattle.mtn_edits.proofs.Keeping.{has_rising_keys, ordered_after}
-use Rattle.mtn_edits.proofs.Occupying.{RenamesOnce}
+use Rattle.mtn_edits.proofs.Occupying.{RenamesOnce, IsPresent, standing, added_where}
+use Rattle.mtn_edits.proofs.Occupying.IsPresent.{old_one}
 
 pub contains_of : {X : Type 0} (xs : List X) (x : X) → Split xs x → Contains xs x
 contains_of {X} xs x s = subst (λ l. Contains l x) (sym s.is) (go s.before)
@@ -44,3 +46,21 @@ pub after_at_paths : (old : Tree) (all : List Change) (new : Id) → IsOldTree o
     option_map (λ (e : Entry). e.name) (node_at (tree_after old all new) p) ≡ option_map (occupant_name new) (occupant old all p)
 after_at_paths old all new before once unborn fine p =
     at_paths old all new (forest_before old before) (once_of all once) (passes old all fine) unborn (forest_of (tree_after old all new) (after_is_sane old all new before once unborn fine)) p
+
+pub after_names : (old : Tree) (all : List Change) (new : Id) → IsOldTree old → RenamesDiffer all → NoneBornIn old new → first_fault old all ≡ None → AreNamedByPath (tree_after old all new) new
+after_names old all new before once unborn fine p e h born =
+    let forest = forest_of (tree_after old all new) (after_is_sane old all new before once unborn fine) in
+    at (occupant old all p) refl (sym (after_at_paths old all new before once unborn fine p) ∙ ap (option_map (λ (e : Entry). e.name)) h)
+  where
+    at : (x : Option Occupant) → occupant old all p ≡ x → option_map (occupant_name new) x ≡ Some e.name → e.name.path ≡ p
+    at None k g = absurd cc
+    at (Some (Added q body)) k g =
+        let name : record { birth = new; path = q } ≡ e.name = cc in
+        ap (λ (n : NodeName). n.path) (sym name) ∙ added_where old all p q body k
+    at (Some (Old f)) k g =
+        let name : f.name ≡ e.name = cc in
+        let s = standing old (forest_before old before) all new (once_of all once) (passes old all fine) (reverse p) (Old f) k in
+        absurd (old_here f s.present (ap (λ (n : NodeName). n.birth) name ∙ born))
+      where
+        old_here : (f : Entry) → IsPresent old (forest_before old before) all new (Old f) → f.name.birth ≡ new → ⊥
+        old_here f (old_one there stays) b = unborn f.name f there b

@@ -56,11 +56,11 @@ of_map f (x ∷ xs) y s = elim (split_cons (f x) (map f xs) y s) [
 ]
 
 -- what a pair says that can be joined
-record IsPair (new : Id) (al ar : Id → Bool) (x : Entry) (o : Option Entry) : Type 0 where
-  other : Entry
-  at : o ≡ Some other
-  agree : disagree new x other ≡ false
-  lives : is_revived new al ar x other ≡ false
+pub record IsPair (new : Id) (al ar : Id → Bool) (x : Entry) (o : Option Entry) : Type 0 where
+  pub other : Entry
+  pub at : o ≡ Some other
+  pub agree : disagree new x other ≡ false
+  pub lives : is_revived new al ar x other ≡ false
 
 pair_of : (new : Id) (al ar : Id → Bool) (x : Entry) (o : Option Entry) → join_why new al ar (Some x) o ≡ None → IsPair new al ar x o
 pair_of new al ar x None h = absurd cc
@@ -100,13 +100,13 @@ lives_right false true u false h e f = absurd cc
 lives_right false false u v h e f = absurd cc
 
 module _ (l r : Tree) (new : Id) (al ar : Id → Bool) (sl : IsSane l) (sr : IsSane r) (fine : join_fault new al ar l r ≡ None) (known : CommonAreKnown l r new al ar) where
-  fl : IsForest l
+  pub fl : IsForest l
   fl = forest_of l sl
 
-  fr : IsForest r
+  pub fr : IsForest r
   fr = forest_of r sr
 
-  no_fault : (p : List (List ℕ)) → Split (map (path_of l) l ++ map (path_of r) r) p → join_why new al ar (node_at l p) (node_at r p) ≡ None
+  pub no_fault : (p : List (List ℕ)) → Split (map (path_of l) l ++ map (path_of r) r) p → join_why new al ar (node_at l p) (node_at r p) ≡ None
   no_fault p s = at (join_why new al ar (node_at l p) (node_at r p)) refl
     where
       empty : filter_map (fault_at new al ar l r) (map (path_of l) l ++ map (path_of r) r) ≡ []
@@ -118,7 +118,7 @@ module _ (l r : Tree) (new : Id) (al ar : Id → Bool) (sl : IsSane l) (sr : IsS
           (in_filter_map (fault_at new al ar l r) (map (path_of l) l ++ map (path_of r) r) p (p, w) s (ap (option_map (λ v. (p, v))) e))))
 
   -- each node of the left has its other
-  pair : (x : Entry) → entry_of l x.name ≡ Some x → IsPair new al ar x (counterpart l r x)
+  pub pair : (x : Entry) → entry_of l x.name ≡ Some x → IsPair new al ar x (counterpart l r x)
   pair x h =
       let p = path_of l x in
       let e = no_fault p (in_left (map (path_of l) l) (map (path_of r) r) p (in_map (path_of l) l x (split_of l x.name x h))) in
@@ -128,16 +128,16 @@ module _ (l r : Tree) (new : Id) (al ar : Id → Bool) (sl : IsSane l) (sr : IsS
   abbrev φ : Entry → NodeName
   φ x = joined_name new x (counterpart l r x)
 
-  name_is : (x : Entry) (h : entry_of l x.name ≡ Some x) (b : Bool) → is_old new x ≡ b → φ x ≡ cond b x.name (pair x h).other.name
+  pub name_is : (x : Entry) (h : entry_of l x.name ≡ Some x) (b : Bool) → is_old new x ≡ b → φ x ≡ cond b x.name (pair x h).other.name
   name_is x h b e = ap (joined_name new x) (pair x h).at ∙ ap (λ c. cond c x.name (pair x h).other.name) e
 
   other_there : (x : Entry) (h : entry_of l x.name ≡ Some x) → entry_of r (pair x h).other.name ≡ Some (pair x h).other
   other_there x h = node_there r fr (reverse (path_of l x)) (pair x h).other (pair x h).at
 
-  born_here : (x : Entry) → is_old new x ≡ false → x.name.birth ≡ new
+  pub born_here : (x : Entry) → is_old new x ≡ false → x.name.birth ≡ new
   born_here x h = same_id-is x.name.birth new (unnot _ h)
 
-  born_before : (x : Entry) → is_old new x ≡ true → x.name.birth ≢ new
+  pub born_before : (x : Entry) → is_old new x ≡ true → x.name.birth ≢ new
   born_before x h e = let g : same_id x.name.birth new ≡ true = ap (λ i. same_id i new) e ∙ same_id-self new in
       let k : not true ≡ true = ap not (sym g) ∙ h in cc
 
@@ -150,7 +150,7 @@ module _ (l r : Tree) (new : Id) (al ar : Id → Bool) (sl : IsSane l) (sr : IsS
       same_some (path_leads l fl x.name x h) (ap (node_at l) p ∙ path_leads l fl z.name z k)
 
   -- an old node whose birth is known on the right has itself as other
-  old_pair : (x : Entry) (h : entry_of l x.name ≡ Some x) → is_old new x ≡ true → IsTrue (ar x.name.birth) → (pair x h).other.name ≡ x.name
+  pub old_pair : (x : Entry) (h : entry_of l x.name ≡ Some x) → is_old new x ≡ true → IsTrue (ar x.name.birth) → (pair x h).other.name ≡ x.name
   old_pair x h old above =
       let p = pair x h in
       let other_old = lives_left (is_old new x) (is_old new p.other) (ar x.name.birth) (al p.other.name.birth) p.lives old above in
@@ -159,13 +159,13 @@ module _ (l r : Tree) (new : Id) (al ar : Id → Bool) (sl : IsSane l) (sr : IsS
   others_by_name : (x z : Entry) (h : entry_of l x.name ≡ Some x) (k : entry_of l z.name ≡ Some z) → (pair x h).other.name ≡ (pair z k).other.name → x ≡ z
   others_by_name x z h k e = by_others x z h k (same_some (other_there x h) (subst (λ n. entry_of r n ≡ Some (pair z k).other) (sym e) (other_there z k)))
 
-  mixed : (x z : Entry) (h : entry_of l x.name ≡ Some x) (k : entry_of l z.name ≡ Some z) → is_old new x ≡ true → x.name ≡ (pair z k).other.name → x ≡ z
+  pub mixed : (x z : Entry) (h : entry_of l x.name ≡ Some x) (k : entry_of l z.name ≡ Some z) → is_old new x ≡ true → x.name ≡ (pair z k).other.name → x ≡ z
   mixed x z h k old e =
       let above = known x.name x (pair z k).other h (subst (λ n. entry_of r n ≡ Some (pair z k).other) (sym e) (other_there z k)) (born_before x old) in
       others_by_name x z h k (old_pair x h old above.1 ∙ e)
 
   -- joined names are names of one node
-  one_name : (x z : Entry) (h : entry_of l x.name ≡ Some x) (k : entry_of l z.name ≡ Some z) → φ x ≡ φ z → x ≡ z
+  pub one_name : (x z : Entry) (h : entry_of l x.name ≡ Some x) (k : entry_of l z.name ≡ Some z) → φ x ≡ φ z → x ≡ z
   one_name x z h k e = ⊎_elim
       (λ a. ⊎_elim
       (λ b. let g : x.name ≡ z.name = sym (name_is x h true a) ∙ e ∙ name_is z k true b in same_some h (subst (λ n. entry_of l n ≡ Some z) (sym g) k))
@@ -183,7 +183,7 @@ module _ (l r : Tree) (new : Id) (al ar : Id → Bool) (sl : IsSane l) (sr : IsS
   abbrev ψ : Entry → Entry
   ψ = joined_entry l r new
 
-  own_of : (x : Entry) → Split l x → entry_of l x.name ≡ Some x
+  pub own_of : (x : Entry) → Split l x → entry_of l x.name ≡ Some x
   own_of x s = fl.distinct x s
 
   pub joined_has : (x : Entry) → entry_of l x.name ≡ Some x → j (φ x) ≡ Some (ψ x)
@@ -208,7 +208,7 @@ module _ (l r : Tree) (new : Id) (al ar : Id → Bool) (sl : IsSane l) (sr : IsS
       let m = of_map ψ l e f.at in
       record { left = m.0; there = own_of m.0 m.1; is = m.2; name = ap (λ (e : Entry). e.name) m.2 ∙ same_name-is e.name n f.passes }
 
-  slot_below : (parent : NodeName) (name : List ℕ) (d : Entry) → entry_of l parent ≡ Some d → joined_slot l r new (Below parent name) ≡ Below (φ d) name
+  pub slot_below : (parent : NodeName) (name : List ℕ) (d : Entry) → entry_of l parent ≡ Some d → joined_slot l r new (Below parent name) ≡ Below (φ d) name
   slot_below parent name d h = ap (λ o. Below (option_map_or (λ d. joined_name new d (counterpart l r d)) o parent) name) h
 
   abbrev σ : Slot → Slot
@@ -248,7 +248,7 @@ module _ (l r : Tree) (new : Id) (al ar : Id → Bool) (sl : IsSane l) (sr : IsS
       subst (EndsAtRoot j) (sym (slot_below parent name d at)) (under (joined_has d (own l parent d at)) (chain rest))
 
   -- a slot below something, after
-  back : (x : Entry) → entry_of l x.name ≡ Some x → (s : Slot) → x.slot ≡ s → (parent : NodeName) (name : List ℕ) → σ s ≡ Below parent name →
+  pub back : (x : Entry) → entry_of l x.name ≡ Some x → (s : Slot) → x.slot ≡ s → (parent : NodeName) (name : List ℕ) → σ s ≡ Below parent name →
       (d : Entry) × (entry_of l d.name ≡ Some d) × (φ d ≡ parent) × (s ≡ Below d.name name) × IsTrue (is_dir d)
   back x h Root p parent name e = absurd cc
   back x h (Below a c) p parent name e =
@@ -371,7 +371,7 @@ module _ (l r : Tree) (new : Id) (al ar : Id → Bool) (sl : IsSane l) (sr : IsS
     keys = λ k g. keys_right (other_attrs (counterpart l r x)) x.attrs k (subst (λ o. IsSome (attr_of (other_attrs o) k)) (sym (pair x h).at) g);
   }
 
-  old_by : (x : Entry) → x.name.birth ≢ new → is_old new x ≡ true
+  pub old_by : (x : Entry) → x.name.birth ≢ new → is_old new x ≡ true
   old_by x ne = ⊎_elim (λ a. a) (λ b. absurd (ne (born_here x b))) (told (is_old new x))
 
   pub on_either : (n : NodeName) (e : Entry) → j n ≡ Some e → OnLeft n e ⊎ OnRight n e

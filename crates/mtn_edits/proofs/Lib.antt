@@ -8,3 +8,5 @@ pub mod Stepping
 pub mod Joins
 pub mod Joining
 pub mod Renaming
+pub mod Agreeing
+pub mod JoinedPaths

@@ -363,3 +363,50 @@ module _ (old : Tree) (o : IsForest old) where
               let c = chained (kept_child old all mtn) (occupant_up old all []) x g in
               let w = kept_child_is mtn c.0 x c.2 in
               inner_by w.above x (by_what [] (Old w.above) (c.1 ∙ ap Some w.parent)) (ap (kept_child old all mtn) (sym w.parent) ∙ c.2)
+
+-- an added node stands at its path alone
+module _ (old : Tree) (all : List Change) where
+  only_old : (e : Entry) (p : List (List ℕ)) (body : Body) → if_kept old all e ≡ Some (Added p body) → ⊥
+  only_old e p body h = at (is_kept old all e) h
+    where
+      at : (b : Bool) → cond b (Some (Old e)) None ≡ Some (Added p body) → ⊥
+      at true g = cc
+      at false g = cc
+
+  aside_old : (up : List (List ℕ)) (p : List (List ℕ)) (body : Body) → aside_up old all up ≡ Some (Added p body) → ⊥
+  aside_old [] p body h = let c = chained (if_kept old all) (root_of old) (Added p body) h in only_old c.0 p body c.2
+  aside_old (name ∷ up) p body h =
+      let c = chained (kept_child old all name) (occupant_up old all up) (Added p body) h in
+      below c.0 c.2
+    where
+      below : (d : Occupant) → kept_child old all name d ≡ Some (Added p body) → ⊥
+      below (Added q b) g = cc
+      below (Old d) g = at (is_dir d) g
+        where
+          at : (b : Bool) → cond b (option_and_then (if_kept old all) (child_of old name d)) None ≡ Some (Added p body) → ⊥
+          at false g = cc
+          at true g = let c = chained (if_kept old all) (child_of old name d) (Added p body) g in only_old c.0 p body c.2
+
+  put_where : (q p : List (List ℕ)) (body : Body) (c : Change) → aims_at q c ≡ true → put_by old c ≡ Some (Added p body) → p ≡ q
+  put_where q p body (Delete a) h put = absurd cc
+  put_where q p body (Rename a b) h put = absurd (no (node_at old a) put)
+    where
+      no : (x : Option Entry) → option_map Old x ≡ Some (Added p body) → ⊥
+      no None g = cc
+      no (Some e) g = cc
+  put_where q p body (AddDir a) h put = let same : a ≡ p = cc in sym same ∙ same_path-is a q h
+  put_where q p body (AddFile a content) h put = let same : a ≡ p = cc in sym same ∙ same_path-is a q h
+  put_where q p body (Patch a b c) h put = absurd cc
+  put_where q p body (Clear a k) h put = absurd cc
+  put_where q p body (Set a k v) h put = absurd cc
+
+  pub added_where : (q p : List (List ℕ)) (body : Body) → occupant_up old all (reverse q) ≡ Some (Added p body) → p ≡ q
+  added_where q p body h = by_change (find (aims_at (reverse (reverse q))) all) refl (sym (by_first (reverse q)) ∙ h)
+    where
+      by_first : (up : List (List ℕ)) → occupant_up old all up ≡ occupant_by old (aside_up old all up) (find (aims_at (reverse up)) all)
+      by_first [] = refl
+      by_first (name ∷ up) = refl
+
+      by_change : (c : Option Change) → find (aims_at (reverse (reverse q))) all ≡ c → occupant_by old (aside_up old all (reverse q)) c ≡ Some (Added p body) → p ≡ q
+      by_change None e g = absurd (aside_old (reverse q) p body g)
+      by_change (Some c) e g = put_where (reverse (reverse q)) p body c (found (aims_at (reverse (reverse q))) all c e).passes g ∙ reverse-reverse q

@@ -3,14 +3,14 @@ use Rattle.std.specs.Prelude.{Contains}
 use Rattle.std.specs.List.{count_by}
 use Rattle.std.specs.Ordering.{is_eq}
 use Rattle.std.specs.Cmp.{tied_itself}
-use Rattle.std.proofs.Common.{◌≡◌, ℕ, ◌+◌, ◌≤◌, true, cond, List, [], ◌∷◌, refl, sym, ◌∙◌, ap, subst, inl, inr, arith}
+use Rattle.std.proofs.Common.{◌≡◌, ◌+◌, ◌≤◌, true, cond, List, [], ◌∷◌, sym, ◌∙◌, ap, subst, inl, inr, arith}
 use Rattle.mtn_changes.specs.declared.change.Change.{Change}
 use Rattle.mtn_changes.specs.declared.change.Change.TheVariants.{Rename}
 use Rattle.mtn_changes.specs.declared.slot.Slot.{Slot}
 use Rattle.mtn_changes.specs.Slots.{slot_of}
 use Rattle.mtn_changes.specs.Sorting.{AreUnsorted}
 use Rattle.mtn_changes.proofs.Places.{slot_total}
-use Rattle.mtn_changes.proofs.Sorted.{at, one_at, count_more}
+use Rattle.mtn_changes.proofs.Sorted.{at, count_more}
 use Rattle.mtn_roster.proofs.Finding.{Split}
 use Rattle.mtn_roster.proofs.Members.{split_cons, taken}
 use Rattle.mtn_roster.proofs.Sorting.{no_split}

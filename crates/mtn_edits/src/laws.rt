@@ -8,7 +8,7 @@ ghost use Rattle.mtn_roster.specs.Tree.{Tree, node_at, IsSane};
 ghost use Rattle.mtn_growth.specs.History.{Revision, tree_at, BirthsAreKnown, IsStep};
 ghost use Rattle.mtn_edits.specs.Changes.{first_fault, tree_after, occupant, occupant_name};
 ghost use Rattle.mtn_edits.specs.Joining.{join_fault, joined};
-ghost use Rattle.mtn_edits.specs.Laws.{IsOldTree, RenamesDiffer, NoneBornIn, Descends, CommonAreKnown, IsFresh, PassesAncestors};
+ghost use Rattle.mtn_edits.specs.Laws.{IsOldTree, RenamesDiffer, NoneBornIn, Descends, CommonAreKnown, IsFresh, PassesAncestors, AreNamedByPath, IsJoinedAt};
 
 /// Changes that a text may spell, in any order, rename no path twice.
 pub fn renames_differ()
@@ -28,9 +28,11 @@ pub fn after_is_sane()
 
 /// At each path of the new tree stands the occupant that the changeset gives it.
 pub fn after_at_paths()
-    ensures { (old : Tree) (all : List Change) (new : Id) → IsOldTree old → RenamesDiffer all → NoneBornIn old new →
+    ensures occupants { (old : Tree) (all : List Change) (new : Id) → IsOldTree old → RenamesDiffer all → NoneBornIn old new →
         first_fault old all ≡ None → (p : List (List ℕ)) →
         option_map (λ (e : Entry). e.name) (node_at (tree_after old all new) p) ≡ option_map (occupant_name new) (occupant old all p) }
+    ensures named { (old : Tree) (all : List Change) (new : Id) → IsOldTree old → RenamesDiffer all → NoneBornIn old new →
+        first_fault old all ≡ None → AreNamedByPath (tree_after old all new) new }
 {}
 
 /// What such a changeset makes has of the old nodes: no other, their kinds, and their keys.
@@ -54,6 +56,14 @@ pub fn joined_is_sane()
     ensures { (left right : Tree) (new : Id) (above_left above_right : Id → Bool) → IsSane left → IsSane right →
         join_fault new above_left above_right left right ≡ None → CommonAreKnown left right new above_left above_right →
         IsSane (joined left right new) }
+{}
+
+/// At each path such trees are joined to what both have there.
+pub fn joined_at_paths()
+    ensures { (left right : Tree) (new : Id) (above_left above_right : Id → Bool) → IsSane left → IsSane right →
+        join_fault new above_left above_right left right ≡ None → CommonAreKnown left right new above_left above_right →
+        AreNamedByPath right new → (p : List (List ℕ)) →
+        IsJoinedAt new p (node_at left p) (node_at right p) (node_at (joined left right new) p) }
 {}
 
 /// Two edges with no fault, over the trees of two revisions of the history, are a step where their trees agree and no
