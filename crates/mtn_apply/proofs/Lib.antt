@@ -1,0 +1,5 @@
+pub mod Keyed
+pub mod Along
+pub mod Alike
+pub mod LeastFault
+pub mod Made
