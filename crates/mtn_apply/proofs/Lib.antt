@@ -3,3 +3,4 @@ pub mod Along
 pub mod Alike
 pub mod LeastFault
 pub mod Made
+pub mod BothStand

@@ -1,5 +1,5 @@
 -- What `join` is told of births, how its walks compare two trees, and what it makes before it puts it in order.
-use Rattle.std.specs.Prelude.{◌≡◌, ◌++◌, ◌==◌, ◌&&◌, ℕ, ◌<◌, Bool, true, false, not, if◌then◌else◌, is_none, List, map, length, Option, Some, None, option_map, slice_get}
+use Rattle.std.specs.Prelude.{◌≡◌, ◌++◌, ◌==◌, ◌&&◌, ◌||◌, ℕ, ◌<◌, Bool, true, false, not, if◌then◌else◌, is_none, List, map, length, Option, Some, None, option_map, slice_get}
 use Rattle.std.specs.List.{filter}
 use Rattle.std.specs.Option.{option_map_or}
 use Rattle.std.specs.BTreeSet.{BTreeSet, contains}
@@ -11,9 +11,9 @@ use Rattle.mtn_roster.specs.declared.entry.Attr.{Attr}
 use Rattle.mtn_roster.specs.declared.entry.Entry.{Entry}
 use Rattle.mtn_roster.specs.declared.entry.Slot.{Slot}
 use Rattle.mtn_roster.specs.declared.entry.Slot.TheVariants.{Root, Below}
-use Rattle.mtn_roster.specs.Tree.{Tree, is_some_with, rises, attr_of, live_of, path_of}
+use Rattle.mtn_roster.specs.Tree.{Tree, is_some_with, entry_of, rises, attr_of, live_of, path_of}
 use Rattle.mtn_roster.specs.Walk.{by_path}
-use Rattle.mtn_edits.specs.Joining.{JoinWhy, join_why, joined_name, joined_entry, counterpart, other_attrs}
+use Rattle.mtn_edits.specs.Joining.{JoinWhy, is_old, join_why, joined_name, joined_entry, counterpart, other_attrs}
 use Rattle.mtn_edits.specs.Joining.JoinWhy.{Disagree, Revived}
 use Rattle.mtn_apply.specs.declared.pair.PairFault.{PairFault}
 use Rattle.mtn_apply.specs.declared.pair.PairFault.TheVariants as pair
@@ -26,6 +26,11 @@ id_cmp a b = bytes_cmp a.0 b.0
 -- The test of births that a set of revisions gives. Beside the ancestors of one parent alone, those of the other stand outside
 abbrev pub is_outside : BTreeSet Id → Id → Bool
 is_outside only birth = not (contains id_cmp only birth)
+
+-- a node is new, or stands in one tree alone, or its birth passes both tests
+abbrev pub is_common_known : Tree → Id → (Id → Bool) → (Id → Bool) → Entry → Bool
+is_common_known right new above_left above_right e =
+    not (is_old new e) || is_none (entry_of right e.name) || (above_left e.name.birth && above_right e.name.birth)
 
 -- the fault of joining that an answer tells; want of memory tells none
 abbrev pub IsFaultOf : JoinError → Option (List (List ℕ) × JoinWhy) → Type 0
