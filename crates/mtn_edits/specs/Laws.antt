@@ -1,11 +1,13 @@
 -- What the laws of changesets and joinings speak of.
-use Rattle.std.specs.Prelude.{◌≡◌, ◌≢◌, ◌⊎◌, ℕ, Bool, IsTrue, List, [], Some, Contains, IsSome}
+use Rattle.std.specs.Prelude.{◌≡◌, ◌≢◌, ◌⊎◌, ◌↔◌, ℕ, Bool, IsTrue, List, [], Option, Some, None, Contains, IsSome}
 use Rattle.mtn_base.specs.declared.id.Id.{Id}
 use Rattle.mtn_base.specs.declared.name.NodeName.{NodeName}
 use Rattle.mtn_roster.specs.declared.entry.Entry.{Entry}
 use Rattle.mtn_changes.specs.declared.change.Change.{Change}
 use Rattle.mtn_changes.specs.declared.change.Change.TheVariants.{Rename}
-use Rattle.mtn_roster.specs.Tree.{Tree, entry_of, attr_of, is_dir, IsSane}
+use Rattle.mtn_roster.specs.Tree.{Tree, entry_of, node_at, attr_of, live_of, is_dir, IsSane}
+use Rattle.mtn_growth.specs.History.{Revision, parents_at, IsPlaceOf}
+use Rattle.mtn_ancestry.specs.Ancestors.{IsAncestor}
 
 -- the old tree of a revision: none, or a sane one
 abbrev pub IsOldTree : Tree → Type 0
@@ -30,3 +32,36 @@ abbrev pub CommonAreKnown : Tree → Tree → Id → (Id → Bool) → (Id → B
 CommonAreKnown left right new above_left above_right =
     (n : NodeName) (x y : Entry) → entry_of left n ≡ Some x → entry_of right n ≡ Some y → n.birth ≢ new →
     IsTrue (above_left n.birth) × IsTrue (above_right n.birth)
+
+-- the history has no revision of that id
+abbrev pub IsFresh : List Revision → Id → Type 0
+IsFresh log id = (b : ℕ) → IsPlaceOf log id b → ⊥
+
+-- the test passes each ancestor of the revision at p
+abbrev pub PassesAncestors : List Revision → ℕ → (Id → Bool) → Type 0
+PassesAncestors log p above = (i : Id) (b : ℕ) → IsPlaceOf log i b → IsAncestor (parents_at log) b p → IsTrue (above i)
+
+-- each node that is born in the new revision is named by its path
+abbrev pub AreNamedByPath : Tree → Id → Type 0
+AreNamedByPath t new = (p : List (List ℕ)) (e : Entry) → node_at t p ≡ Some e → e.name.birth ≡ new → e.name.path ≡ p
+
+-- what two nodes at a path are joined to
+pub record IsJoinedOf (new : Id) (p : List (List ℕ)) (x y e : Entry) : Type 0 where
+  -- an old node of either side; where both are added, the one that is added at the path
+  pub left_node : x.name.birth ≢ new → e.name ≡ x.name
+  pub right_node : y.name.birth ≢ new → e.name ≡ y.name
+  pub added_node : x.name.birth ≡ new → y.name.birth ≡ new → e.name ≡ record { birth = new; path = p }
+  -- the kind and content of both
+  pub left_body : e.body ≡ x.body
+  pub right_body : e.body ≡ y.body
+  -- the live attributes of both
+  pub left_live : (k : List ℕ) → live_of e.attrs k ≡ live_of x.attrs k
+  pub right_live : (k : List ℕ) → live_of e.attrs k ≡ live_of y.attrs k
+  -- and the keys of either, so that one which is live on neither and cleared on one is cleared
+  pub keys : (k : List ℕ) → IsSome (attr_of e.attrs k) ↔ (IsSome (attr_of x.attrs k) ⊎ IsSome (attr_of y.attrs k))
+
+-- both sides have a node at a path, and what they are joined to stands there; or none has
+abbrev pub IsJoinedAt : Id → List (List ℕ) → Option Entry → Option Entry → Option Entry → Type 0
+IsJoinedAt new p (Some x) (Some y) (Some e) = IsJoinedOf new p x y e
+IsJoinedAt new p None None None = Unit {0}
+IsJoinedAt new p _ _ _ = ⊥

@@ -1,3 +1,4 @@
 pub mod Changes
 pub mod Joining
 pub mod Laws
+pub mod Worked

@@ -1,0 +1,12 @@
+pub mod Passing
+pub mod Occupying
+pub mod Keeping
+pub mod After
+pub mod AfterSane
+pub mod Descending
+pub mod Stepping
+pub mod Joins
+pub mod Joining
+pub mod Renaming
+pub mod Agreeing
+pub mod JoinedPaths
