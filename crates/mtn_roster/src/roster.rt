@@ -3,7 +3,7 @@ ghost use Rattle.std.specs.Prelude.{◌≡◌, ◌<◌, length, map, option_copi
 ghost use Rattle.std.specs.List.{All};
 ghost use Rattle.mtn_base.specs.Names.{name_cmp};
 ghost use Rattle.mtn_roster.specs.Building.{IsBuildable, tree_of};
-ghost use Rattle.mtn_roster.specs.Tree.{IsSane, entry_of, node_at, path_of, rises};
+ghost use Rattle.mtn_roster.specs.Tree.{IsSane, entry_of, child_of, node_at, path_of, rises};
 ghost use Rattle.mtn_roster.specs.Index.{IsIndex};
 ghost use Rattle.mtn_roster.specs.Walk.{by_path, children_of, path_at, AreStops};
 
@@ -81,6 +81,14 @@ impl Roster {
         ensures { option_copied result ≡ node_at self.now path.now }
     {
         let at = node_among(&self.entries, &self.by_slot, path.comps())?;
+        self.entries.get(at)
+    }
+
+    /// The child of that name, of an entry of this tree or of another. It takes no memory.
+    pub fn child(&self, above: &Entry, name: &Comp) -> Option<&Entry>
+        ensures { option_copied result ≡ child_of self.now name.now above.now }
+    {
+        let at = child_place(&self.entries, &self.by_slot, above, name)?;
         self.entries.get(at)
     }
 
