@@ -67,14 +67,31 @@ fn manifest_of_a_file(rt: HostRuntime) -> Result<(), Fail> {
 fn manifest_goes_by_components(rt: HostRuntime) -> Result<(), Fail> {
     let alloc = rt.alloc();
     let mut entries = Vec::new(alloc);
-    entries.push(node(alloc, 4, below(alloc, 1, b"a-b")?, Body::Dir))?;
-    entries.push(node(alloc, 3, below(alloc, 2, b"b")?, Body::Dir))?;
+    entries.push(node(alloc, 4, below(alloc, 1, b"a-b")?, FILE))?;
+    entries.push(node(alloc, 3, below(alloc, 2, b"b")?, FILE))?;
     entries.push(node(alloc, 2, below(alloc, 1, b"a")?, Body::Dir))?;
     entries.push(node(alloc, 1, Slot::Root, Body::Dir))?;
     let text = text_of_tree(alloc, entries)?;
     assert!(rt;
         text.as_slice()
-            == b"format_version \"1\"\n\ndir \"\"\n\ndir \"a\"\n\ndir \"a/b\"\n\ndir \"a-b\"\n".as_slice()
+            == b"format_version \"1\"\n\ndir \"\"\n\ndir \"a\"\n\n   file \"a/b\"\ncontent [1111111111111111111111111111111111111111]\n\n   file \"a-b\"\ncontent [1111111111111111111111111111111111111111]\n".as_slice()
+    );
+    Ok(())
+}
+
+// A tree of `d/f` and `g` whose root went to `old` and whose `d` became the root.
+#[test]
+fn manifest_after_a_change_of_roots(rt: HostRuntime) -> Result<(), Fail> {
+    let alloc = rt.alloc();
+    let mut entries = Vec::new(alloc);
+    entries.push(node(alloc, 1, below(alloc, 2, b"old")?, Body::Dir))?;
+    entries.push(node(alloc, 2, Slot::Root, Body::Dir))?;
+    entries.push(node(alloc, 3, below(alloc, 2, b"f")?, FILE))?;
+    entries.push(node(alloc, 4, below(alloc, 1, b"g")?, FILE))?;
+    let text = text_of_tree(alloc, entries)?;
+    assert!(rt;
+        text.as_slice()
+            == b"format_version \"1\"\n\ndir \"\"\n\n   file \"f\"\ncontent [1111111111111111111111111111111111111111]\n\ndir \"old\"\n\n   file \"old/g\"\ncontent [1111111111111111111111111111111111111111]\n".as_slice()
     );
     Ok(())
 }
@@ -98,5 +115,25 @@ fn manifest_has_live_attributes_alone(rt: HostRuntime) -> Result<(), Fail> {
     assert!(rt;
         text.as_slice() == b"format_version \"1\"\n\n dir \"\"\nattr \"k\" \"v\"\n".as_slice()
     );
+    Ok(())
+}
+
+// The look-ups of the same tree.
+#[test]
+fn looks_up_by_name_path_and_place(rt: HostRuntime) -> Result<(), Fail> {
+    let alloc = rt.alloc();
+    let mut entries = Vec::new(alloc);
+    entries.push(node(alloc, 2, below(alloc, 1, b"f")?, FILE))?;
+    entries.push(node(alloc, 1, Slot::Root, Body::Dir))?;
+    let roster = Roster::build(alloc, entries)?;
+    assert!(rt; roster.len() == 2);
+    assert!(rt; roster.entry(&name(alloc, 2)).is_some());
+    assert!(rt; roster.entry(&name(alloc, 3)).is_none());
+    assert!(rt; roster.at_path(&Path::read(alloc, b"f")?).is_some());
+    assert!(rt; roster.at_path(&Path::read(alloc, b"g")?).is_none());
+    assert!(rt; roster.at_place(1).is_some());
+    let stops = roster.stops(alloc)?;
+    assert!(rt; stops.len() == 2);
+    assert!(rt; stops[1].place == 1);
     Ok(())
 }

@@ -9,9 +9,9 @@
 //! The crates above rely on this: a `Roster` is seen as the list of its entries by ascending name, and
 //! that list is a sane tree; look-ups, paths and the walk are what the list says.
 //!
-//! Cost: `build` sorts once by name and once by slot, and climbs in jumps that double; a look-up is a
-//! binary search for each component; a walk visits each node once. An entry takes 8 bytes more than it
-//! has itself, and no name is kept twice.
+//! Cost: `build` sorts once by name and once by slot, and visits each node twice to tell that all chains
+//! end; a look-up is a binary search for each component; a walk visits each node once. An entry takes 16
+//! bytes more than it has itself, and no name is kept twice.
 #![tactic(auto)]
 
 mod build;
