@@ -1,8 +1,8 @@
 #!/bin/sh
 # Reads and writes the text of a revision of 100,000 changes, of all seven kinds, and prints both times as
 # multiples of the time in which mtn_basic_io reads the text's stanzas alone, all in this run (less the time
-# of taking the text in). Within a kind the changes stand in no order, so that the writer has to sort them.
-# It drives the built program mtn_bench_changes: give its path, or have it built by `rt run` in
+# of taking the text in): of the text as it is written, and then of the same changes in no order within a
+# kind, a text that may be read and is never written. It drives the built program mtn_bench_changes: give its path, or have it built by `rt run` in
 # crates/mtn_bench_changes.
 set -eu
 top=$(cd "$(dirname "$0")/.." && pwd)
@@ -10,7 +10,7 @@ program=${1:-$(ls "$top/crates/mtn_bench_changes/out/mtn_bench_changes" 2>/dev/n
 [ -n "$program" ] || { echo "build crates/mtn_bench_changes first" >&2; exit 2; }
 work=$(mktemp -d)
 trap 'rm -rf "$work"' EXIT
-python3 - "$work/text" "$work/sorted" <<'PYTHON'
+python3 - "$work/mixed" "$work/sorted" <<'PYTHON'
 import hashlib, random, sys
 random.seed(7)
 
@@ -56,19 +56,23 @@ seconds() {
     best=
     for _ in 1 2 3 4 5; do
         start=$(date +%s%N)
-        "$@" >"$work/out" <"$work/text"
+        "$@" >"$work/out" <"$text"
         end=$(date +%s%N)
         took=$((end - start))
         if [ -z "$best" ] || [ "$took" -lt "$best" ]; then best=$took; fi
     done
     echo "$best"
 }
-load=$(seconds "$program" load)
-stanzas=$(seconds "$program" stanzas)
-reading=$(seconds "$program" read)
-both=$(seconds "$program")
-cmp "$work/sorted" "$work/out"
-awk -v l="$load" -v s="$stanzas" -v r="$reading" -v b="$both" 'BEGIN {
-    printf "taking the text %.3f s, which is taken off; its stanzas %.3f s, the revision %.3f s, written too %.3f s\n", l / 1e9, (s - l) / 1e9, (r - l) / 1e9, (b - l) / 1e9
-    printf "read / stanzas %.2f (at most 2.5)\nwrite / stanzas %.2f (at most 2.5)\n", (r - l) / (s - l), (b - r) / (s - l)
-}'
+for name in sorted mixed; do
+    text=$work/$name
+    load=$(seconds "$program" load)
+    stanzas=$(seconds "$program" stanzas)
+    reading=$(seconds "$program" read)
+    both=$(seconds "$program")
+    cmp "$work/sorted" "$work/out"
+    awk -v n="$name" -v l="$load" -v s="$stanzas" -v r="$reading" -v b="$both" 'BEGIN {
+        printf "%s: taking the text %.3f s, which is taken off; its stanzas %.3f s, the revision %.3f s, written too %.3f s\n", n, l / 1e9, (s - l) / 1e9, (r - l) / 1e9, (b - l) / 1e9
+        most = n == "sorted" ? " (at most 2.5)" : ""
+        printf "%s: read / stanzas %.2f%s, write / stanzas %.2f%s\n", n, (r - l) / (s - l), most, (b - r) / (s - l), most
+    }'
+done

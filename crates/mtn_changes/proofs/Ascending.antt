@@ -1,14 +1,21 @@
 -- Changes that ascend by what they change are apart.
-use Rattle.std.proofs.Common.{◌≡◌, ℕ, zero, suc, ◌+◌, ◌<◌, ◌≤◌, Bool, true, false, cond, List, [], ◌∷◌, length, get_or, map, Bor, refl, sym, ap, subst, ◌∙◌, true≢false, Ordering, Less, Equal, Greater, arith}
+use Rattle.std.proofs.Common.{◌≡◌, ℕ, zero, suc, ◌+◌, ◌<◌, ◌≤◌, Bool, true, false, cond, List, [], ◌∷◌, ◌++◌, append_assoc, length, get_or, map, Bor, refl, sym, ap, subst, ◌∙◌, true≢false, Ordering, Less, Equal, Greater, arith}
 use Rattle.std.specs.Prelude.{IsTrue}
 use Rattle.std.specs.List.{count_by, AllByRecursion, AllAdjacentBelow, IsAllAdjacentAnswer}
-use Rattle.std.specs.List.Sorted.{IsPermutation, IsStrictlySortedBy}
+use Rattle.std.specs.List.Sorted.{IsPermutation, IsSorted, IsSortedBy, IsStrictlySortedBy}
 use Rattle.std.specs.Ordering.{is_eq, is_lt, ordering_reverse}
+use Rattle.std.proofs.lemmas.List.{length-map}
 use Rattle.std.proofs.lemmas.List.Sorted.{IsPermutation-map, sum_by-IsPermutation}
 use Rattle.std.proofs.lemmas.Map.Keys.{sorted_from_all_adjacent}
 use Rattle.mtn_changes.specs.declared.change.Change.{Change}
 use Rattle.mtn_changes.specs.declared.slot.Slot.{Slot}
 use Rattle.mtn_changes.specs.Slots.{slot_of, slot_cmp, AreApart}
+use Rattle.mtn_basic_io.specs.Spelling.{LineText}
+use Rattle.mtn_changes.specs.declared.change.Edge.{Edge}
+use Rattle.mtn_changes.specs.declared.head.Head.TheVariants.{Parent}
+use Rattle.mtn_changes.specs.Heads.{head_stanza}
+use Rattle.mtn_changes.specs.Stanzas.{stanza_of}
+use Rattle.mtn_changes.specs.Sorting.{place_cmp, IsSortedAs, EdgeWritten}
 use Rattle.mtn_changes.proofs.Places.{slot_total}
 use Rattle.mtn_changes.proofs.Sorted.{at, one_at, count_more}
 use Rattle.mtn_changes.proofs.Unsorted.{equal}
@@ -47,7 +54,7 @@ once s (c ∷ cs) up = once_more s c cs up.0 (once s cs up.1) (at s c) refl
 abbrev pub lower : Bor Change → Bor Change → Bool
 lower x y = is_lt (slot_cmp (slot_of x.now) (slot_of y.now))
 
-abbrev behind : Bor Change → Change
+abbrev pub behind : Bor Change → Change
 behind b = b.now
 
 slot_at : (bs : List (Bor Change)) (k : ℕ) (d : Bor Change) → get_or (map slot_of (map behind bs)) k (slot_of d.now) ≡ slot_of (get_or bs k d).now
@@ -75,3 +82,35 @@ apart_by old new cs true are moved up is s =
     sum_by-IsPermutation (λ (c : Change). cond (at s c) 1 0) (map behind old) (map behind new) (IsPermutation-map behind old new moved) in
     let most : count_by (at s) (map behind new) ≤ 1 = once s (map behind new) (ascend new up) in
     subst (λ (xs : List Change). count_by (at s) xs ≤ 1) are (omega (arith, count, most))
+
+-- changes behind references, in the writer's order
+now_at : (bs : List (Bor Change)) (k : ℕ) (d : Change) (e : Bor Change) → k < length bs → get_or (map behind bs) k d ≡ (get_or bs k e).now
+now_at [] k d e lt = absurd (omega arith)
+now_at (b ∷ bs) zero d e lt = refl
+now_at (b ∷ bs) (suc k) d e lt = now_at bs k d e (omega arith)
+
+sorted_now : (bs : List (Bor Change)) → IsSortedBy (λ x y. is_lt (place_cmp x.now y.now)) bs → IsSorted place_cmp (map behind bs)
+sorted_now [] up k d le lt = absurd (omega arith)
+sorted_now (b ∷ bs) up k d le lt =
+    let high : k + 1 < length (b ∷ bs) = omega (arith, lt, length-map bs behind) in
+    let here : get_or (map behind (b ∷ bs)) k d ≡ (get_or (b ∷ bs) k b).now = now_at (b ∷ bs) k d b (omega arith) in
+    let next : get_or (map behind (b ∷ bs)) (k + 1) d ≡ (get_or (b ∷ bs) (k + 1) b).now = now_at (b ∷ bs) (k + 1) d b high in
+    rw (here, next) (up k b le high)
+
+pub sorted_behind : (old new : List (Bor Change)) (cs : List Change) → map behind old ≡ cs → IsPermutation old new → IsSortedBy (λ x y. is_lt (place_cmp x.now y.now)) new → IsSortedAs cs (map behind new)
+sorted_behind old new cs are moved up =
+    record { same = subst (λ (xs : List Change). IsPermutation xs (map behind new)) are (IsPermutation-map behind old new moved); ordered = sorted_now new up }
+
+-- an edge's head and then its changes
+pub edge_written : (before mid after : List (List LineText)) (e : Edge) (s : List LineText) (bs refs : List (Bor Change)) (cs : List Change) → cs ≡ e.changes → IsSortedAs cs (map behind bs) → s ≡ head_stanza (Parent e.parent)
+    → mid ≡ before ++ s ∷ [] → refs ≡ bs → after ≡ mid ++ map stanza_of (map behind refs) → EdgeWritten before e after
+edge_written before mid after e s bs refs cs are sorted head first same more = record {
+  sorted = map behind bs;
+  is = subst (λ (xs : List Change). IsSortedAs xs (map behind bs)) are sorted;
+  spelled =
+      more
+      ∙ ap (λ (us : List (List LineText)). us ++ map stanza_of (map behind refs)) first
+      ∙ append_assoc before (s ∷ []) (map stanza_of (map behind refs))
+      ∙ ap (λ (t : List LineText). before ++ t ∷ map stanza_of (map behind refs)) head
+      ∙ ap (λ (xs : List (Bor Change)). before ++ head_stanza (Parent e.parent) ∷ map stanza_of (map behind xs)) same;
+}

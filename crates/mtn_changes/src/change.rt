@@ -120,7 +120,7 @@ impl Changeset {
 }
 
 /// Equal changes in the same order.
-pub fn copy_changes(alloc: Global, changes: &[Change]) -> Result<List<Change>, NoMemory>
+fn copy_changes(alloc: Global, changes: &[Change]) -> Result<List<Change>, NoMemory>
     ensures { IfOk result (λ l. l ≡ changes.now) }
 {
     let mut copies = List::new(alloc);

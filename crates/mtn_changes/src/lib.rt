@@ -5,10 +5,20 @@
 //! attribute of a path. An *edge* is the way from a parent revision: a list of changes, whose ranks
 //! rise and whose slots differ. A *revision* names its manifest and has one edge or two.
 //!
+//! Its *text* is the printed form of its stanzas: `format_version "1"`, `new_manifest`, and for each
+//! edge an `old_revision` and the stanzas of its changes. A list of changes has a text of its own.
+//!
 //! The crates above rely on this: what is read of a stanza is the one change that the stanza spells
-//! (`specs/Stanzas.antt`), and None comes exactly where it spells none; a list of changes is read
-//! exactly, and otherwise the first stanza at fault has its number (`specs/ChangesText.antt`). A list
-//! of n changes costs n looks into an ordered set.
+//! (`specs/Stanzas.antt`), and None comes exactly where it spells none. A list of changes and a
+//! revision are read exactly, with the changes in the text's order, and otherwise the first stanza at
+//! fault has its number (`specs/ChangesText.antt`, `specs/RevisionText.antt`). The writers sort the
+//! changes of each edge by rank, path and key, ask only that the value is lawful apart from order
+//! (`specs/Sorting.antt`), and leave what was there where memory is wanting. A text spells one value,
+//! and one that spells a value is not refused, so what is written is read back as the sorted value
+//! (`src/laws.rt`).
+//!
+//! Reading n changes sorts n references once, writing them sorts n more; only a text with a fault is
+//! read a second time, with an ordered set, to find the first one.
 #![tactic(auto)]
 
 mod apart;

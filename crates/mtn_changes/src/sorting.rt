@@ -1,11 +1,11 @@
 // The order in which changes are written.
-ghost use Rattle.std.specs.Prelude.{◌≡◌, IfOk};
+ghost use Rattle.std.specs.Prelude.{◌≡◌, map, IfOk};
 ghost use Rattle.std.specs.Ordering.{ordering_then};
 ghost use Rattle.mtn_base.specs.Names.{bytes_cmp, path_cmp};
 ghost use Rattle.mtn_changes.specs.Slots.{slot_cmp, slot_of as slot_for};
 ghost use Rattle.mtn_changes.specs.Sorting.{IsSortedAs, place_cmp};
 
-use crate::change::{Change, copy_changes};
+use crate::change::Change;
 use crate::order::rank;
 use mtn_base::{NoMemory, Path};
 use std::alloc::Global;
@@ -90,11 +90,28 @@ pub fn compare_slots(a: &Change, b: &Change) -> Ordering
     compare_rest(kind_of(a).cmp(&kind_of(b)), a, b)
 }
 
-/// Equal changes in the order in which they are written.
-pub fn sorted_of(alloc: Global, changes: &[Change]) -> Result<Vec<Change>, NoMemory>
-    ensures { IfOk result (λ v. IsSortedAs changes.now v.items) }
+/// References to the changes, in their order.
+pub fn refs_of<'a>(alloc: Global, changes: &'a [Change]) -> Result<Vec<&'a Change>, NoMemory>
+    ensures { IfOk result (λ v. map (λ b. b.now) v.items ≡ changes.now) }
 {
-    let mut sorted = copy_changes(alloc, changes)?.into_vec();
-    sorted.sort_by(compare)?;
+    let mut refs = Vec::with_capacity(alloc, changes.len())?;
+    for change in changes {
+        refs.push(change)?;
+    }
+    Ok(refs)
+}
+
+fn compare_refs(a: &&Change, b: &&Change) -> Ordering
+    ensures { result ≡ place_cmp a.now.now b.now.now }
+{
+    compare(a, b)
+}
+
+/// The changes in the order in which they are written. It copies none.
+pub fn sorted_of<'a>(alloc: Global, changes: &'a [Change]) -> Result<Vec<&'a Change>, NoMemory>
+    ensures { IfOk result (λ v. IsSortedAs changes.now (map (λ b. b.now) v.items)) }
+{
+    let mut sorted = refs_of(alloc, changes)?;
+    sorted.sort_by(compare_refs)?;
     Ok(sorted)
 }

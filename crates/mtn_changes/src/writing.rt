@@ -14,10 +14,10 @@ use std::alloc::Global;
 
 fn push_changes(
     alloc: Global,
-    changes: &[Change],
+    changes: &[&Change],
     stanzas: &mut Vec<Stanza>,
 ) -> Result<(), NoMemory>
-    ensures { OnOk result (stanzas.new.items ≡ stanzas.old.items ++ map spelled changes.now) }
+    ensures { OnOk result (stanzas.new.items ≡ stanzas.old.items ++ map spelled (map (λ b. b.now) changes.now)) }
 {
     for change in changes {
         stanzas.push(stanza_of(alloc, change)?)?;
