@@ -8,3 +8,4 @@ pub mod Telling
 pub mod Knowing
 pub mod Zips
 pub mod Historic
+pub mod Fitting

@@ -23,14 +23,14 @@ told_slot s t r e = (λ h. same_slot-is s t (sym e ∙ h), λ d. e ∙ subst (λ
 pub slot_then : (s t : Slot) (p q : NodeName) (a b : List ℕ) (r : Bool) → s ≡ Below p a → t ≡ Below q b → same_name p q ≡ r → same_slot s t ≡ (r && same_bytes a b)
 slot_then s t p q a b r es et h = (λ i. same_slot (es i) (et i)) ∙ ap (λ x. x && same_bytes a b) h
 
-abbrev key_of : Attr → List ℕ
+abbrev pub key_of : Attr → List ℕ
 key_of a = a.key
 
-abbrev key_in : AttrMarks → List ℕ
+abbrev pub key_in : AttrMarks → List ℕ
 key_in a = a.key
 
 -- equal keys at equal places
-same_key : (attrs : List Attr) (marks : List AttrMarks) → map key_in marks ≡ map key_of attrs → (i : ℕ) (a : Attr) (m : AttrMarks) →
+pub same_key : (attrs : List Attr) (marks : List AttrMarks) → map key_in marks ≡ map key_of attrs → (i : ℕ) (a : Attr) (m : AttrMarks) →
     slice_get attrs i ≡ Some a → slice_get marks i ≡ Some m → m.key ≡ a.key
 same_key [] marks e i a m ea em = absurd cc
 same_key (b ∷ attrs) [] e i a m ea em = absurd cc

@@ -35,7 +35,7 @@ zip_next R xs ys zs i x y lt is h r e =
     subst (λ l. AllZip R l zs) (sym (take_more xs i x lt ∙ ap (λ z. take i xs ++ z ∷ []) (sym is)))
     (subst (λ l. AllZip R (take i xs ++ x ∷ []) l) (sym e) (zip_more R (take i xs) ys x y h r))
 
-take_past : {A : Type 0} (xs : List A) (i : ℕ) → length xs ≤ i → take i xs ≡ xs
+pub take_past : {A : Type 0} (xs : List A) (i : ℕ) → length xs ≤ i → take i xs ≡ xs
 take_past [] zero h = refl
 take_past [] (suc i) h = refl
 take_past (x ∷ xs) zero h = absurd (omega (arith, h))

@@ -1,5 +1,5 @@
 -- What is handed on within the making of marks.
-use Rattle.std.specs.Prelude.{◌≡◌, ◌↔◌, ℕ, List, [], ◌∷◌, Option, Some, None, Contains, IsTrue, map, option_map}
+use Rattle.std.specs.Prelude.{◌≡◌, ◌↔◌, ℕ, List, [], ◌∷◌, Option, Some, None, Contains, IsTrue, map, option_map, slice_get}
 use Rattle.mtn_base.specs.Names.{bytes_cmp}
 use Rattle.mtn_base.specs.declared.name.NodeName.{NodeName}
 use Rattle.mtn_growth.specs.Scalars.{Scalar, Value, node_of, value_of}
@@ -10,14 +10,14 @@ use Rattle.mtn_roster.specs.declared.entry.Attr.{Attr}
 use Rattle.mtn_roster.specs.declared.entry.Body.{Body}
 use Rattle.mtn_roster.specs.declared.entry.Body.TheVariants.{Dir, File}
 use Rattle.mtn_roster.specs.declared.entry.Entry.{Entry}
-use Rattle.mtn_roster.specs.Tree.{rises}
+use Rattle.mtn_roster.specs.Tree.{Tree, rises}
 use Rattle.mtn_marking.specs.declared.against.Against.{Against}
 use Rattle.mtn_marking.specs.declared.known.Known.{Known}
 use Rattle.mtn_marking.specs.declared.side.Have.{Have}
 use Rattle.mtn_marking.specs.declared.node.AttrMarks.{AttrMarks}
 use Rattle.mtn_marking.specs.declared.node.Marking.{Marking}
 use Rattle.mtn_marking.specs.declared.node.NodeMarks.{NodeMarks}
-use Rattle.mtn_marking.specs.Marking.{Basis, IsFor, marks_of, side_of, birth_by, AreByRule}
+use Rattle.mtn_marking.specs.Marking.{Marks, Basis, IsFor, marks_of, side_of, birth_by, AreByRule}
 
 -- Tells what a parent has of a scalar: nothing, or its marks and whether its value is this one
 abbrev pub Tells : Value → Option (Side Value) → Option Have → Type 0
@@ -74,3 +74,12 @@ IsMarkedContent n at only_left only_right left right Dir (Some marks) = ⊥
 IsMarkedContent n at only_left only_right left right (File content) None = ⊥
 IsMarkedContent n at only_left only_right left right (File content) (Some marks) = (x : ℕ) → Contains marks x ↔
     IsMarkByRule Value at (ContentValue content) only_left only_right (side_of (ContentOf n) left) (side_of (ContentOf n) right) x
+
+-- both have a node at the place, and the marking is one of the entry
+abbrev pub IsForBoth : Option Entry → Option NodeMarks → Type 0
+IsForBoth None m = ⊥
+IsForBoth (Some e) None = ⊥
+IsForBoth (Some e) (Some m) = IsFor e m
+
+abbrev pub IsForAt : Tree → Marks → ℕ → Type 0
+IsForAt t ms k = IsForBoth (slice_get t k) (slice_get ms k)

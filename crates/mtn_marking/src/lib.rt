@@ -15,6 +15,7 @@
 
 mod against;
 mod entry;
+mod fits;
 mod known;
 mod map;
 mod mark;

@@ -5,6 +5,7 @@ ghost use Rattle.mtn_marking.specs.Marking.{known_in};
 ghost use Rattle.mtn_marking.specs.Parts.{seen, IsOrderly};
 
 use crate::MarkMap;
+use crate::fits::are_for;
 use crate::known::Known;
 use mtn_base::NodeName;
 use mtn_roster::Roster;
@@ -28,7 +29,14 @@ impl Model for MarkedRoster {
 }
 
 impl MarkedRoster {
-    /// A roster with its marks. The marks that `mark_root`, `mark_one` and `mark_two` give are such.
+    /// Whether marks are those of exactly a roster's nodes and their scalars. It takes no memory.
+    pub fn fits(roster: &Roster, marks: &MarkMap) -> bool
+        ensures { IsTrue result ↔ AreFor roster.now marks.now }
+    {
+        are_for(roster, marks)
+    }
+
+    /// A roster with its marks, which `fits` tests; those that [`mark_root`](crate::mark_root) and its like give do.
     pub fn new(roster: Roster, marks: MarkMap) -> MarkedRoster
         requires { AreFor roster marks }
         ensures { result ≡ record { tree = roster; marks = marks } }
