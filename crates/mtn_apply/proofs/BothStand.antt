@@ -1,6 +1,6 @@
 -- Nodes that stand in both trees.
-use Rattle.std.specs.Prelude.{◌&&◌, ◌||◌, not, is_none, IsTrue, slice_get}
-use Rattle.std.proofs.Common.{◌≡◌, ◌≢◌, ℕ, ◌<◌, Bool, true, false, Option, Some, None, refl, sym, ◌∙◌, ap, subst, ⊎_elim, length}
+use Rattle.std.specs.Prelude.{◌||◌, not, is_none, slice_get}
+use Rattle.std.proofs.Common.{◌≡◌, ◌≢◌, ℕ, Bool, true, false, Option, Some, None, refl, sym, ◌∙◌, ap, subst, ⊎_elim}
 use Rattle.std.specs.Cmp.{first_so, second_so}
 use Rattle.std.proofs.lemmas.Option.{slice_get-get_or}
 use Rattle.mtn_base.specs.Names.{same_id}

@@ -82,3 +82,6 @@ pub fn join(
         Err(BuildError::Insane) => unreachable!(),
     }
 }
+
+#[cfg(test)]
+mod tests;

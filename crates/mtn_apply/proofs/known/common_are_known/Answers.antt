@@ -1,5 +1,5 @@
 -- A node of the left tree that fails, or none.
-use Rattle.std.proofs.Common.{◌≡◌, ℕ, Some, true, refl, sym, ◌∙◌, length, ◌<◌, arith}
+use Rattle.std.proofs.Common.{refl, sym, ◌∙◌, arith}
 use Rattle.mtn_roster.specs.declared.entry.Entry.{Entry}
 use Rattle.mtn_roster.proofs.Leading.{get_within}
 use Rattle.mtn_apply.specs.Join.{is_outside}
