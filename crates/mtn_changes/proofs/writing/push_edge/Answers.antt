@@ -3,7 +3,7 @@ use Rattle.std.proofs.lemmas.Result.{on_ok_weaker}
 use Rattle.mtn_changes.specs.declared.change.Edge.{Edge}
 use Rattle.mtn_changes.specs.declared.head.Head.TheVariants.{Parent}
 use Rattle.mtn_changes.specs.Heads.{head_stanza}
-use Rattle.mtn_changes.proofs.Ascending.{behind, edge_written}
+use Rattle.mtn_changes.proofs.Ascending.{edge_written}
 use Rattle.mtn_changes.proofs.writing.push_edge.Goals as goal
 
 pub returns : goal.returns
