@@ -29,3 +29,6 @@ pub use map::MarkMap;
 pub use mark::{mark_one, mark_root, mark_two};
 pub use marked::MarkedRoster;
 pub use node::{AttrMarks, Marking, NodeMarks};
+
+#[cfg(test)]
+mod tests;
