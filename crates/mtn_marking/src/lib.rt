@@ -17,6 +17,7 @@ mod against;
 mod entry;
 mod fits;
 mod known;
+pub mod laws;
 mod map;
 mod mark;
 mod marked;
