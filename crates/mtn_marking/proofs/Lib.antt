@@ -9,3 +9,4 @@ pub mod Knowing
 pub mod Zips
 pub mod Historic
 pub mod Fitting
+pub mod Exact

@@ -131,6 +131,28 @@ node_marked b e m kl kr el er name birth slot content attrs =
     each sl co at (ContentOf n) h = subst (λ k. AreByRule b (ContentOf k) (option_map ContentValue (content_of e.body)) m.marking.content) (sym h) (content_marked b e.name e.body m.marking.content co)
     each sl co at (AttrOf n k) h = subst (λ j. AreByRule b (AttrOf j k) (option_map AttrValue (attr_of e.attrs k)) (attr_marks_of m.marking.attrs k)) (sym h) (attrs_marked b e.name e.attrs m.marking.attrs at k)
 
+-- a fact on what a tree and the marks have at a name, by what holds of each node of that name
+module _ (R : Entry → NodeMarks → Type 0) (named : (e : Entry) (m : NodeMarks) → R e m → m.name ≡ e.name)
+    (n : NodeName) (P : Option Entry → Option Marking → Type 0) (none : P None None)
+    (each : (e : Entry) (m : NodeMarks) → e.name ≡ n → R e m → P (Some e) (Some m.marking)) where
+  pub at_name : (t : Tree) (ms : Marks) → AllZip R t ms → P (entry_of t n) (marking_of ms n)
+  at_name [] [] h = none
+  at_name [] (m ∷ ms) h = absurd h
+  at_name (e ∷ t) [] h = absurd h
+  at_name (e ∷ t) (m ∷ ms) h = at e m t ms (at_name t ms h.1) h.0 (same_name e.name n) (same_name m.name n) refl (ap (λ q. same_name q n) (named e m h.0))
+    where
+      at : (e : Entry) (m : NodeMarks) (t : Tree) (ms : Marks) → P (entry_of t n) (marking_of ms n) → R e m →
+          (r q : Bool) → same_name e.name n ≡ r → q ≡ same_name e.name n →
+          P (cond (same_name e.name n) (Some e) (entry_of t n)) (option_map (λ (m : NodeMarks). m.marking) (cond q (Some m) (find (λ (m : NodeMarks). same_name m.name n) ms)))
+      at e m t ms rest here true q g f =
+          subst (λ z. P (cond z (Some e) (entry_of t n)) (option_map (λ (m : NodeMarks). m.marking) (cond q (Some m) (find (λ (m : NodeMarks). same_name m.name n) ms)))) (sym g)
+          (subst (λ z. P (Some e) (option_map (λ (m : NodeMarks). m.marking) (cond z (Some m) (find (λ (m : NodeMarks). same_name m.name n) ms)))) (sym (f ∙ g))
+          (each e m (same_name-is e.name n g) here))
+      at e m t ms rest here false q g f =
+          subst (λ z. P (cond z (Some e) (entry_of t n)) (option_map (λ (m : NodeMarks). m.marking) (cond q (Some m) (find (λ (m : NodeMarks). same_name m.name n) ms)))) (sym g)
+          (subst (λ z. P (entry_of t n) (option_map (λ (m : NodeMarks). m.marking) (cond z (Some m) (find (λ (m : NodeMarks). same_name m.name n) ms)))) (sym (f ∙ g))
+          rest)
+
 -- what holds of each node and its marking holds of the tree and the marks
 module _ (b : Basis) where
   pub all_fit : (t : Tree) (ms : Marks) → AllZip (IsMarkedNode b) t ms → AreFor t ms
@@ -145,34 +167,13 @@ module _ (b : Basis) where
   same_names (e ∷ t) [] h = absurd h
   same_names (e ∷ t) (m ∷ ms) h = λ i. h.0.fits.name i ∷ same_names t ms h.1 i
 
-  -- a fact on what a tree and the marks have at a name, by what holds of each node of that name
-  module _ (n : NodeName) (P : Option Entry → Option Marking → Type 0) (none : P None None)
-      (each : (e : Entry) (m : NodeMarks) → e.name ≡ n → IsMarkedNode b e m → P (Some e) (Some m.marking)) where
-    pub at_name : (t : Tree) (ms : Marks) → AllZip (IsMarkedNode b) t ms → P (entry_of t n) (marking_of ms n)
-    at_name [] [] h = none
-    at_name [] (m ∷ ms) h = absurd h
-    at_name (e ∷ t) [] h = absurd h
-    at_name (e ∷ t) (m ∷ ms) h = at e m t ms (at_name t ms h.1) h.0 (same_name e.name n) (same_name m.name n) refl (ap (λ q. same_name q n) h.0.fits.name)
-      where
-        at : (e : Entry) (m : NodeMarks) (t : Tree) (ms : Marks) → P (entry_of t n) (marking_of ms n) → IsMarkedNode b e m →
-            (r q : Bool) → same_name e.name n ≡ r → q ≡ same_name e.name n →
-            P (cond (same_name e.name n) (Some e) (entry_of t n)) (option_map (λ (m : NodeMarks). m.marking) (cond q (Some m) (find (λ (m : NodeMarks). same_name m.name n) ms)))
-        at e m t ms rest here true q g f =
-            subst (λ z. P (cond z (Some e) (entry_of t n)) (option_map (λ (m : NodeMarks). m.marking) (cond q (Some m) (find (λ (m : NodeMarks). same_name m.name n) ms)))) (sym g)
-            (subst (λ z. P (Some e) (option_map (λ (m : NodeMarks). m.marking) (cond z (Some m) (find (λ (m : NodeMarks). same_name m.name n) ms)))) (sym (f ∙ g))
-            (each e m (same_name-is e.name n g) here))
-        at e m t ms rest here false q g f =
-            subst (λ z. P (cond z (Some e) (entry_of t n)) (option_map (λ (m : NodeMarks). m.marking) (cond q (Some m) (find (λ (m : NodeMarks). same_name m.name n) ms)))) (sym g)
-            (subst (λ z. P (entry_of t n) (option_map (λ (m : NodeMarks). m.marking) (cond z (Some m) (find (λ (m : NodeMarks). same_name m.name n) ms)))) (sym (f ∙ g))
-            rest)
-
   pub all_by_rule : (t : Tree) (ms : Marks) → AllZip (IsMarkedNode b) t ms → AreAllByRule b t ms
   all_by_rule t ms h s =
-      at_name (node_of s) (λ e m. AreByRule b s (option_and_then (value_of s) e) (option_and_then (marks_of s) m)) tt (λ e m g k. k.each s (sym g)) t ms h
+      at_name (IsMarkedNode b) (λ e m k. k.fits.name) (node_of s) (λ e m. AreByRule b s (option_and_then (value_of s) e) (option_and_then (marks_of s) m)) tt (λ e m g k. k.each s (sym g)) t ms h
 
   pub all_births : (t : Tree) (ms : Marks) → AllZip (IsMarkedNode b) t ms → HaveBirths b t ms
   all_births t ms h n =
-      at_name n (λ e m. option_map (λ (m : Marking). m.birth) m ≡ option_map (λ (e : Entry). birth_by b n) e) refl
+      at_name (IsMarkedNode b) (λ e m k. k.fits.name) n (λ e m. option_map (λ (m : Marking). m.birth) m ≡ option_map (λ (e : Entry). birth_by b n) e) refl
       (λ e m g k. ap Some (k.birth ∙ ap (birth_by b) g)) t ms h
 
 pub by_basis : (t : Tree) (ms : Marks) (a b : Basis) → a ≡ b → AllZip (IsMarkedNode a) t ms → AllZip (IsMarkedNode b) t ms

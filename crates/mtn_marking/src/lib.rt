@@ -17,6 +17,7 @@ mod against;
 mod entry;
 mod fits;
 mod known;
+pub mod laws;
 mod map;
 mod mark;
 mod marked;
@@ -29,3 +30,6 @@ pub use map::MarkMap;
 pub use mark::{mark_one, mark_root, mark_two};
 pub use marked::MarkedRoster;
 pub use node::{AttrMarks, Marking, NodeMarks};
+
+#[cfg(test)]
+mod tests;
