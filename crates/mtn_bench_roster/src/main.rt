@@ -80,7 +80,13 @@ fn long_comp(alloc: Global, number: u32) -> Option<Comp> {
     Comp::read(alloc, &text).ok()
 }
 
-fn push_long(alloc: Global, above: &Path, number: u32, body: Body, to: &mut Vec<Entry>) -> Option<Path> {
+fn push_long(
+    alloc: Global,
+    above: &Path,
+    number: u32,
+    body: Body,
+    to: &mut Vec<Entry>,
+) -> Option<Path> {
     let mut path = above.copy(alloc).ok()?;
     path.push(long_comp(alloc, number)?).ok()?;
     let slot = slot_of(alloc, &path)?;
@@ -138,7 +144,12 @@ fn long_manifest(alloc: Global, more: usize) -> Option<usize> {
 
 /// The microseconds since a moment.
 fn since(rt: &HostRuntime, start: Instant) -> Option<u128> {
-    Some(Instant::now(rt).ok()?.saturating_duration_since(start).as_micros())
+    Some(
+        Instant::now(rt)
+            .ok()?
+            .saturating_duration_since(start)
+            .as_micros(),
+    )
 }
 
 /// The microseconds of each step.
@@ -167,11 +178,23 @@ fn manifest_of(alloc: Global, text: &[u8]) -> Option<Vec<u8>> {
 /// What is written under a word.
 fn answer(rt: &HostRuntime, alloc: Global, text: &[u8], word: &str) -> Option<Vec<u8>> {
     match word {
-        "one" => Some(format!(in alloc; "{}\n", long_manifest(alloc, 0)?).ok()?.into_bytes()),
-        "three" => Some(format!(in alloc; "{}\n", long_manifest(alloc, 2)?).ok()?.into_bytes()),
+        "one" => Some(
+            format!(in alloc; "{}\n", long_manifest(alloc, 0)?)
+                .ok()?
+                .into_bytes(),
+        ),
+        "three" => Some(
+            format!(in alloc; "{}\n", long_manifest(alloc, 2)?)
+                .ok()?
+                .into_bytes(),
+        ),
         "times" => {
             let [built, walked, written] = times(rt, alloc, text)?;
-            Some(format!(in alloc; "{built} {walked} {written}\n").ok()?.into_bytes())
+            Some(
+                format!(in alloc; "{built} {walked} {written}\n")
+                    .ok()?
+                    .into_bytes(),
+            )
         }
         _ => manifest_of(alloc, text),
     }
