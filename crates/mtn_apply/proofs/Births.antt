@@ -1,14 +1,13 @@
 -- The births of the nodes of a tree, place by place.
 use Rattle.std.specs.Prelude.{slice_get}
-use Rattle.std.proofs.Common.{◌≡◌, ℕ, ◌+◌, ◌<◌, ◌≤◌, Bool, true, false, length, Option, Some, None, refl, sym, ◌∙◌, ap, subst, arith, inl, inr}
-use Rattle.std.proofs.lemmas.Bool.{cases_lt}
+use Rattle.std.proofs.Common.{◌≡◌, ℕ, ◌<◌, ◌≤◌, Bool, true, false, length, ◌∙◌, ap, arith}
 use Rattle.mtn_base.specs.Names.{same_id}
 use Rattle.mtn_base.specs.declared.id.Id.{Id}
 use Rattle.mtn_base.specs.declared.name.NodeName.{NodeName}
 use Rattle.mtn_roster.specs.declared.entry.Entry.{Entry}
-use Rattle.mtn_roster.specs.Tree.{Tree, is_some_with, entry_of}
+use Rattle.mtn_roster.specs.Tree.{Tree, is_some_with}
 use Rattle.mtn_roster.proofs.Finding.{passing_some}
-use Rattle.mtn_roster.proofs.Forest.{IsForest, name_of, split_of}
+use Rattle.mtn_roster.proofs.Forest.{name_of, split_of}
 use Rattle.mtn_roster.proofs.BySlot.{standing}
 use Rattle.mtn_roster.proofs.Tests.{same_id-is, same_id-self}
 use Rattle.mtn_edits.specs.Laws.{IsOldTree, NoneBornIn}

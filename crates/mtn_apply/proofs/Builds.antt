@@ -2,7 +2,7 @@
 use Rattle.std.specs.Prelude.{find, filter_map, map, reverse}
 use Rattle.std.specs.List.{list_any, cons_option, AllByRecursion, IsDistinct}
 use Rattle.std.specs.declared.cmp.Ordering.{Ordering}
-use Rattle.std.specs.declared.cmp.Ordering.TheVariants.{Less, Equal}
+use Rattle.std.specs.declared.cmp.Ordering.TheVariants.{Equal}
 use Rattle.std.specs.Cmp.{IsTotalOrder, first_so, second_so, tied_itself}
 use Rattle.std.specs.FinMap.Entries.{by_order}
 use Rattle.std.proofs.Common.{◌≡◌, ℕ, Bool, true, false, cond, List, [], ◌∷◌, ◌++◌, Option, Some, None, refl, sym, ◌∙◌, ap, subst, append_assoc, ⊎_elim}
@@ -21,7 +21,7 @@ use Rattle.mtn_roster.proofs.Members.{head, of_append, of_filter_map}
 use Rattle.mtn_roster.proofs.Tests.{same_bytes-is, same_bytes-self, same_name-is, same_name-self, same_path-self}
 use Rattle.mtn_roster.proofs.Forest.{IsForest}
 use Rattle.mtn_roster.proofs.Looking.{bytes_total, exact_bytes, names_total, exact_names}
-use Rattle.mtn_roster.proofs.Sorting.{no_split, low_at, rest_rises, in_ordered, rising_differ}
+use Rattle.mtn_roster.proofs.Sorting.{low_at, rest_rises, in_ordered, rising_differ}
 use Rattle.mtn_changes.specs.declared.change.Change.{Change}
 use Rattle.mtn_changes.specs.declared.change.Change.TheVariants.{Delete, Rename, AddDir, AddFile, Patch, Clear, Set}
 use Rattle.mtn_edits.specs.Changes.{aims_at, edited, edited_by, is_deleted, moves, slot_by, slot_up, old_after, added_by, added_at, first_fault, tree_after}

@@ -1,14 +1,14 @@
 -- The edits of a node, one behind the other.
-use Rattle.std.specs.Prelude.{map, slice_get, option_and_then, IsTrue}
+use Rattle.std.specs.Prelude.{slice_get, option_and_then}
 use Rattle.std.specs.Option.{option_map_or}
 use Rattle.std.specs.List.{position_from}
-use Rattle.std.proofs.Common.{◌≡◌, ℕ, zero, suc, ◌+◌, ◌-◌, ◌<◌, ◌≤◌, Bool, true, false, cond, List, [], ◌∷◌, length, drop, get_or, Option, Some, None, refl, sym, ◌∙◌, ap, subst, arith}
+use Rattle.std.proofs.Common.{◌≡◌, ℕ, zero, suc, ◌+◌, ◌-◌, ◌<◌, ◌≤◌, Bool, true, false, cond, List, length, drop, get_or, Option, Some, None, refl, sym, ◌∙◌, ap, subst, arith}
 use Rattle.std.proofs.lemmas.List.{at_drop_more, at_drop_all}
 use Rattle.mtn_base.specs.Names.{bytes_cmp}
 use Rattle.mtn_base.specs.declared.id.Id.{Id}
 use Rattle.mtn_roster.specs.declared.entry.Attr.{Attr}
 use Rattle.mtn_roster.specs.declared.entry.Entry.{Entry}
-use Rattle.mtn_roster.specs.Tree.{Tree, rises}
+use Rattle.mtn_roster.specs.Tree.{Tree}
 use Rattle.mtn_roster.proofs.Looking.{bytes_total}
 use Rattle.mtn_roster.proofs.Members.{taken}
 use Rattle.mtn_roster.proofs.Sorting.{rises_placed}
@@ -18,7 +18,6 @@ use Rattle.mtn_edits.specs.Changes.{edited, edited_by}
 use Rattle.mtn_apply.specs.declared.edits.Edits.{Edits}
 use Rattle.mtn_apply.specs.Edits.{touches, edited_as, next_edit, AreEdits}
 use Rattle.mtn_apply.proofs.OldKeys.{has_keys}
-use Rattle.mtn_apply.proofs.Positions.{one_before}
 
 pub as-name : (c : Change) (e : Entry) → (edited_as c e).name ≡ e.name
 as-name (Delete p) e = refl

@@ -3,18 +3,17 @@ use Rattle.std.specs.Prelude.{◌&&◌, filter, map}
 use Rattle.std.specs.List.{list_any, IsDistinct}
 use Rattle.std.specs.declared.cmp.Ordering.TheVariants.{Equal}
 use Rattle.std.specs.Cmp.{both_ways, first_so, second_so, tied_itself}
-use Rattle.std.proofs.Common.{◌≡◌, ℕ, ◌<◌, Bool, true, false, List, [], ◌∷◌, ◌++◌, length, get_or, Option, Some, None, refl, sym, ◌∙◌, ap, subst, arith, ⊎_elim}
+use Rattle.std.proofs.Common.{◌≡◌, ℕ, ◌<◌, Bool, true, false, List, [], ◌∷◌, ◌++◌, length, get_or, refl, sym, ◌∙◌, ap, subst, arith, ⊎_elim}
 use Rattle.std.proofs.lemmas.Map.Keys.{IsDistinct-from_apart}
 use Rattle.mtn_base.specs.Names.{same_bytes, bytes_cmp, name_cmp}
 use Rattle.mtn_base.specs.declared.name.NodeName.{NodeName}
 use Rattle.mtn_roster.specs.declared.entry.Entry.{Entry}
 use Rattle.mtn_roster.specs.declared.entry.Slot.TheVariants.{Below}
-use Rattle.mtn_roster.specs.Tree.{Tree, is_some_with, entry_of, rises, IsSane}
+use Rattle.mtn_roster.specs.Tree.{Tree, is_some_with, entry_of, IsSane}
 use Rattle.mtn_roster.specs.Walk.{is_below, component, children_of}
 use Rattle.mtn_roster.proofs.Finding.{Split, later, some_passes, list_any-here}
 use Rattle.mtn_roster.proofs.Members.{head, split_cons, taken}
 use Rattle.mtn_roster.proofs.Tests.{both_true, same_bytes-is, same_bytes-self}
-use Rattle.mtn_roster.proofs.Forest.{IsForest}
 use Rattle.mtn_roster.proofs.Ordered.{forest_of}
 use Rattle.mtn_roster.proofs.Looking.{bytes_total, names_total, exact_bytes}
 use Rattle.mtn_roster.proofs.Sorting.{no_split, of_ordered, in_ordered, less_at}

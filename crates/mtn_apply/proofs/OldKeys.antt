@@ -2,13 +2,13 @@
 use Rattle.std.specs.Prelude.{slice_get, map, find, reverse, option_map, option_and_then}
 use Rattle.std.specs.List.{list_all}
 use Rattle.std.specs.Cmp.{first_so, second_so}
-use Rattle.std.proofs.Common.{◌≡◌, ℕ, zero, suc, Bool, true, false, cond, List, [], ◌∷◌, ◌++◌, Option, Some, None, refl, sym, ◌∙◌, ap, subst, ⊎_elim}
+use Rattle.std.proofs.Common.{◌≡◌, ℕ, zero, suc, Bool, true, false, cond, List, [], ◌∷◌, ◌++◌, Option, Some, None, sym, ◌∙◌, ap, subst, ⊎_elim}
 use Rattle.mtn_base.specs.Names.{bytes_cmp}
 use Rattle.mtn_roster.specs.declared.entry.Entry.{Entry}
 use Rattle.mtn_roster.specs.declared.entry.Attr.{Attr}
 use Rattle.mtn_roster.specs.declared.entry.Slot.{Slot}
 use Rattle.mtn_roster.specs.declared.entry.Slot.TheVariants.{Root}
-use Rattle.mtn_roster.specs.Tree.{Tree, at_slot, root_of, child_of, node_up, node_at, is_dir, same_slot, rises, IsSane}
+use Rattle.mtn_roster.specs.Tree.{Tree, at_slot, root_of, child_of, node_up, node_at, is_dir, same_slot, rises}
 use Rattle.mtn_roster.proofs.Finding.{Split, found, later}
 use Rattle.mtn_roster.proofs.Members.{head}
 use Rattle.mtn_roster.proofs.Forest.{chained}

@@ -1,6 +1,6 @@
 -- One step of the way down to a path.
 use Rattle.std.specs.Prelude.{find, reverse, option_and_then}
-use Rattle.std.proofs.Common.{◌≡◌, ℕ, ◌+◌, ◌<◌, List, [], ◌∷◌, ◌++◌, Option, length, take, get_or, refl, sym, ◌∙◌, ap}
+use Rattle.std.proofs.Common.{◌≡◌, ℕ, ◌+◌, ◌<◌, List, [], ◌∷◌, ◌++◌, Option, length, take, get_or, sym, ◌∙◌, ap}
 use Rattle.std.proofs.lemmas.List.{reverse-append, reverse-reverse, take_more}
 use Rattle.mtn_changes.specs.declared.change.Change.{Change}
 use Rattle.mtn_roster.specs.Tree.{Tree}

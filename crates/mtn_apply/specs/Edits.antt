@@ -1,5 +1,5 @@
 -- The edits of one edge: patches, and cleared and set attributes.
-use Rattle.std.specs.Prelude.{◌≡◌, ◌+◌, ◌<◌, ℕ, Bool, true, false, if◌then◌else◌, List, ◌++◌, length, drop, filter_map, slice_get, slice_index_or, Option, Some, None}
+use Rattle.std.specs.Prelude.{◌≡◌, ◌+◌, ℕ, Bool, true, List, ◌++◌, length, drop, filter_map, slice_get, Option, Some, None}
 use Rattle.std.specs.BTreeMap.{get}
 use Rattle.std.specs.List.{position_from}
 use Rattle.mtn_base.specs.Names.{name_cmp}
@@ -9,10 +9,9 @@ use Rattle.mtn_roster.specs.declared.entry.Entry.{Entry}
 use Rattle.mtn_roster.specs.declared.entry.Body.TheVariants.{File}
 use Rattle.mtn_roster.specs.Tree.{Tree, is_some_with, with_attr}
 use Rattle.mtn_changes.specs.declared.change.Change.{Change}
-use Rattle.mtn_changes.specs.declared.change.Change.TheVariants.{Delete, Rename, AddDir, AddFile, Patch, Clear, Set}
+use Rattle.mtn_changes.specs.declared.change.Change.TheVariants.{Patch, Clear, Set}
 use Rattle.mtn_edits.specs.Changes.{is_at, old_after, added_by}
 use Rattle.mtn_apply.specs.declared.edits.Edits.{Edits}
-use Rattle.mtn_apply.specs.Index.{first_at}
 
 -- the path that a change edits
 abbrev pub edit_path : Change → Option (List (List ℕ))

@@ -1,5 +1,5 @@
 -- The old tree of an edge, and who stands in the new one.
-use Rattle.std.specs.Prelude.{IsTrue, List, [], Option, Some, None}
+use Rattle.std.specs.Prelude.{IsTrue, [], Option, Some, None}
 use Rattle.std.specs.Borrow.{Bor}
 use Rattle.mtn_roster.specs.Tree.{Tree}
 use Rattle.mtn_edits.specs.Changes.{Occupant}

@@ -1,9 +1,8 @@
 -- One edit more each time.
-use Rattle.std.proofs.Common.{◌≡◌, ◌+◌, ◌<◌, ℕ, Option, Some, None, length, refl, sym, ap, ◌∙◌, subst}
-use Rattle.mtn_roster.specs.declared.entry.Entry.{Entry}
+use Rattle.std.proofs.Common.{◌≡◌, ◌+◌, ◌<◌, ℕ, Option, Some, None, length, refl, sym, subst}
 use Rattle.mtn_apply.specs.Index.{old_of, changes_of}
-use Rattle.mtn_apply.specs.Edits.{edited_as, next_edit}
-use Rattle.mtn_apply.proofs.Chains.{IsLeft, to_go, left_first, left_more, left_none, goes_on, linked}
+use Rattle.mtn_apply.specs.Edits.{next_edit}
+use Rattle.mtn_apply.proofs.Chains.{IsLeft, to_go, left_more, left_none, goes_on, linked}
 use Rattle.mtn_apply.proofs.edits.edit.Goals as goal
 use Rattle.mtn_apply.proofs.edits.edit.Goals.{After-next_of-next}
 

@@ -5,7 +5,7 @@ use Rattle.std.proofs.Common.{◌-◌, ap, ◌∙◌, arith, rules}
 use Rattle.mtn_base.specs.Names.{name_cmp}
 use Rattle.mtn_apply.specs.Index.{old_of, changes_of}
 use Rattle.mtn_apply.specs.Edits.{touches}
-use Rattle.mtn_apply.proofs.Links.{no_links, one_link, all_links}
+use Rattle.mtn_apply.proofs.Links.{no_links, one_link}
 use Rattle.mtn_apply.proofs.edits.edits_of.Goals as goal
 
 pub loop-left-init : goal.loop-left-init

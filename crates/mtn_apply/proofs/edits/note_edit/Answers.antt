@@ -1,6 +1,6 @@
 -- What the map had at the name comes next.
 use Rattle.std.specs.BTreeMap.{get}
-use Rattle.std.proofs.Common.{◌≡◌, ℕ, Bool, cond, Some, refl, sym, ap, ◌∙◌}
+use Rattle.std.proofs.Common.{◌≡◌, Bool, cond, Some, sym, ap, ◌∙◌}
 use Rattle.mtn_base.specs.Names.{name_cmp, same_name}
 use Rattle.mtn_base.specs.declared.name.NodeName.{NodeName}
 use Rattle.mtn_roster.specs.Tree.{is_some_with}

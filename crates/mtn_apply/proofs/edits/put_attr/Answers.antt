@@ -1,6 +1,6 @@
 -- The closure compares the keys, and the keys ascend.
-use Rattle.std.specs.List.Sorted.{IsBinarySearchResult, IsSearchInRange}
-use Rattle.std.proofs.Common.{◌≡◌, ◌<◌, ◌≤◌, List, length, rules, Ok, Err, subst, ap, sym, ◌∙◌}
+use Rattle.std.specs.List.Sorted.{IsBinarySearchResult}
+use Rattle.std.proofs.Common.{◌<◌, ◌≤◌, List, length, rules, Ok, Err, subst, ◌∙◌}
 use Rattle.std.proofs.lemmas.Fn.{always_returns_same}
 use Rattle.mtn_base.specs.Names.{bytes_cmp}
 use Rattle.mtn_roster.specs.declared.entry.Attr.{Attr}

@@ -1,5 +1,5 @@
 -- One change before those that are noted.
-use Rattle.std.proofs.Common.{◌-◌, sym, ap, ◌∙◌, cond, Some, Bool, Option, ℕ, arith}
+use Rattle.std.proofs.Common.{◌-◌, sym, ap, ◌∙◌, cond, Some, Bool, arith}
 use Rattle.std.specs.BTreeMap.{get}
 use Rattle.mtn_base.specs.Names.{path_cmp}
 use Rattle.mtn_edits.specs.Changes.{aims_at}

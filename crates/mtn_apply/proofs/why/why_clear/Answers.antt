@@ -1,6 +1,5 @@
 -- An old node's keys ascend.
-use Rattle.std.proofs.Common.{option_map, ap, sym, ◌∙◌}
-use Rattle.mtn_edits.specs.Changes.{occupant}
+use Rattle.std.proofs.Common.{option_map}
 use Rattle.mtn_apply.specs.Old.{seen}
 use Rattle.mtn_apply.specs.Index.{old_of, changes_of}
 use Rattle.mtn_apply.proofs.OldKeys.{rising_keys}
