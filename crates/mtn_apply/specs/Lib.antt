@@ -1,1 +1,5 @@
+pub mod Old
+pub mod Index
+pub mod Faults
+pub mod Edits
 pub mod Join

@@ -79,7 +79,7 @@ fn copy_attr(alloc: Global, attr: &Attr) -> Result<Attr, NoMemory>
 }
 
 /// Equal attributes.
-fn copy_attrs(alloc: Global, attrs: &[Attr]) -> Result<Vec<Attr>, NoMemory>
+pub fn copy_attrs(alloc: Global, attrs: &[Attr]) -> Result<Vec<Attr>, NoMemory>
     ensures { IfOk result (λ copies. copies.items ≡ attrs.now) }
 {
     let mut copies = Vec::with_capacity(alloc, attrs.len())?;

@@ -1,0 +1,10 @@
+-- A name that is noted is that of a moved node.
+use Rattle.std.specs.Prelude.{is_some}
+use Rattle.std.proofs.Common.{ap, ◌∙◌}
+use Rattle.mtn_edits.specs.Changes.{moves}
+use Rattle.mtn_apply.specs.Index.{old_of, changes_of}
+use Rattle.mtn_apply.proofs.Positions.{there_is}
+use Rattle.mtn_apply.proofs.occupant.is_moved.Goals as goal
+
+pub returns : goal.returns
+returns c = c.contains_key.ensures ∙ ap is_some (c.requires.moved c.args.entry.now) ∙ there_is (moves (old_of c.args.edge.now) c.args.entry.now) 0 (changes_of c.args.edge.now)

@@ -1,0 +1,217 @@
+// The edits of each node of the new tree.
+ghost use Rattle.std.specs.Prelude.{◌≡◌, ◌≢◌, ◌<◌, ◌+◌, ℕ, true, cond, length, map, drop, slice_get, option_map, option_and_then, option_copied, Some, None, IsTrue, IfOk, OnOk};
+ghost use Rattle.std.specs.BTreeMap.{get};
+ghost use Rattle.mtn_base.specs.Names.{name_cmp, same_name, bytes_cmp};
+ghost use Rattle.mtn_base.specs.declared.name.NodeName.{NodeName};
+ghost use Rattle.mtn_roster.specs.declared.entry.Attr.{Attr};
+ghost use Rattle.mtn_roster.specs.Tree.{is_some_with, rises, with_attr};
+ghost use Rattle.mtn_changes.specs.declared.change.Change.{Change};
+ghost use Rattle.mtn_edits.specs.Changes.{occupant_name, edited_by};
+ghost use Rattle.mtn_apply.specs.Old.{seen};
+ghost use Rattle.mtn_apply.specs.Join.{are_keyed};
+ghost use Rattle.mtn_apply.specs.Index.{IsIndexed, old_of, changes_of};
+ghost use Rattle.mtn_apply.specs.Edits.{edit_path, touches, edited_as, next_edit, AreEdits};
+
+use crate::index::Edge;
+use crate::occupant::{There, change_at, occupant_of};
+use mtn_base::{Id, List, NoMemory, NodeName, Path};
+use mtn_changes::Change;
+use mtn_roster::{Attr, Body, Entry};
+use std::alloc::Global;
+use std::collections::BTreeMap;
+
+/// For the name of each node of the new tree the position of its first edit, and for each edit that of
+/// the next one of the same node.
+#[derive(Drop)]
+pub struct Edits {
+    pub first: BTreeMap<NodeName, usize>,
+    pub next: Vec<Option<usize>>,
+}
+
+/// The path that a change edits.
+fn path_of(change: &Change) -> Option<&Path>
+    ensures { option_copied result ≡ edit_path change.now }
+{
+    match change {
+        Change::Patch {
+            path,
+            from: _,
+            to: _,
+        } => Some(path),
+        Change::Clear { path, key: _ } => Some(path),
+        Change::Set {
+            path,
+            key: _,
+            value: _,
+        } => Some(path),
+        _ => None,
+    }
+}
+
+/// The name of what stands somewhere in the new tree.
+pub fn name_of(alloc: Global, new: Id, there: There) -> Result<NodeName, NoMemory>
+    ensures { IfOk result (λ n. n ≡ occupant_name new (seen there.entry)) }
+{
+    match there {
+        There::Old { entry } => entry.name.copy(alloc),
+        There::Added { path, body: _ } => Ok(NodeName {
+            birth: new,
+            path: path.copy(alloc)?,
+        }),
+    }
+}
+
+/// The name of the node that a change edits, if it edits one.
+fn touched(
+    alloc: Global,
+    edge: &Edge,
+    new: Id,
+    change: &Change,
+) -> Result<Option<NodeName>, NoMemory>
+    requires { IsIndexed edge.now }
+    ensures { IfOk result (λ o. (n : NodeName) → touches (old_of edge.now) (changes_of edge.now) new n change.now ≡ is_some_with (λ m. same_name m n) o) }
+{
+    let Some(path) = path_of(change) else {
+        return Ok(None);
+    };
+    let Some(there) = occupant_of(alloc, edge, path.comps())? else {
+        return Ok(None);
+    };
+    Ok(Some(name_of(alloc, new, there)?))
+}
+
+/// Puts the edit at a position before those of its node that are noted.
+fn note_edit(
+    first: &mut BTreeMap<NodeName, usize>,
+    next: &mut Vec<Option<usize>>,
+    name: Option<NodeName>,
+    at: usize,
+) -> Result<(), NoMemory>
+    requires within { at < length next.old.items }
+    ensures first { OnOk result ((n : NodeName) → get name_cmp first.new n ≡ cond (is_some_with (λ m. same_name m n) name) (Some at) (get name_cmp first.old n)) }
+    ensures long { OnOk result (length next.new.items ≡ length next.old.items) }
+    ensures here { OnOk result ((n : NodeName) → is_some_with (λ m. same_name m n) name ≡ true → slice_get next.new.items at ≡ Some (get name_cmp first.old n)) }
+    ensures others { OnOk result ((k : ℕ) → k ≢ at → slice_get next.new.items k ≡ slice_get next.old.items k) }
+{
+    if let Some(name) = name {
+        let later = first.insert(name, at)?;
+        next[at] = later;
+    }
+    Ok(())
+}
+
+/// The edits of an edge.
+pub fn edits_of(alloc: Global, edge: &Edge, new: Id) -> Result<Edits, NoMemory>
+    requires { IsIndexed edge.now }
+    ensures { IfOk result (AreEdits (old_of edge.now) (changes_of edge.now) new) }
+{
+    let mut first = BTreeMap::new(alloc);
+    let mut next = vec![in alloc; None; edge.all.len()]?;
+    let mut left = edge.all.len();
+    while left > 0 {
+        left -= 1;
+        let name = touched(alloc, edge, new, &edge.all[left])?;
+        note_edit(&mut first, &mut next, name, left)?;
+    }
+    Ok(Edits { first, next })
+}
+
+/// Puts an attribute in its place by key, over an earlier one of its key.
+fn put_attr(attrs: &mut Vec<Attr>, attr: Attr) -> Result<(), NoMemory>
+    requires rising { IsTrue (are_keyed attrs.old.items) }
+    ensures { OnOk result (attrs.new.items ≡ with_attr attr attrs.old.items) }
+{
+    match attrs.binary_search_by(|other| other.key.as_slice().cmp(attr.key.as_slice())) {
+        Ok(at) => attrs[at] = attr,
+        Err(at) => attrs.insert(at, attr)?,
+    }
+    Ok(())
+}
+
+/// Puts an attribute into an entry.
+fn put_into(alloc: Global, entry: &mut Entry, attr: Attr) -> Result<(), NoMemory>
+    requires rising { IsTrue (are_keyed entry.old.attrs) }
+    ensures { OnOk result (entry.new ≡ record entry.old { attrs = with_attr attr entry.old.attrs }) }
+{
+    let mut attrs = std::mem::replace(&mut entry.attrs, List::new(alloc)).into_vec();
+    put_attr(&mut attrs, attr)?;
+    entry.attrs = List::from_vec(attrs);
+    Ok(())
+}
+
+/// Makes the edit of one change.
+fn edit_once(alloc: Global, change: &Change, entry: &mut Entry) -> Result<(), NoMemory>
+    requires rising { IsTrue (are_keyed entry.old.attrs) }
+    ensures { OnOk result (entry.new ≡ edited_as change.now entry.old) }
+{
+    match change {
+        Change::Patch {
+            path: _,
+            from: _,
+            to,
+        } => {
+            entry.body = Body::File { content: *to };
+            Ok(())
+        }
+        Change::Clear { path: _, key } => {
+            let attr = Attr {
+                key: key.copy(alloc)?,
+                value: None,
+            };
+            put_into(alloc, entry, attr)
+        }
+        Change::Set {
+            path: _,
+            key,
+            value,
+        } => {
+            let attr = Attr {
+                key: key.copy(alloc)?,
+                value: Some(value.copy(alloc)?),
+            };
+            put_into(alloc, entry, attr)
+        }
+        _ => Ok(()),
+    }
+}
+
+/// Makes the edit of the change at a position.
+fn edit_by(alloc: Global, all: &[Change], at: usize, entry: &mut Entry) -> Result<(), NoMemory>
+    requires rising { IsTrue (are_keyed entry.old.attrs) }
+    ensures { OnOk result ((c : Change) → slice_get all.now at ≡ Some c → entry.new ≡ edited_as c entry.old) }
+{
+    match change_at(all, at) {
+        None => Ok(()),
+        Some(change) => edit_once(alloc, change, entry),
+    }
+}
+
+/// The position of the edit after that at a position, of the same node.
+fn next_of(edits: &Edits, at: usize) -> Option<usize>
+    ensures { result ≡ option_and_then (λ o. o) (slice_get edits.now.next.items at) }
+{
+    match edits.next.get(at) {
+        None => None,
+        Some(next) => *next,
+    }
+}
+
+/// Makes the edits of a node of the new tree, in their order.
+pub fn edit(
+    alloc: Global,
+    edge: &Edge,
+    new: Id,
+    edits: &Edits,
+    entry: &mut Entry,
+) -> Result<(), NoMemory>
+    requires edits { AreEdits (old_of edge.now) (changes_of edge.now) new edits.now }
+    requires rising { IsTrue (are_keyed entry.old.attrs) }
+    ensures { OnOk result (entry.new ≡ edited_by (old_of edge.now) (changes_of edge.now) new (changes_of edge.now) entry.old) }
+{
+    let mut next = edits.first.get(&entry.name).copied();
+    while let Some(at) = next {
+        edit_by(alloc, edge.all, at, entry)?;
+        next = next_of(edits, at);
+    }
+    Ok(())
+}

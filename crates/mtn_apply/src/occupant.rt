@@ -1,0 +1,152 @@
+// Who stands where in the new tree.
+ghost use Rattle.std.specs.Prelude.{◌≡◌, ◌<◌, not, find, length, slice_get, option_map, option_and_then, option_copied, IfOk};
+ghost use Rattle.mtn_roster.specs.Tree.{is_some_with, root_of};
+ghost use Rattle.mtn_edits.specs.Changes.{aims_at, put_by as puts, is_deleted as deletes_it, is_moved as moves_it, is_kept as keeps_it, if_kept as kept_or_none, kept_child as kept_below, occupant_by, occupant};
+ghost use Rattle.mtn_apply.specs.Old.{tree_in, seen};
+ghost use Rattle.mtn_apply.specs.Index.{IsIndexed, old_of, changes_of};
+
+use crate::index::Edge;
+use crate::old::{old_at, old_child, old_root};
+use mtn_base::{Comp, NoMemory, Path};
+use mtn_changes::Change;
+use mtn_roster::{Body, Entry, Roster};
+use std::alloc::Global;
+
+/// What stands at a path of the new tree: an old node, or one that a change adds at its path.
+#[derive(Clone, Copy)]
+pub enum There<'a> {
+    Old { entry: &'a Entry },
+    Added { path: &'a Path, body: Body },
+}
+
+pub fn is_deleted(edge: &Edge, entry: &Entry) -> bool
+    requires { IsIndexed edge.now }
+    ensures { result ≡ deletes_it (old_of edge.now) (changes_of edge.now) entry.now }
+{
+    edge.index.deleted.contains_key(&entry.name)
+}
+
+pub fn is_moved(edge: &Edge, entry: &Entry) -> bool
+    requires { IsIndexed edge.now }
+    ensures { result ≡ moves_it (old_of edge.now) (changes_of edge.now) entry.now }
+{
+    edge.index.moved.contains_key(&entry.name)
+}
+
+/// Neither deleted nor moved.
+pub fn is_kept(edge: &Edge, entry: &Entry) -> bool
+    requires { IsIndexed edge.now }
+    ensures { result ≡ keeps_it (old_of edge.now) (changes_of edge.now) entry.now }
+{
+    !is_deleted(edge, entry) && !is_moved(edge, entry)
+}
+
+/// The old node, if it is kept.
+fn if_kept<'a>(edge: &Edge, node: Option<&'a Entry>) -> Option<There<'a>>
+    requires { IsIndexed edge.now }
+    ensures { option_map seen result ≡ option_and_then (kept_or_none (old_of edge.now) (changes_of edge.now)) (option_copied node.entry) }
+{
+    match node {
+        None => None,
+        Some(entry) => {
+            if is_kept(edge, entry) {
+                Some(There::Old { entry })
+            } else {
+                None
+            }
+        }
+    }
+}
+
+/// The old root, if it is kept.
+pub fn kept_root<'a>(alloc: Global, edge: &Edge<'a>) -> Option<There<'a>>
+    requires { IsIndexed edge.now }
+    ensures { option_map seen result ≡ option_and_then (kept_or_none (old_of edge.now) (changes_of edge.now)) (root_of (old_of edge.now)) }
+{
+    if_kept(edge, old_root(alloc, edge.old))
+}
+
+/// The kept child of that name, of an old directory.
+pub fn kept_child<'a>(edge: &Edge<'a>, above: Option<There<'a>>, name: &Comp) -> Option<There<'a>>
+    requires { IsIndexed edge.now }
+    ensures { option_map seen result ≡ option_and_then (kept_below (old_of edge.now) (changes_of edge.now) name.now) (option_map seen above.entry) }
+{
+    match above {
+        Some(There::Old { entry }) => {
+            if entry.body.is_dir() {
+                if_kept(edge, old_child(edge.old, entry, name))
+            } else {
+                None
+            }
+        }
+        _ => None,
+    }
+}
+
+/// The change at a position.
+pub fn change_at(all: &[Change], at: usize) -> Option<&Change>
+    ensures { option_copied result ≡ slice_get all.now at }
+{
+    all.get(at)
+}
+
+/// The first change with that target.
+pub fn aimed<'a>(edge: &Edge<'a>, path: &Path) -> Option<&'a Change>
+    requires { IsIndexed edge.now }
+    ensures { option_copied result ≡ find (aims_at path.now) (changes_of edge.now) }
+{
+    match edge.index.targets.get(path) {
+        None => None,
+        Some(at) => change_at(edge.all, *at),
+    }
+}
+
+/// What a change puts at its target.
+fn put_by<'a>(old: Option<&'a Roster>, change: &'a Change) -> Option<There<'a>>
+    ensures { option_map seen result ≡ puts (tree_in old.entry) change.now }
+{
+    match change {
+        Change::Rename { path, to: _ } => match old_at(old, path) {
+            None => None,
+            Some(entry) => Some(There::Old { entry }),
+        },
+        Change::AddDir { path } => Some(There::Added {
+            path,
+            body: Body::Dir,
+        }),
+        Change::AddFile { path, content } => Some(There::Added {
+            path,
+            body: Body::File { content: *content },
+        }),
+        _ => None,
+    }
+}
+
+/// The occupant of a path, by what stands there targets aside.
+fn occupant_at<'a>(edge: &Edge<'a>, path: &Path, aside: Option<There<'a>>) -> Option<There<'a>>
+    requires { IsIndexed edge.now }
+    ensures { option_map seen result ≡ occupant_by (old_of edge.now) (option_map seen aside.entry) (find (aims_at path.now) (changes_of edge.now)) }
+{
+    match aimed(edge, path) {
+        None => aside,
+        Some(change) => put_by(edge.old, change),
+    }
+}
+
+/// The occupant of the path of some components: from the root down, one step for each.
+pub fn occupant_of<'a>(
+    alloc: Global,
+    edge: &Edge<'a>,
+    comps: &[Comp],
+) -> Result<Option<There<'a>>, NoMemory>
+    requires { IsIndexed edge.now }
+    ensures { IfOk result (λ o. option_map seen o ≡ occupant (old_of edge.now) (changes_of edge.now) comps.now) }
+{
+    let mut path = Path::root(alloc);
+    let mut there = occupant_at(edge, &path, kept_root(alloc, edge));
+    for comp in comps {
+        path.push(comp.copy(alloc)?)?;
+        there = occupant_at(edge, &path, kept_child(edge, there, comp));
+    }
+    Ok(there)
+}
