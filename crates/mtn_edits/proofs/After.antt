@@ -32,7 +32,7 @@ either_way f false x y v p q = q
 
 module _ (old : Tree) (all : List Change) (new : Id) where
   -- edits keep names and slots
-  edited-name : (c : Change) (e : Entry) → (edited old all new c e).name ≡ e.name
+  pub edited-name : (c : Change) (e : Entry) → (edited old all new c e).name ≡ e.name
   edited-name (Delete p) e = refl
   edited-name (Rename p q) e = refl
   edited-name (AddDir p) e = refl
@@ -117,7 +117,7 @@ module _ (old : Tree) (all : List Change) (new : Id) where
         place_added p b (added_one {c = c} s aims put) = targeted old o all new once ok p c s (Added p b) aims put
 
     -- the node that stands at a path, by its name
-    is_at-is : (x : Occupant) (p : List (List ℕ)) → Present x → is_at old all new (occupant_name new x) p ≡ true → occupant old all p ≡ Some x
+    pub is_at-is : (x : Occupant) (p : List (List ℕ)) → Present x → is_at old all new (occupant_name new x) p ≡ true → occupant old all p ≡ Some x
     is_at-is x p at h =
         let y = passing_some (λ d. same_name (occupant_name new d) (occupant_name new x)) (occupant old all p) h in
         let s = standing old o all new once ok (reverse p) y.0 y.1 in
@@ -343,7 +343,7 @@ module _ (old : Tree) (all : List Change) (new : Id) where
 
     -- what stands at a path of the new tree
     module _ (f : IsForest (tree_after old all new)) where
-      node_of : (up : List (List ℕ)) (x : Occupant) → occupant_up old all up ≡ Some x → node_up (tree_after old all new) up ≡ Some (entry_after x)
+      pub node_of : (up : List (List ℕ)) (x : Occupant) → occupant_up old all up ≡ Some x → node_up (tree_after old all new) up ≡ Some (entry_after x)
       node_of [] x h =
           let s = standing old o all new once ok [] x h in
           ap (at_slot (tree_after old all new)) (sym (after-slot x ∙ s.hangs)) ∙ at_slot-of (tree_after old all new) f (occupant_name new x) (entry_after x) (there_after [] x h)

@@ -8,5 +8,6 @@ pub mod Stepping
 pub mod Joins
 pub mod Joining
 pub mod Renaming
+pub mod Editing
 pub mod Agreeing
 pub mod JoinedPaths

@@ -30,7 +30,7 @@ counted s (d ∷ cs) c u h = elim (split_cons d cs c u) [
 ]
 
 -- where a slot is changed at most once, changes of it are one
-one_change : (s : Slot) (cs : List Change) (c d : Change) → Split cs c → Split cs d → at s c ≡ true → at s d ≡ true → count_by (at s) cs ≤ 1 → c ≡ d
+pub one_change : (s : Slot) (cs : List Change) (c d : Change) → Split cs c → Split cs d → at s c ≡ true → at s d ≡ true → count_by (at s) cs ≤ 1 → c ≡ d
 one_change s [] c d u v h k most = absurd (no_split c u)
 one_change s (b ∷ cs) c d u v h k most = elim (split_cons b cs c u) [
   | inl e ↦ elim (split_cons b cs d v) [

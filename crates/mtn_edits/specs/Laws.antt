@@ -2,10 +2,14 @@
 use Rattle.std.specs.Prelude.{◌≡◌, ◌≢◌, ◌⊎◌, ◌↔◌, ℕ, Bool, IsTrue, List, [], Option, Some, None, Contains, IsSome}
 use Rattle.mtn_base.specs.declared.id.Id.{Id}
 use Rattle.mtn_base.specs.declared.name.NodeName.{NodeName}
+use Rattle.mtn_roster.specs.declared.entry.Attr.{Attr}
+use Rattle.mtn_roster.specs.declared.entry.Body.TheVariants.{File}
 use Rattle.mtn_roster.specs.declared.entry.Entry.{Entry}
 use Rattle.mtn_changes.specs.declared.change.Change.{Change}
-use Rattle.mtn_changes.specs.declared.change.Change.TheVariants.{Rename}
+use Rattle.mtn_changes.specs.declared.change.Change.TheVariants.{Rename, Patch, Clear, Set}
 use Rattle.mtn_roster.specs.Tree.{Tree, entry_of, node_at, attr_of, live_of, is_dir, IsSane}
+use Rattle.mtn_edits.specs.Changes.{Occupant, occupant_body}
+use Rattle.mtn_edits.specs.Changes.Occupant.{Old, Added}
 use Rattle.mtn_growth.specs.History.{Revision, parents_at, IsPlaceOf}
 use Rattle.mtn_ancestry.specs.Ancestors.{IsAncestor}
 
@@ -65,3 +69,16 @@ abbrev pub IsJoinedAt : Id → List (List ℕ) → Option Entry → Option Entry
 IsJoinedAt new p (Some x) (Some y) (Some e) = IsJoinedOf new p x y e
 IsJoinedAt new p None None None = Unit {0}
 IsJoinedAt new p _ _ _ = ⊥
+
+abbrev pub occupant_attrs : Occupant → List Attr
+occupant_attrs (Old e) = e.attrs
+occupant_attrs (Added path body) = []
+
+-- what changes make of the content and the attributes of the occupant of a path
+pub record IsEditedOf (all : List Change) (p : List (List ℕ)) (x : Occupant) (e : Entry) : Type 0 where
+  pub patched : (from to : Id) → Contains all (Patch p from to) → e.body ≡ File to
+  pub unpatched : ((from to : Id) → Contains all (Patch p from to) → ⊥) → e.body ≡ occupant_body x
+  pub set : (k v : List ℕ) → Contains all (Set p k v) → attr_of e.attrs k ≡ Some (Some v)
+  -- a cleared key stays, without a value
+  pub cleared : (k : List ℕ) → Contains all (Clear p k) → attr_of e.attrs k ≡ Some None
+  pub untouched : (k : List ℕ) → ((v : List ℕ) → Contains all (Set p k v) → ⊥) → (Contains all (Clear p k) → ⊥) → attr_of e.attrs k ≡ attr_of (occupant_attrs x) k

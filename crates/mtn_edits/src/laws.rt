@@ -1,14 +1,14 @@
 //! Laws of changesets and joinings, over the definitions alone.
-ghost use Rattle.std.specs.Prelude.{◌≡◌, ◌≢◌, ℕ, ◌<◌, Bool, option_map, List, [], ◌∷◌, length, None};
+ghost use Rattle.std.specs.Prelude.{◌≡◌, ◌≢◌, ℕ, ◌<◌, Bool, option_map, List, [], ◌∷◌, length, Some, None};
 ghost use Rattle.mtn_base.specs.declared.id.Id.{Id};
 ghost use Rattle.mtn_changes.specs.declared.change.Change.{Change};
 ghost use Rattle.mtn_changes.specs.Sorting.{AreUnsorted};
 ghost use Rattle.mtn_roster.specs.declared.entry.Entry.{Entry};
 ghost use Rattle.mtn_roster.specs.Tree.{Tree, node_at, IsSane};
 ghost use Rattle.mtn_growth.specs.History.{Revision, tree_at, BirthsAreKnown, IsStep};
-ghost use Rattle.mtn_edits.specs.Changes.{first_fault, tree_after, occupant, occupant_name};
+ghost use Rattle.mtn_edits.specs.Changes.{Occupant, first_fault, tree_after, occupant, occupant_name};
 ghost use Rattle.mtn_edits.specs.Joining.{join_fault, joined};
-ghost use Rattle.mtn_edits.specs.Laws.{IsOldTree, RenamesDiffer, NoneBornIn, Descends, CommonAreKnown, IsFresh, PassesAncestors, AreNamedByPath, IsJoinedAt};
+ghost use Rattle.mtn_edits.specs.Laws.{IsOldTree, RenamesDiffer, NoneBornIn, Descends, CommonAreKnown, IsFresh, PassesAncestors, AreNamedByPath, IsEditedOf, IsJoinedAt};
 
 /// Changes that a text may spell, in any order, rename no path twice.
 pub fn renames_differ()
@@ -33,6 +33,13 @@ pub fn after_at_paths()
         option_map (λ (e : Entry). e.name) (node_at (tree_after old all new) p) ≡ option_map (occupant_name new) (occupant old all p) }
     ensures named { (old : Tree) (all : List Change) (new : Id) → IsOldTree old → RenamesDiffer all → NoneBornIn old new →
         first_fault old all ≡ None → AreNamedByPath (tree_after old all new) new }
+{}
+
+/// What changes a text may spell leave of the content and the attributes of the node at each path.
+pub fn after_edits()
+    ensures { (old : Tree) (all : List Change) (new : Id) → IsOldTree old → AreUnsorted all → NoneBornIn old new →
+        first_fault old all ≡ None → (p : List (List ℕ)) (x : Occupant) (e : Entry) → occupant old all p ≡ Some x →
+        node_at (tree_after old all new) p ≡ Some e → IsEditedOf all p x e }
 {}
 
 /// What such a changeset makes has of the old nodes: no other, their kinds, and their keys.
