@@ -1,9 +1,9 @@
 -- Marks that are for a tree are those of exactly its nodes and their scalars.
 use Rattle.std.specs.Prelude.{◌↔◌, IsSome, is_some, not, map, find, option_map, option_and_then}
-use Rattle.std.proofs.Common.{◌≡◌, Bool, true, false, cond, List, [], ◌∷◌, Option, Some, None, refl, sym, ◌∙◌, ap, subst, ℕ}
+use Rattle.std.proofs.Common.{◌≡◌, Bool, true, false, cond, List, [], ◌∷◌, Option, Some, refl, sym, ◌∙◌, ap, ℕ}
 use Rattle.mtn_base.specs.Names.{same_bytes}
 use Rattle.mtn_base.specs.declared.name.NodeName.{NodeName}
-use Rattle.mtn_growth.specs.Scalars.{Scalar, Value, node_of, content_of, value_of, value_in}
+use Rattle.mtn_growth.specs.Scalars.{Scalar, node_of, content_of, value_of, value_in}
 use Rattle.mtn_growth.specs.Scalars.Scalar.{SlotOf, ContentOf, AttrOf}
 use Rattle.mtn_growth.specs.Scalars.Value.{ContentValue, AttrValue}
 use Rattle.mtn_roster.specs.declared.entry.Attr.{Attr}
@@ -12,7 +12,6 @@ use Rattle.mtn_roster.specs.declared.entry.Body.TheVariants.{Dir, File}
 use Rattle.mtn_roster.specs.declared.entry.Entry.{Entry}
 use Rattle.mtn_roster.specs.Tree.{Tree, entry_of, attr_of, is_dir_body}
 use Rattle.mtn_marking.specs.declared.node.AttrMarks.{AttrMarks}
-use Rattle.mtn_marking.specs.declared.node.Marking.{Marking}
 use Rattle.mtn_marking.specs.declared.node.NodeMarks.{NodeMarks}
 use Rattle.mtn_marking.specs.Marking.{Marks, IsFor, AreFor, marking_of, marks_of, marks_in, attr_marks_of}
 use Rattle.mtn_marking.proofs.Telling.{key_of, key_in}
