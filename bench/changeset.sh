@@ -1,0 +1,65 @@
+#!/bin/sh
+# Applies 1 and 10,000 changes to a tree of 100,000 nodes, 20 to a directory, and prints the times as
+# multiples of building that tree's roster once, in the same run. The program's own clock takes the times:
+# `build` begins with the entries in memory, shuffled; `apply` with the old roster and the changes. It drives
+# the built program mtn_bench_apply: give its path, or have it built by `rt run` in crates/mtn_bench_apply.
+set -eu
+top=$(cd "$(dirname "$0")/.." && pwd)
+program=${1:-$(ls "$top/crates/mtn_bench_apply/out/mtn_bench_apply" 2>/dev/null || true)}
+[ -n "$program" ] || { echo "build crates/mtn_bench_apply first" >&2; exit 2; }
+python3 - "$program" <<'PYTHON'
+import random, subprocess, sys
+program = sys.argv[1]
+ROUNDS = 5
+
+def tree():
+    random.seed(7)
+    lines, queue, n = ['/'], [''], 1
+    while n < 100000:
+        above = queue.pop(0)
+        for k in range(20):
+            if n == 100000:
+                break
+            path = (above + '/' if above else '') + 'node_%05x' % random.randrange(1 << 20) + '_%d' % k
+            if k == 0 or len(queue) + n // 20 < 5200:
+                lines.append(path + '/')
+                queue.append(path)
+            else:
+                lines.append(path)
+            n += 1
+    return lines
+
+OLD, NEW = '02' * 20, '04' * 20
+
+def patch(path):
+    return 'patch "%s"\n from [%s]\n   to [%s]\n' % (path, OLD, NEW)
+
+# a fifth each of deletes, renames, added files (some with their directory), patches and attributes
+def changes(lines):
+    files = [line for line in lines if not line.endswith('/')]
+    random.shuffle(files)
+    kinds = [files[k * 2000:(k + 1) * 2000] for k in range(5)]
+    above = lambda path: path.rpartition('/')[0] + '/' if '/' in path else ''
+    yield from ('delete "%s"\n' % path for path in sorted(kinds[0]))
+    yield from ('rename "%s"\n    to "%srenamed_%d"\n' % (path, above(path), k) for k, path in enumerate(sorted(kinds[1])))
+    yield from ('add_dir "%sadded_%d"\n' % (above(path), k) for k, path in enumerate(kinds[2][:1000]))
+    yield from ('add_file "%sadded_%d/file"\n content [%s]\n' % (above(path), k, OLD) for k, path in enumerate(kinds[2][:1000]))
+    yield from (patch(path) for path in kinds[3])
+    yield from ('  set "%s"\n attr "key"\nvalue "value"\n' % path for path in kinds[4])
+
+def measure(count, lines, text):
+    whole = ('\n'.join(lines) + '\n=' + text).encode()
+    rounds = []
+    for _ in range(ROUNDS):
+        took = subprocess.run([program, 'times'], input=whole, stdout=subprocess.PIPE, check=True).stdout
+        rounds.append([int(word) / 1e6 for word in took.split()])
+    build, apply = min(took[0] for took in rounds), min(took[1] for took in rounds)
+    print('%s: build %.3f s, apply %.3f s: %.2f times' % (count, build, apply, apply / build))
+
+lines = tree()
+many = list(changes(lines))
+assert len(many) == 10000
+random.shuffle(lines)
+measure('1 change (at most 1.5)', lines, patch(next(line for line in lines if not line.endswith('/'))))
+measure('10,000 changes (at most 3)', lines, '\n'.join(many))
+PYTHON
