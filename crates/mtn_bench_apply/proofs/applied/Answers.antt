@@ -4,4 +4,4 @@ use Rattle.mtn_edits.proofs.Renaming.{renames_differ}
 use Rattle.mtn_bench_apply.proofs.applied.Goals as goal
 
 pub apply-requires-clause-renames : goal.apply-requires-clause-renames
-apply-requires-clause-renames c = renames_differ c.in_ok-changes.changes (unsorted c.in_ok-changes.changes c.in_ok-changes.ensures.lawful)
+apply-requires-clause-renames c = renames_differ c.in-Ok.changes (unsorted c.in-Ok.changes c.in-Ok.ensures.ok.lawful)
