@@ -1,0 +1,5 @@
+pub mod Fields
+pub mod Apart
+pub mod PathTold
+pub mod Entries
+pub mod EntriesApart

@@ -1,0 +1,172 @@
+// What stands in a body, and how it is read and written.
+ghost use Rattle.std.specs.Prelude.{◌≡◌, ◌++◌, ℕ, List, length, take, IfOk, OnOk, OnErr, IsErrOf};
+ghost use Rattle.mtn_records.specs.Fields.{AreApart, Begins, BeginsWithNone};
+
+use crate::error::RecordError;
+use mtn_ancestry::Pos;
+use mtn_base::{Id, NoMemory};
+use std::alloc::Global;
+
+/// A value that stands in a body as bytes of its own. Bytes begin with the text of one value at most.
+pub trait Field: Sized + Drop {
+    // its bytes
+    ghost text: { Self → List ℕ };
+
+    // what a value must be to stand in a body
+    ghost form: { Self → Type 0 };
+
+    /// The value whose text the bytes begin with, and what is behind it. Bad where there is none.
+    fn read(alloc: Global, bytes: &[u8]) -> Result<(Self, &[u8]), RecordError>
+        ensures ok { IfOk result (λ r. Begins text form bytes.now r.0 r.1.now) }
+        ensures bad { IsErrOf result RecordError.Bad → BeginsWithNone text form bytes.now };
+
+    /// Appends its text. After an error `out` may have gained some bytes.
+    fn write(&self, out: &mut Vec<u8>) -> Result<(), NoMemory>
+        requires { form self.now }
+        ensures ok { OnOk result (out.new.items ≡ out.old.items ++ text self.now) }
+        ensures err { OnErr result (take (length out.old.items) out.new.items ≡ out.old.items) };
+
+    ghost apart: { AreApart text form };
+}
+
+impl Field for u64 {
+    ghost use Rattle.mtn_records.specs.Fields.{number_text, IsNumber};
+    ghost use Rattle.mtn_records.specs.Apart.{number_apart};
+
+    ghost text = { number_text };
+
+    ghost form = { IsNumber };
+
+    fn read(_: Global, bytes: &[u8]) -> Result<(u64, &[u8]), RecordError> {
+        match bytes.split_first_chunk::<8>() {
+            Some((number, rest)) => Ok((u64::from_be_bytes(*number), rest)),
+            None => Err(RecordError::Bad),
+        }
+    }
+
+    fn write(&self, out: &mut Vec<u8>) -> Result<(), NoMemory> {
+        out.extend_from_slice(&self.to_be_bytes())?;
+        Ok(())
+    }
+
+    ghost apart = { number_apart };
+}
+
+impl Field for Pos {
+    ghost use Rattle.mtn_records.specs.Fields.{number_text, IsNumber};
+    ghost use Rattle.mtn_records.specs.Apart.{number_apart};
+
+    ghost text = { number_text };
+
+    ghost form = { IsNumber };
+
+    fn read(alloc: Global, bytes: &[u8]) -> Result<(Pos, &[u8]), RecordError> {
+        let (number, rest) = u64::read(alloc, bytes)?;
+        Ok((Pos(number), rest))
+    }
+
+    fn write(&self, out: &mut Vec<u8>) -> Result<(), NoMemory> {
+        self.0.write(out)
+    }
+
+    ghost apart = { number_apart };
+}
+
+impl Field for bool {
+    ghost use Rattle.mtn_records.specs.Fields.{flag_text};
+    ghost use Rattle.mtn_records.specs.Apart.{flag_apart};
+
+    ghost text = { flag_text };
+
+    ghost form = { λ _. Unit {0} };
+
+    fn read(_: Global, bytes: &[u8]) -> Result<(bool, &[u8]), RecordError> {
+        match bytes {
+            [0, rest @ ..] => Ok((false, rest)),
+            [1, rest @ ..] => Ok((true, rest)),
+            _ => Err(RecordError::Bad),
+        }
+    }
+
+    fn write(&self, out: &mut Vec<u8>) -> Result<(), NoMemory> {
+        out.push(if *self { 1 } else { 0 })?;
+        Ok(())
+    }
+
+    ghost apart = { flag_apart };
+}
+
+impl Field for Id {
+    ghost use Rattle.mtn_records.specs.Fields.{id_text, IsTwenty};
+    ghost use Rattle.mtn_records.specs.Apart.{id_apart};
+
+    ghost text = { id_text };
+
+    ghost form = { IsTwenty };
+
+    fn read(_: Global, bytes: &[u8]) -> Result<(Id, &[u8]), RecordError> {
+        match bytes.split_first_chunk::<20>() {
+            Some((id, rest)) => Ok((Id(*id), rest)),
+            None => Err(RecordError::Bad),
+        }
+    }
+
+    fn write(&self, out: &mut Vec<u8>) -> Result<(), NoMemory> {
+        out.extend_from_slice(self.as_slice())?;
+        Ok(())
+    }
+
+    ghost apart = { id_apart };
+}
+
+impl<A: Field, B: Field> Field for (A, B) {
+    ghost use Rattle.mtn_records.specs.Fields.{pair_text, IsPair};
+    ghost use Rattle.mtn_records.specs.Apart.{pair_apart};
+
+    ghost text = { pair_text A.text B.text };
+
+    ghost form = { IsPair A.form B.form };
+
+    fn read(alloc: Global, bytes: &[u8]) -> Result<((A, B), &[u8]), RecordError> {
+        let (a, rest) = A::read(alloc, bytes)?;
+        let (b, rest) = B::read(alloc, rest)?;
+        Ok(((a, b), rest))
+    }
+
+    fn write(&self, out: &mut Vec<u8>) -> Result<(), NoMemory> {
+        self.0.write(out)?;
+        self.1.write(out)
+    }
+
+    ghost apart = { pair_apart A.text A.form B.text B.form A.apart B.apart };
+}
+
+impl<A: Field> Field for Option<A> {
+    ghost use Rattle.mtn_records.specs.Fields.{option_text, IsOption};
+    ghost use Rattle.mtn_records.specs.Apart.{option_apart};
+
+    ghost text = { option_text A.text };
+
+    ghost form = { IsOption A.form };
+
+    fn read(alloc: Global, bytes: &[u8]) -> Result<(Option<A>, &[u8]), RecordError> {
+        let (is_there, rest) = bool::read(alloc, bytes)?;
+        if !is_there {
+            return Ok((None, rest));
+        }
+        let (value, rest) = A::read(alloc, rest)?;
+        Ok((Some(value), rest))
+    }
+
+    fn write(&self, out: &mut Vec<u8>) -> Result<(), NoMemory> {
+        match self {
+            None => false.write(out),
+            Some(value) => {
+                true.write(out)?;
+                value.write(out)
+            }
+        }
+    }
+
+    ghost apart = { option_apart A.text A.form A.apart };
+}
