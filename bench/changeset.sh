@@ -7,27 +7,11 @@ set -eu
 top=$(cd "$(dirname "$0")/.." && pwd)
 program=${1:-$(ls "$top/crates/mtn_bench_apply/out/mtn_bench_apply" 2>/dev/null || true)}
 [ -n "$program" ] || { echo "build crates/mtn_bench_apply first" >&2; exit 2; }
-python3 - "$program" <<'PYTHON'
+PYTHONDONTWRITEBYTECODE=1 PYTHONPATH="$top/bench" python3 - "$program" <<'PYTHON'
 import random, subprocess, sys
+from tree import tree
 program = sys.argv[1]
 ROUNDS = 5
-
-def tree():
-    random.seed(7)
-    lines, queue, n = ['/'], [''], 1
-    while n < 100000:
-        above = queue.pop(0)
-        for k in range(20):
-            if n == 100000:
-                break
-            path = (above + '/' if above else '') + 'node_%05x' % random.randrange(1 << 20) + '_%d' % k
-            if k == 0 or len(queue) + n // 20 < 5200:
-                lines.append(path + '/')
-                queue.append(path)
-            else:
-                lines.append(path)
-            n += 1
-    return lines
 
 OLD, NEW = '02' * 20, '04' * 20
 

@@ -8,22 +8,10 @@ program=${1:-$(ls "$top/crates/mtn_bench_marks/out/mtn_bench_marks" 2>/dev/null 
 [ -n "$program" ] || { echo "build crates/mtn_bench_marks first" >&2; exit 2; }
 work=$(mktemp -d)
 trap 'rm -rf "$work"' EXIT
-python3 - "$work/paths" <<'PYTHON'
+PYTHONDONTWRITEBYTECODE=1 PYTHONPATH="$top/bench" python3 - "$work/paths" <<'PYTHON'
 import random, sys
-random.seed(7)
-lines, queue, n = [], [''], 1
-while n < 100000:
-    above = queue.pop(0)
-    for k in range(20):
-        if n == 100000:
-            break
-        path = (above + '/' if above else '') + 'node_%05x' % random.randrange(1 << 20) + '_%d' % k
-        if k == 0 or len(queue) + n // 20 < 5200:
-            lines.append(path + '/')
-            queue.append(path)
-        else:
-            lines.append(path)
-        n += 1
+from tree import tree
+lines = tree()[1:]
 files = [line for line in lines if not line.endswith('/')]
 rest = [line for line in lines if line != files[0]] + ['/']
 random.shuffle(rest)

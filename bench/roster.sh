@@ -13,27 +13,11 @@ program=${1:-$(ls "$top/crates/mtn_bench_roster/out/mtn_bench_roster" 2>/dev/nul
 [ -n "$program" ] || { echo "build crates/mtn_bench_roster first" >&2; exit 2; }
 work=$(mktemp -d)
 trap 'rm -rf "$work"' EXIT
-python3 - "$program" "$work" <<'PYTHON'
+PYTHONDONTWRITEBYTECODE=1 PYTHONPATH="$top/bench" python3 - "$program" "$work" <<'PYTHON'
 import os, random, resource, subprocess, sys, time
+from tree import tree
 program, work = sys.argv[1:3]
 ROUNDS = 7
-
-def tree():
-    random.seed(7)
-    lines, queue, n = ['/'], [''], 1
-    while n < 100000:
-        above = queue.pop(0)
-        for k in range(20):
-            if n == 100000:
-                break
-            path = (above + '/' if above else '') + 'node_%05x' % random.randrange(1 << 20) + '_%d' % k
-            if k == 0 or len(queue) + n // 20 < 5200:
-                lines.append(path + '/')
-                queue.append(path)
-            else:
-                lines.append(path)
-            n += 1
-    return lines
 
 def seconds(words, path):
     start = time.time()
