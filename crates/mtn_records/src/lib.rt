@@ -17,10 +17,12 @@ mod error;
 mod field;
 mod lists;
 mod names;
+mod record;
 
 pub use entry::{Numbered, NumberedAttr, NumberedBody, NumberedEntry};
 pub use error::RecordError;
 pub use field::Field;
+pub use record::{LogRecord, RosterRecord};
 
 #[cfg(test)]
 mod tests;
