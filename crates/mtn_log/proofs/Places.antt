@@ -1,0 +1,75 @@
+-- Where revisions stand, and what is above them.
+use Rattle.std.specs.Prelude.{IsTrue, Contains, position, option_and_then, slice_get, ◌||◌}
+use Rattle.std.specs.Option.{option_map_or}
+use Rattle.std.specs.List.{list_any, position_or_len}
+use Rattle.std.proofs.lemmas.Grind.{common_steps}
+use Rattle.std.proofs.Common.{◌≡◌, ◌≤◌, ◌<◌, ◌+◌, ℕ, zero, suc, Bool, true, false, List, [], ◌∷◌, length, get_or, Option, Some, None, refl, sym, ◌∙◌, ap, subst, ◌⊎◌, inl, inr, ⊎_elim, arith}
+use Rattle.std.proofs.lemmas.Option.{slice_get-get_or}
+use Rattle.std.proofs.lemmas.List.Quantifiers.{position-Some}
+use Rattle.std.proofs.lemmas.List.Sums.{fails_before_first}
+use Rattle.std.proofs.lemmas.List.Folds.{list_any_at}
+use Rattle.mtn_base.specs.declared.id.Id.{Id}
+use Rattle.mtn_base.specs.Names.{same_id}
+use Rattle.mtn_ancestry.specs.Ancestors.{IsAncestor, itself, through, ParentsAreEarlier}
+use Rattle.mtn_growth.specs.History.{Revision, parents_at, IsPlaceOf}
+use Rattle.mtn_edits.specs.Laws.{IsFresh, PassesAncestors}
+use Rattle.mtn_roster.proofs.Tests.{same_id-is, same_id-self}
+use Rattle.mtn_log.specs.Making.{place_of, has_id, reaches, is_above}
+
+-- a place within a list has an element
+pub within : {X : Type 0} (xs : List X) (k : ℕ) → k < length xs → (x : X) × (slice_get xs k ≡ Some x)
+within [] k lt = absurd (omega arith)
+within (x ∷ xs) k lt = (get_or (x ∷ xs) k x, slice_get-get_or (x ∷ xs) k x lt)
+
+pub inside : {X : Type 0} (xs : List X) (k : ℕ) (x : X) → slice_get xs k ≡ Some x → k < length xs
+inside [] k x e = absurd cc
+inside (y ∷ ys) zero x e = omega arith
+inside (y ∷ ys) (suc k) x e = let lt = inside ys k x e in omega (arith, lt)
+
+first_at : {X : Type 0} (p : X → Bool) (xs : List X) (k : ℕ) (x : X) → slice_get xs k ≡ Some x → p x ≡ true → position p xs ≡ None → ⊥
+first_at p xs k x at passes none =
+    let lt = inside xs k x at in
+    let same : get_or xs k x ≡ x = grind (arith, common_steps, at, slice_get-get_or xs k x lt) in
+    let all : length xs ≤ position_or_len p xs = grind (arith, common_steps) in
+    let fails = fails_before_first p xs k x (omega (arith, lt, all)) in
+    absurd (let t : true ≡ false = sym passes ∙ ap p (sym same) ∙ fails in cc)
+
+-- the place of an id has it
+pub place_has : (h : List Revision) (id : Id) (p : ℕ) → place_of h id ≡ Some p → IsPlaceOf h id p
+place_has h id p e =
+    let d : Revision = record { id = id; parents = []; tree = [] } in
+    let f = position-Some (λ (r : Revision). same_id r.id id) h p d e in
+    (get_or h p d, slice_get-get_or h p d f.0, same_id-is _ _ f.1)
+
+pub place_within : (h : List Revision) (id : Id) (p : ℕ) → place_of h id ≡ Some p → p < length h
+place_within h id p e = let f = position-Some (λ (r : Revision). same_id r.id id) h p (record { id = id; parents = []; tree = [] }) e in f.0
+
+-- an id without a place stands nowhere
+pub no_place : (h : List Revision) (id : Id) → place_of h id ≡ None → IsFresh h id
+no_place h id e b at = first_at (λ (r : Revision). same_id r.id id) h b at.0 at.1 (ap (λ i. same_id i id) at.2 ∙ same_id-self id) e
+
+has_place : (h : List Revision) (id : Id) (b : ℕ) → IsPlaceOf h id b → has_id h id b ≡ true
+has_place h id b at = ap (λ o. option_map_or (λ (v : Revision). same_id v.id id) o false) at.1 ∙ ap (λ i. same_id i id) at.2 ∙ same_id-self id
+
+first_true : (a b : Bool) → a ≡ true → (a || b) ≡ true
+first_true a b e = ap (λ x. x || b) e
+
+second_true : (a b : Bool) → b ≡ true → (a || b) ≡ true
+second_true true b e = refl
+second_true false b e = e
+
+-- each ancestor is reached in as many steps as its revision's position
+reaches_all : (h : List Revision) → ParentsAreEarlier (parents_at h) → (id : Id) (b r : ℕ) → IsPlaceOf h id b → IsAncestor (parents_at h) b r → (steps : ℕ) → r ≤ steps → reaches steps h id r ≡ true
+reaches_all h earlier id b r at itself zero le = has_place h id b at
+reaches_all h earlier id b r at itself (suc steps) le = first_true _ _ (has_place h id b at)
+reaches_all h earlier id b r at (through {p = p} c above) zero le = absurd (let lt = earlier r p c in omega (arith, lt, le))
+reaches_all h earlier id b r at (through {p = p} c above) (suc steps) le =
+    let lt = earlier r p c in
+    let there = reaches_all h earlier id b p at above steps (omega (arith, lt, le)) in
+    second_true (has_id h id r) _ (list_any_at (reaches steps h id) (parents_at h r) c.0 p c.1 (ap (reaches steps h id) c.2 ∙ there))
+
+-- so the test on a parent passes its ancestors
+pub above_passes : (h : List Revision) → ParentsAreEarlier (parents_at h) → (parent : Id) (p : ℕ) → place_of h parent ≡ Some p → PassesAncestors h p (is_above h (Some parent))
+above_passes h earlier parent p is i b at above =
+    let lt = place_within h parent p is in
+    ap (λ o. option_map_or (reaches (length h) h i) o false) is ∙ reaches_all h earlier i b p at above (length h) (omega (arith, lt))
