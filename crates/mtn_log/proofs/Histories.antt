@@ -137,7 +137,12 @@ next_kept f files more keeps h l v n =
     let i = both_none (unknown_file files edges) (other_manifest f t n.read.manifest) g.1 in
     let held : unknown_file more edges ≡ None = ap (option_map UnknownFile) (still_held files more keeps (new_contents edges) (unmapped _ _ i.0)) in
     record {
-      short = n.short; id = n.id; fresh = n.fresh; read = n.read; spells = n.spells; made = n.made;
+      short = n.short;
+      id = n.id;
+      fresh = n.fresh;
+      read = n.read;
+      spells = n.spells;
+      made = n.made;
       accepted = join_none (log_full h) _ a.0 (join_none (unknown_parent h edges) _ b.0 (join_none (bad_change h 1 edges) _ c.0 (join_none (bad_join h new edges) _ d.0
           (join_none (too_many t) _ e.0 (join_none (too_long t) _ g.0 (join_none (unknown_file more edges) (other_manifest f t n.read.manifest) held i.1))))));
     }

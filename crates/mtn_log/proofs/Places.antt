@@ -7,11 +7,11 @@ use Rattle.std.proofs.Common.{◌≡◌, ◌≤◌, ◌<◌, ◌+◌, ℕ, zero,
 use Rattle.std.proofs.lemmas.Option.{slice_get-get_or}
 use Rattle.std.proofs.lemmas.List.Quantifiers.{position-Some}
 use Rattle.std.proofs.lemmas.List.Sums.{fails_before_first}
-use Rattle.std.proofs.lemmas.List.Folds.{list_any_at}
+use Rattle.std.proofs.lemmas.List.Folds.{list_any_at, Any-from_list_any}
 use Rattle.mtn_base.specs.declared.id.Id.{Id}
 use Rattle.mtn_base.specs.Names.{same_id}
 use Rattle.mtn_ancestry.specs.Ancestors.{IsAncestor, itself, through, ParentsAreEarlier}
-use Rattle.mtn_growth.specs.History.{Revision, parents_at, IsPlaceOf}
+use Rattle.mtn_growth.specs.History.{Revision, parents_at, IsPlaceOf, TellsAncestors}
 use Rattle.mtn_edits.specs.Laws.{IsFresh, PassesAncestors}
 use Rattle.mtn_roster.proofs.Tests.{same_id-is, same_id-self}
 use Rattle.mtn_log.specs.Making.{place_of, has_id, reaches, is_above}
@@ -73,3 +73,29 @@ pub above_passes : (h : List Revision) → ParentsAreEarlier (parents_at h) → 
 above_passes h earlier parent p is i b at above =
     let lt = place_within h parent p is in
     ap (λ o. option_map_or (reaches (length h) h i) o false) is ∙ reaches_all h earlier i b p at above (length h) (omega (arith, lt))
+
+has_is : (h : List Revision) (id : Id) (r : ℕ) → has_id h id r ≡ true → IsPlaceOf h id r
+has_is h id r e = by (slice_get h r) refl e
+  where
+    by : (o : Option Revision) → slice_get h r ≡ o → option_map_or (λ (v : Revision). same_id v.id id) o false ≡ true → IsPlaceOf h id r
+    by None is t = absurd cc
+    by (Some v) is t = (v, is, same_id-is v.id id t)
+
+either : (a b : Bool) → (a || b) ≡ true → (a ≡ true) ⊎ (b ≡ true)
+either true b e = inl refl
+either false b e = inr e
+
+-- what is reached is an ancestor
+reached : (h : List Revision) (id : Id) (steps r : ℕ) → reaches steps h id r ≡ true → (b : ℕ) × IsPlaceOf h id b × IsAncestor (parents_at h) b r
+reached h id zero r e = (r, has_is h id r e, itself)
+reached h id (suc steps) r e = elim (either (has_id h id r) _ e) [
+  | inl here ↦ (r, has_is h id r here, itself)
+  | inr up ↦ let c = Any-from_list_any (reaches steps h id) (parents_at h r) up in let d = reached h id steps c.1 c.4 in (d.0, d.1, through (c.0, c.2, c.3) d.2)
+]
+
+-- the test on a parent tells its ancestors
+pub above_tells : (h : List Revision) → ParentsAreEarlier (parents_at h) → (parent : Id) (p : ℕ) → place_of h parent ≡ Some p → TellsAncestors h p (is_above h (Some parent))
+above_tells h earlier parent p is i = (
+  (λ t. reached h i (length h) p (sym (ap (λ o. option_map_or (reaches (length h) h i) o false) is) ∙ t)),
+  λ c. above_passes h earlier parent p is i c.0 c.1 c.2,
+)

@@ -39,7 +39,6 @@ unmapped f (Some a) h = absurd cc
 once : (all : List Change) → AreChanges all → RenamesDiffer all
 once all lawful = renames_differ all (unsorted all lawful)
 
-
 -- the first of a list passes a test that finds nothing
 pub first_fails : {A : Type 0} (test : A → Bool) (a : A) (rest : List A) → find test (a ∷ rest) ≡ None → (test a ≡ false) × (find test rest ≡ None)
 first_fails test a rest h = by (test a) refl h
@@ -85,8 +84,11 @@ module _ (h : List Revision) (grown : IsGrown h) (new : Id) (fresh : IsFresh h n
       subst (λ o. IsStep h (one_made o all)) (sym is) step
 
   abbrev two_made : Option ℕ → Option ℕ → List Change → List Change → Revision
-  two_made o u left right = record { id = new; parents = cons_option o (cons_option u []);
-      tree = joined (tree_after (option_map_or (tree_at h) o []) left new) (tree_after (option_map_or (tree_at h) u []) right new) new }
+  two_made o u left right = record {
+    id = new;
+    parents = cons_option o (cons_option u []);
+    tree = joined (tree_after (option_map_or (tree_at h) o []) left new) (tree_after (option_map_or (tree_at h) u []) right new) new;
+  }
 
   two_from : (a b : Option Id) (left right : List Change) → Known h a → Known h b → Ascend a b → AreChanges left → AreChanges right →
       first_fault (parent_tree h a) left ≡ None → first_fault (parent_tree h b) right ≡ None →
@@ -99,10 +101,10 @@ module _ (h : List Revision) (grown : IsGrown h) (new : Id) (fresh : IsFresh h n
       let pb = above_passes h grown.earlier b q iq in
       let differ : p ≢ q = λ same. less_differ a b up (let x = place_has h a p is in let y = place_has h b q iq in search rules) in
       let step = two_step h p q left right new (is_above h (Some a)) (is_above h (Some b)) grown.born (place_within h a p is) (place_within h b q iq) differ
-          (grown.sane p (place_within h a p is)) (grown.sane q (place_within h b q iq)) fresh (once left l) (once right r)
-          (ap (λ o. first_fault (option_map_or (tree_at h) o []) left) (sym is) ∙ fl) (ap (λ o. first_fault (option_map_or (tree_at h) o []) right) (sym iq) ∙ fr) pa pb
-          (subst (λ o. join_fault new (is_above h (Some a)) (is_above h (Some b)) (tree_after (option_map_or (tree_at h) o []) left new) (tree_after (tree_at h q) right new) ≡ None) is
-           (subst (λ o. join_fault new (is_above h (Some a)) (is_above h (Some b)) (tree_after (parent_tree h (Some a)) left new) (tree_after (option_map_or (tree_at h) o []) right new) ≡ None) iq fine)) in
+      (grown.sane p (place_within h a p is)) (grown.sane q (place_within h b q iq)) fresh (once left l) (once right r)
+      (ap (λ o. first_fault (option_map_or (tree_at h) o []) left) (sym is) ∙ fl) (ap (λ o. first_fault (option_map_or (tree_at h) o []) right) (sym iq) ∙ fr) pa pb
+      (subst (λ o. join_fault new (is_above h (Some a)) (is_above h (Some b)) (tree_after (option_map_or (tree_at h) o []) left new) (tree_after (tree_at h q) right new) ≡ None) is
+      (subst (λ o. join_fault new (is_above h (Some a)) (is_above h (Some b)) (tree_after (parent_tree h (Some a)) left new) (tree_after (option_map_or (tree_at h) o []) right new) ≡ None) iq fine)) in
       subst (λ o. IsStep h (two_made o (at h (Some b)) left right)) (sym is) (subst (λ u. IsStep h (two_made (Some p) u left right)) (sym iq) step)
 
   pub accepted_steps : (edges : List Edge) → AreEdges edges → unknown_parent h edges ≡ None → bad_change h 1 edges ≡ None → bad_join h new edges ≡ None → IsStep h (made h new edges)

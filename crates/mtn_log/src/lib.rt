@@ -12,9 +12,11 @@
 
 ghost use Rattle.std.specs.Prelude.{◌≡◌, ℕ, List, [], ◌∷◌, ◌++◌, Some, None};
 ghost use Rattle.std.specs.FinMap.{get};
-ghost use Rattle.mtn_growth.specs.History.{Revision, IsGrown};
+ghost use Rattle.mtn_growth.specs.History.{Revision, IsGrown, TellsAncestors};
 ghost use Rattle.mtn_model.specs.State.{Logged};
 ghost use Rattle.mtn_model.specs.Table.{Table};
+ghost use Rattle.mtn_base.specs.declared.id.Id.{Id};
+ghost use Rattle.mtn_log.specs.Making.{place_of, is_above};
 ghost use Rattle.mtn_log.specs.Lawful.{IsHistory, IsNext, Keeps};
 
 /// The history that a log spells is grown, so that the laws of marks hold in it.
@@ -25,6 +27,12 @@ pub fn history_is_grown()
 /// A log spells one history at most.
 pub fn one_history()
     ensures { (f : List ℕ → List ℕ) (files : Table) (log : List Logged) (h g : List Revision) → IsHistory f files log h → IsHistory f files log g → h ≡ g }
+{}
+
+/// What stands above a parent in the definitions are the ancestors of the revision that it names.
+pub fn above_tells()
+    ensures { (f : List ℕ → List ℕ) (files : Table) (log : List Logged) (h : List Revision) (parent : Id) (p : ℕ) → IsHistory f files log h → place_of h parent ≡ Some p →
+        TellsAncestors h p (is_above h (Some parent)) }
 {}
 
 /// An accepted text makes the history longer by one; more files leave it as it is.
