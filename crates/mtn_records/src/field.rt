@@ -72,6 +72,29 @@ impl Field for Pos {
     ghost apart = { number_apart };
 }
 
+impl Field for u8 {
+    ghost use Rattle.mtn_records.specs.Records.{byte_text, IsByte};
+    ghost use Rattle.mtn_records.specs.RecordsApart.{byte_apart};
+
+    ghost text = { byte_text };
+
+    ghost form = { IsByte };
+
+    fn read(_: Global, bytes: &[u8]) -> Result<(u8, &[u8]), RecordError> {
+        match bytes {
+            [byte, rest @ ..] => Ok((*byte, rest)),
+            _ => Err(RecordError::Bad),
+        }
+    }
+
+    fn write(&self, out: &mut Vec<u8>) -> Result<(), NoMemory> {
+        out.push(*self)?;
+        Ok(())
+    }
+
+    ghost apart = { byte_apart };
+}
+
 impl Field for bool {
     ghost use Rattle.mtn_records.specs.Fields.{flag_text};
     ghost use Rattle.mtn_records.specs.Apart.{flag_apart};

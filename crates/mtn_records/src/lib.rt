@@ -18,11 +18,13 @@ mod field;
 mod lists;
 mod names;
 mod record;
+mod rosters;
 
 pub use entry::{Numbered, NumberedAttr, NumberedBody, NumberedEntry};
 pub use error::RecordError;
 pub use field::Field;
 pub use record::{LogRecord, RosterRecord};
+pub use rosters::{read_roster, write_roster};
 
 #[cfg(test)]
 mod tests;
