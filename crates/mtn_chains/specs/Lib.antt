@@ -1,0 +1,4 @@
+pub mod Chain
+pub mod Spelled
+pub mod Difference
+pub mod Numbering

@@ -1,0 +1,45 @@
+-- The numbers that the nodes of a marked tree get.
+use Rattle.std.specs.Prelude.{◌≡◌, ℕ, ◌+◌, ◌<◌, not, Bool, List, map, find, filter, Option, Some, None, is_some, option_map, Contains}
+use Rattle.std.specs.List.{AllByRecursion, flat_map, position_from}
+use Rattle.mtn_base.specs.Names.{same_name}
+use Rattle.mtn_base.specs.declared.name.NodeName.{NodeName}
+use Rattle.mtn_marking.specs.Marking.{MarkedTree}
+use Rattle.mtn_roster.specs.declared.entry.Entry.{Entry}
+use Rattle.mtn_roster.specs.Tree.{Tree}
+use Rattle.mtn_roster.specs.Walk.{by_path}
+use Rattle.mtn_records.specs.declared.entry.NumberedEntry.{NumberedEntry}
+use Rattle.mtn_chains.specs.Chain.{Entries, number_of}
+use Rattle.mtn_chains.specs.Spelled.{Spells}
+
+-- all entries of some lists
+abbrev pub all_of : List Entries → Entries
+all_of known = flat_map (λ es. es) known
+
+-- the number that a node has already
+abbrev pub known_number : List Entries → NodeName → Option ℕ
+known_number known n = option_map number_of (find (λ e. same_name e.node n) (all_of known))
+
+-- the nodes without a number, as the walk meets them: depth first, parents first, children in byte order
+abbrev pub fresh : List Entries → Tree → List NodeName
+fresh known t = filter (λ n. not (is_some (known_number known n))) (map (λ (e : Entry). e.name) (by_path t))
+
+-- the number of a node of the tree: its own, or the next ones as the walk meets them
+abbrev pub or_next : ℕ → Option ℕ → Option ℕ → Option ℕ
+or_next next (Some n) place = Some n
+or_next next None place = option_map (λ k. next + k) place
+
+abbrev pub number_in : List Entries → ℕ → Tree → NodeName → Option ℕ
+number_in known next t n = or_next next (known_number known n) (position_from (λ m. same_name m n) 0 (fresh known t))
+
+-- Known numbers are from 1 and below the next, one for each node, and no two nodes have one
+pub record AreKnown (known : List Entries) (next : ℕ) : Type 0 where
+  pub next_from_one : 0 < next
+  pub from_one : (e : NumberedEntry) → Contains (all_of known) e → 0 < e.number
+  pub below : (e : NumberedEntry) → Contains (all_of known) e → e.number < next
+  pub one_number : (e f : NumberedEntry) → Contains (all_of known) e → Contains (all_of known) f → e.node ≡ f.node → e.number ≡ f.number
+  pub one_node : (e f : NumberedEntry) → Contains (all_of known) e → Contains (all_of known) f → e.number ≡ f.number → e.node ≡ f.node
+
+-- The entries spell the marked tree, and each has the number of its node
+pub record IsNumbering (known : List Entries) (next : ℕ) (t : MarkedTree) (new : Entries) : Type 0 where
+  pub spells : Spells new t
+  pub numbers : AllByRecursion (λ (e : NumberedEntry). number_in known next t.tree e.node ≡ Some e.number) new

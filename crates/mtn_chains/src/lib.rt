@@ -1,0 +1,16 @@
+//! Records of trees in chains: what a chain gives, what to write behind it, and the numbers of nodes.
+//!
+//! A tree's record has all its entries, or what differs from another's: a *delta*. A *chain* is a whole record and then
+//! deltas, each on what those before it give. The entries of a tree with marks stand by ascending *numbers*; each names its
+//! parent by its number, and 0 stands for the root slot. Entries *spell* a marked tree where it has their nodes with their
+//! marks, no others, and is sane.
+//!
+//! The crates above rely on this: [`rebuild`] answers the entries at the chain's end and the marked tree that they spell, and
+//! is `Bad` exactly where there is none; a chain with [`delta`]'s record behind it gives the new entries; what [`number`]
+//! gives spells the marked tree that it was given, known nodes keep their numbers, and new ones get the next.
+//!
+//! Cost: rebuilding is one merge for each delta and one build of the tree; a delta is one walk over two lists; numbering is a
+//! look-up by name for each known entry, one walk and one sort of numbers.
+#![tactic(auto)]
+
+pub mod laws;
