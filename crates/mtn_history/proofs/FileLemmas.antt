@@ -8,8 +8,11 @@ use Rattle.std.proofs.lemmas.Cmp.{nat_list_cmp_total}
 use Rattle.std.proofs.lemmas.Bool.Decides.{nat_tests}
 use Rattle.mtn_base.specs.declared.refusal.Cause.TheVariants.{Collision}
 use Rattle.std.proofs.lemmas.Slice.Eq.{bytes_eq-Decides}
-use Rattle.mtn_model.specs.Table.{Table, Contents, body_at, with_record, nothing}
-use Rattle.mtn_model.specs.State.{State, AreFiles, IsLawful, empty_state}
+use Rattle.mtn_model.specs.Table.{Table, Contents, body_at, with_record, nothing, no_table}
+use Rattle.mtn_model.specs.State.{State, AreFiles, empty_state}
+use Rattle.mtn_log.specs.Lawful.{Keeps, IsLawful}
+use Rattle.mtn_log.proofs.Histories.{history_none, history_kept}
+use Rattle.mtn_history.specs.Revisions.{AreKept, AreTexts, AreLogged, AreRosters}
 use Rattle.mtn_ports.specs.Kept.{with_all, IsBody}
 use Rattle.mtn_ports.proofs.KeptLemmas.{with_all-append}
 use Rattle.mtn_history.specs.declared.pending.Pending.{Pending}
@@ -52,20 +55,40 @@ files_more f files bytes law small = record {
   ];
 }
 
-lawful_more : (f : List ℕ → List ℕ) (s : State) (bytes : List ℕ) → IsLawful f s → length bytes ≤ 67108864 → IsLawful f (with_file f s bytes)
-lawful_more f s bytes law small = record { files = files_more f s.files bytes law.files small; log = law.log; certs = law.certs }
+-- a new file leaves every other
+keeps_more : (files : Table) (id bytes : List ℕ) → get files id ≡ None → Keeps files (insert files id bytes)
+keeps_more files id bytes none other held found = get_inserted files id bytes other ∙ past (bytes_eq other id) (bytes_eq-Decides other id).0
+  where
+    past : (t : Bool) → (t ≡ true → other ≡ id) → cond t (Some bytes) (get files other) ≡ Some held
+    past true same = absurd (let both : Some held ≡ None = sym found ∙ ap (get files) (same refl) ∙ none in cc)
+    past false same = found
+
+lawful_more : (f : List ℕ → List ℕ) (s : State) (bytes : List ℕ) → IsLawful f s → get s.files (f bytes) ≡ None → length bytes ≤ 67108864 → IsLawful f (with_file f s bytes)
+lawful_more f s bytes law none small = record {
+  files = files_more f s.files bytes law.files small;
+  history = law.history;
+  log = history_kept f s.files (insert s.files (f bytes) bytes) s.log law.history (keeps_more s.files (f bytes) bytes none) law.log;
+  certs = law.certs;
+}
 
 other_table : (n t : ℕ) (x y : Table) → t ≢ n → cond (eqb n t) x y ≡ y
 other_table n t x y other = let test : eqb n t ≡ false = grind (arith, nat_tests) in ap (λ b. cond b x y) test
 
 -- a file goes behind the records of a store
-file_stands : (f : List ℕ → List ℕ) (c : Contents) (s : State) (bytes : List ℕ) → StandsFor f c s → length bytes ≤ 67108864 →
+file_stands : (f : List ℕ → List ℕ) (c : Contents) (s : State) (bytes : List ℕ) → StandsFor f c s → get s.files (f bytes) ≡ None → length bytes ≤ 67108864 →
     StandsFor f (with_record c 2 (f bytes) bytes) (with_file f s bytes)
-file_stands f c s bytes stands small = record {
-  lawful = lawful_more f s bytes stands.lawful small;
+file_stands f c s bytes stands none small = record {
+  lawful = lawful_more f s bytes stands.lawful none small;
   meta = stands.meta;
   files = ap (λ m. insert m (f bytes) bytes) stands.files;
-  others = λ t n1 n2. other_table 2 t _ _ n2 ∙ stands.others t n1 n2;
+  texts = stands.texts;
+  history = stands.history;
+  spelled = history_kept f s.files (insert s.files (f bytes) bytes) s.log stands.history (keeps_more s.files (f bytes) bytes none) stands.spelled;
+  kept = stands.kept;
+  revisions = stands.revisions;
+  log = stands.log;
+  rosters = stands.rosters;
+  others = λ t other. other_table 2 t _ _ other.files ∙ stands.others t other;
 }
 
 pub empty_lawful : (f : List ℕ → List ℕ) → IsLawful f empty_state
@@ -74,12 +97,16 @@ empty_lawful f = record {
     sizes = λ id b found. absurd (none_there id b found);
     ids = λ id b found. absurd (none_there id b found);
   };
-  log = refl;
+  history = [];
+  log = history_none f empty;
   certs = refl;
 }
   where
     none_there : (id b : List ℕ) → get (empty {X = List ℕ} {R = slice_cmp nat_cmp}) id ≡ Some b → ⊥
     none_there id b found = let none : get (empty {X = List ℕ} {R = slice_cmp nat_cmp}) id ≡ None = get-empty (slice_cmp nat_cmp) id in cc
+
+none_in : (key body : List ℕ) → get no_table key ≡ Some body → ⊥
+none_in key body found = let none : get (empty {X = List ℕ} {R = slice_cmp nat_cmp}) key ≡ None = get-empty (slice_cmp nat_cmp) key in cc
 
 -- the records of table 1 alone
 new_stands : (f : List ℕ → List ℕ) → StandsFor f (with_all nothing (meta_puts true 0)) empty_state
@@ -87,7 +114,14 @@ new_stands f = record {
   lawful = empty_lawful f;
   meta = refl;
   files = refl;
-  others = λ t n1 n2. other_table 1 t _ _ n1 ∙ other_table 1 t _ _ n1;
+  texts = record { each = λ r l at. absurd cc; only = λ id body found. absurd (none_in id body found) };
+  history = [];
+  spelled = history_none f empty;
+  kept = [];
+  revisions = record { long = refl; each = λ r v k at below. absurd cc };
+  log = record { each = λ r v k at below. absurd cc; only = λ key body found. absurd (none_in key body found) };
+  rosters = record { each = λ r v k at below. absurd cc; only = λ key body found. absurd (none_in key body found) };
+  others = λ t other. other_table 1 t _ _ other.meta ∙ other_table 1 t _ _ other.meta;
 }
 
 -- what a draft stands for, by whether its store is new
@@ -120,7 +154,7 @@ kept_new f c p s bytes draft none small =
       record {
         count = draft.count;
         stands = rw (with_all-append c p.batch (record_puts p.is_new p.count 2 (f bytes) bytes), with_all-append (with_all c p.batch) (meta_puts p.is_new p.count) (put_of 2 (f bytes) bytes ∷ []))
-            (file_stands f _ s bytes (behind_meta p.is_new f (with_all c p.batch) p.count s draft.count draft.stands) small);
+            (file_stands f _ s bytes (behind_meta p.is_new f (with_all c p.batch) p.count s draft.count draft.stands) (ap (λ (m : Table). get m (f bytes)) (sym files) ∙ none) small);
       },
     )
 

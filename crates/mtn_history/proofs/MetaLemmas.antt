@@ -1,5 +1,5 @@
 -- What the records of table 1 say of a state.
-use Rattle.std.proofs.Common.{◌≡◌, ◌^◌, ◌<◌, inl, inr, ℕ, Bool, true, false, List, [], ◌∷◌, length, Option, Some, None, refl, sym, ap, ◌∙◌, subst, arith}
+use Rattle.std.proofs.Common.{◌≡◌, ◌≤◌, ◌^◌, ◌<◌, inl, inr, ℕ, Bool, true, false, List, [], ◌∷◌, length, Option, Some, None, refl, sym, ap, ◌∙◌, subst, arith}
 use Rattle.std.specs.Prelude.{MatchBool, IfSome, is_some}
 use Rattle.std.specs.Int.{w64, to_be_bytes, from_be_bytes}
 use Rattle.std.specs.FinMap.{get, get-empty, insert, empty}
@@ -7,7 +7,9 @@ use Rattle.std.specs.Ordering.{nat_cmp}
 use Rattle.std.specs.Cmp.Lexicographic.{slice_cmp}
 use Rattle.std.proofs.lemmas.Nat.{from_be_bytes-to_be_bytes_8}
 use Rattle.mtn_model.specs.Table.{Table, Contents, body_at}
-use Rattle.mtn_model.specs.State.{State, IsLawful}
+use Rattle.mtn_model.specs.State.{State}
+use Rattle.mtn_log.specs.Lawful.{IsLawful}
+use Rattle.mtn_log.proofs.Histories.{log_is_short}
 use Rattle.mtn_ports.specs.declared.batch.Put.{Put}
 use Rattle.mtn_ports.specs.Kept.{with_all, Adds, Same, MayLeave, IsBody}
 use Rattle.mtn_history.specs.declared.errors.Damage.{Damage}
@@ -38,16 +40,30 @@ held_version f c s stands = ap (λ (m : Table). get m version_key) stands.meta �
 none_held : (c : Contents) (s : State) (key : List ℕ) → IsNew c s → body_at c 1 key ≡ None
 none_held c s key new = ap (λ (d : Contents). body_at d 1 key) new.records ∙ get-empty (slice_cmp nat_cmp) key
 
+fits : (n : ℕ) → n ≤ 2147483648 → n < 2 ^ 64
+fits n le = omega (arith, le)
+
+told_back : (n : ℕ) → n ≤ 2147483648 → from_be_bytes w64 (to_be_bytes w64 n) ≡ n
+told_back n le = from_be_bytes-to_be_bytes_8 n (fits n le)
+
+clash : (o : Option (List ℕ)) (body : List ℕ) → o ≡ Some body → o ≡ None → ⊥
+clash o body there none = cc
+
+one_body : (o : Option (List ℕ)) (a b : List ℕ) → o ≡ Some a → o ≡ Some b → a ≡ b
+one_body o a b x y = cc
+
+-- the number of a store that is not new
+count_told : (n : ℕ) (f : List ℕ → List ℕ) (c : Contents) (s : State) → Counted c n → StandsFor f c s → n ≡ length s.log
+count_told n f c s meta stands =
+    let body : meta.body ≡ to_be_bytes w64 (length s.log) = one_body (body_at c 1 count_key) meta.body (to_be_bytes w64 (length s.log)) meta.held (held_count f c s stands) in
+    meta.number ∙ ap (from_be_bytes w64) body ∙ told_back (length s.log) (log_is_short f s.files s.log stands.history stands.spelled)
+
 opened_by : (b : Bool) (n : ℕ) (f : List ℕ → List ℕ) (c : Contents) (s : State) →
     MatchBool b ((body_at c 1 count_key ≡ None) × (n ≡ 0)) (Counted c n) → Stands f c s → (n ≡ length s.log) × MatchBool b (IsNew c s) (StandsFor f c s)
 opened_by true n f c s meta (inl new) = (meta.1 ∙ ap (λ (x : State). length x.log) (sym new.state), new)
-opened_by true n f c s meta (inr stands) = let there = held_count f c s stands in let none = meta.0 in cc
-opened_by false n f c s meta (inl new) = let none = none_held c s count_key new in let there = meta.held in cc
-opened_by false n f c s meta (inr stands) =
-    let body : meta.body ≡ to_be_bytes w64 (length s.log) = (let there = held_count f c s stands in let held = meta.held in cc) in
-    let none : length s.log ≡ 0 = ap length stands.lawful.log in
-    let small : length s.log < 2 ^ 64 = omega arith in
-    (meta.number ∙ ap (from_be_bytes w64) body ∙ from_be_bytes-to_be_bytes_8 (length s.log) small, stands)
+opened_by true n f c s meta (inr stands) = absurd (clash (body_at c 1 count_key) (to_be_bytes w64 (length s.log)) (held_count f c s stands) meta.0)
+opened_by false n f c s meta (inl new) = absurd (clash (body_at c 1 count_key) meta.body meta.held (none_held c s count_key new))
+opened_by false n f c s meta (inr stands) = (count_told n f c s meta stands, stands)
 
 -- what was read of table 1 begins a draft
 pub opened : (f : List ℕ → List ℕ) (told : Option Contents) (m : Meta) (p : Pending) → IfSome told (λ d. IsMetaOf d m) →

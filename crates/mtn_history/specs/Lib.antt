@@ -3,4 +3,5 @@ pub mod Errors
 pub mod Files
 pub mod Meta
 pub mod Records
+pub mod Revisions
 pub mod Stands

@@ -3,18 +3,36 @@ use Rattle.std.specs.Prelude.{◌≡◌, ◌≢◌, ◌⊎◌, ℕ, List, length
 use Rattle.mtn_history.specs.declared.errors.StoreError.{StoreError}
 use Rattle.mtn_history.specs.Errors.{IfDamage}
 use Rattle.mtn_model.specs.Table.{Contents, nothing, no_table}
-use Rattle.mtn_model.specs.State.{State, IsLawful, empty_state}
+use Rattle.mtn_model.specs.State.{State, empty_state}
+use Rattle.mtn_log.specs.Lawful.{IsHistory, IsLawful}
+use Rattle.mtn_growth.specs.History.{Revision}
+use Rattle.mtn_history.specs.Revisions.{Kept, AreKept, AreTexts, AreLogged, AreRosters}
 use Rattle.mtn_ports.specs.Kept.{with_all, IfTold}
 use Rattle.mtn_history.specs.Meta.{meta_of}
 use Rattle.mtn_history.specs.declared.pending.Pending.{Pending}
 
--- The records of a store that is not new: table 1 is `count` and `version`, table 2 the files, and no other has a record.
--- A command that keeps more takes its table out of `others` and gives it a field.
+-- The tables that have no field below are empty. A command that keeps more takes its table out of these and gives it a field.
+pub record IsOther (t : ℕ) : Type 0 where
+  pub meta : t ≢ 1
+  pub files : t ≢ 2
+  pub texts : t ≢ 3
+  pub log : t ≢ 4
+  pub rosters : t ≢ 5
+
+-- The records of a store that is not new: table 1 is `count` and `version`, table 2 the files, table 3 the texts of the log,
+-- and tables 4 and 5 what is kept of the history that they spell
 pub record StandsFor (f : List ℕ → List ℕ) (c : Contents) (s : State) : Type 0 where
   pub lawful : IsLawful f s
   pub meta : c 1 ≡ meta_of (length s.log)
   pub files : c 2 ≡ s.files
-  pub others : (t : ℕ) → t ≢ 1 → t ≢ 2 → c t ≡ no_table
+  pub texts : AreTexts s.log (c 3)
+  pub history : List Revision
+  pub spelled : IsHistory f s.files s.log history
+  pub kept : List Kept
+  pub revisions : AreKept history kept
+  pub log : AreLogged history kept (c 4)
+  pub rosters : AreRosters history kept (c 5)
+  pub others : (t : ℕ) → IsOther t → c t ≡ no_table
 
 -- both are empty
 pub record IsNew (c : Contents) (s : State) : Type 0 where

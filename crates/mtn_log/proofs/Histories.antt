@@ -1,11 +1,12 @@
 -- The history of a log: one, grown, and longer by each accepted text.
-use Rattle.std.specs.Prelude.{slice_get, option_map, find, is_none}
+use Rattle.std.specs.Prelude.{slice_get, option_map, find, is_none, nat_le}
 use Rattle.std.specs.FinMap.{get}
-use Rattle.std.proofs.Common.{◌≡◌, ◌≤◌, ◌<◌, ◌+◌, ℕ, zero, suc, Bool, List, [], ◌∷◌, ◌++◌, length, get_or, take, Option, Some, None, refl, sym, ◌∙◌, ap, subst, cond, arith}
-use Rattle.std.proofs.lemmas.List.{take_all, take_more, length-append, take-append-le, take_at}
+use Rattle.std.proofs.Common.{◌≡◌, ◌≤◌, ◌<◌, ◌+◌, ℕ, zero, suc, Bool, true, false, List, [], ◌∷◌, ◌++◌, length, get_or, take, Option, Some, None, refl, sym, ◌∙◌, ap, subst, cond, arith}
+use Rattle.std.proofs.lemmas.List.{take_all, take_more, length-take, length-append, take-append-le, take_at}
+use Rattle.std.proofs.lemmas.Bool.Decides.{nat_tests}
 use Rattle.mtn_base.specs.Hex.{id_of}
 use Rattle.mtn_base.specs.declared.id.Id.{Id}
-use Rattle.mtn_base.specs.declared.refusal.Cause.TheVariants.{UnknownFile}
+use Rattle.mtn_base.specs.declared.refusal.Cause.TheVariants.{LogFull, UnknownFile}
 use Rattle.mtn_changes.specs.declared.change.Edge.{Edge}
 use Rattle.mtn_changes.specs.declared.change.Revision.{Revision as Spelled}
 use Rattle.mtn_changes.proofs.OneValue.{same_revision}
@@ -150,3 +151,22 @@ next_kept f files more keeps h l v n =
 -- more files leave a history as it is
 pub history_kept : (f : List ℕ → List ℕ) (files more : Table) (log : List Logged) (h : List Revision) → Keeps files more → IsHistory f files log h → IsHistory f more log h
 history_kept f files more log h keeps is = record { long = is.long; each = λ k l v a b. next_kept f files more keeps (take k h) l v (is.each k l v a b) }
+
+not_full : (h : List Revision) → log_full h ≡ None → length h < 2147483648
+not_full h none = by (nat_le 2147483648 (length h)) refl none
+  where
+    by : (b : Bool) → nat_le 2147483648 (length h) ≡ b → cond b (Some (LogFull (length h))) None ≡ None → length h < 2147483648
+    by true is e = absurd cc
+    by false is e = grind (arith, nat_tests)
+
+-- a revision is accepted only where the log has room
+pub log_is_short : (f : List ℕ → List ℕ) (files : Table) (log : List Logged) (h : List Revision) → IsHistory f files log h → length log ≤ 2147483648
+log_is_short f files log h is = subst (λ n. n ≤ 2147483648) is.long (up_to (length h) refl)
+  where
+    up_to : (n : ℕ) → n ≡ length h → n ≤ 2147483648
+    up_to zero e = omega arith
+    up_to (suc n) e =
+        let lt : n < length h = omega (arith, e) in
+        let next = next_at f files log h is n lt in
+        let few = not_full (take n h) (both_none (log_full (take n h)) _ next.3.accepted).0 in
+        omega (arith, few, e, length-take n h)

@@ -10,7 +10,7 @@
 //! by one revision, and more files leave it as it is.
 #![tactic(auto)]
 
-ghost use Rattle.std.specs.Prelude.{◌≡◌, ℕ, List, [], ◌∷◌, ◌++◌, Some, None};
+ghost use Rattle.std.specs.Prelude.{◌≡◌, ◌≤◌, ℕ, List, [], ◌∷◌, ◌++◌, length, Some};
 ghost use Rattle.std.specs.FinMap.{get};
 ghost use Rattle.mtn_growth.specs.History.{Revision, IsGrown, TellsAncestors};
 ghost use Rattle.mtn_model.specs.State.{Logged};
@@ -33,6 +33,11 @@ pub fn one_history()
 pub fn above_tells()
     ensures { (f : List ℕ → List ℕ) (files : Table) (log : List Logged) (h : List Revision) (parent : Id) (p : ℕ) → IsHistory f files log h → place_of h parent ≡ Some p →
         TellsAncestors h p (is_above h (Some parent)) }
+{}
+
+/// A revision is accepted only where the log has room for it.
+pub fn log_is_short()
+    ensures { (f : List ℕ → List ℕ) (files : Table) (log : List Logged) (h : List Revision) → IsHistory f files log h → length log ≤ 2147483648 }
 {}
 
 /// An accepted text makes the history longer by one; more files leave it as it is.

@@ -39,9 +39,3 @@ empty_state = record { files = empty; log = []; certs = empty }
 pub record AreFiles (f : List ℕ → List ℕ) (files : Table) : Type 0 where
   pub sizes : (id bytes : List ℕ) → get files id ≡ Some bytes → length bytes ≤ 67108864
   pub ids : (id bytes : List ℕ) → get files id ≡ Some bytes → f bytes ≡ id
-
--- A lawful state. No command of today adds a revision or a certificate; those that do put their laws in place of the last two fields.
-pub record IsLawful (f : List ℕ → List ℕ) (s : State) : Type 0 where
-  pub files : AreFiles f s.files
-  pub log : s.log ≡ []
-  pub certs : s.certs ≡ empty
