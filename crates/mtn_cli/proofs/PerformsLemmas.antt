@@ -16,7 +16,7 @@ use Rattle.mtn_history.specs.Damage.{IsDamage}
 use Rattle.mtn_history.specs.Stands.{Stands, IsDraft, WasTold, Finishes, FinishLeaves}
 use Rattle.mtn_cli.specs.declared.answer.Reply.{Reply}
 use Rattle.mtn_cli.specs.Step.{Outcome}
-use Rattle.mtn_cli.specs.Performs.{Performs, Performed, Drafts, Drafted, Reason, HasReason}
+use Rattle.mtn_cli.specs.Performs.{Performs, Performed, Drafts, Drafted, Reason, HasReason, StandsAfter, replied}
 
 reason_of : (told : Option Contents) (before now : ℕ) (e : StoreError) → (e ≡ Failed → Rose before now) → IfSome told (λ c. IfDamage e (IsDamage c)) → Reason told before now e
 reason_of told before now Failed rose damage = rose refl
@@ -40,12 +40,12 @@ still old new c d same at now = now ∙ sym (same d now) ∙ at
 between : (old new ended : Option Contents) (c d : Contents) → Same old new → WasTold new ended → old ≡ Some c → ended ≡ Some d → new ≡ Some c
 between old new ended c d same was at now = let mid = was d now in still old new c mid.0 same at mid.1
 
-module _ (f : List ℕ → List ℕ) {K : Type 0} (contents : K → Option Contents) (leaves : K → Contents → Type 0) (faults : K → ℕ) (outcome : State → Outcome) where
+module _ (f : List ℕ → List ℕ) {K : Type 0} (contents : K → Option Contents) (leaves : K → Contents → Type 0) (faults : K → ℕ) (Outcomes : State → Outcome → Type 0) where
   -- an error with nothing applied
   stays_performs : (old new : K) (result : Result Reply HistoryError) (e : HistoryError) → result ≡ Err e → Stays contents leaves faults old new →
-      ((c d : Contents) (s : State) → contents new ≡ Some c → Stands f c s → Performed f s (outcome s) (Err e) d) →
-      HasReason (contents new) (faults old) (faults new) (Err e) → Performs f contents leaves faults old new outcome result
-  stays_performs old new result e is stays done reason = subst (Performs f contents leaves faults old new outcome) (sym is) record {
+      ((c d : Contents) (s : State) → contents new ≡ Some c → Stands f c s → Performed f s (Outcomes s) (Err e) d) →
+      HasReason (contents new) (faults old) (faults new) (Err e) → Performs f contents leaves faults old new Outcomes result
+  stays_performs old new result e is stays done reason = subst (Performs f contents leaves faults old new Outcomes) (sym is) record {
     done = λ c d s told now stands. done c d s (still (contents old) (contents new) c d stays.same told now) stands;
     crash = λ c d e s told now stands left. inl (stays.crash d now e left);
     unchanged = stays.same;
@@ -56,23 +56,23 @@ module _ (f : List ℕ → List ℕ) {K : Type 0} (contents : K → Option Conte
   -- opening failed
   pub open_failed : (old new : K) (result : Result Reply HistoryError) (e : StoreError) → result ≡ Err (Store e) → Stays contents leaves faults old new →
       ((c : Contents) (s : State) → contents new ≡ Some c → Stands f c s → IfDamage e (λ _. ⊥)) →
-      (e ≡ Failed → Rose (faults old) (faults new)) → IfSome (contents new) (λ c. IfDamage e (IsDamage c)) → Performs f contents leaves faults old new outcome result
+      (e ≡ Failed → Rose (faults old) (faults new)) → IfSome (contents new) (λ c. IfDamage e (IsDamage c)) → Performs f contents leaves faults old new Outcomes result
   open_failed old new result e is stays sound failed damaged =
       stays_performs old new result (Store e) is stays (λ c d s now stands. sound c s now stands) (reason_of (contents new) (faults old) (faults new) e failed damaged)
 
-  error_from_drafted : (c d : Contents) (s : State) (o : Outcome) (e : HistoryError) (p : Pending) → Drafted f c s o (Err e) p → Performed f s o (Err e) d
-  error_from_drafted c d s o (Refused cause) p drafted = drafted
-  error_from_drafted c d s o (Store e) p drafted = drafted
+  error_from_drafted : (c d : Contents) (s : State) (Is : Outcome → Type 0) (e : HistoryError) (p : Pending) → Drafted f c s Is (Err e) p → Performed f s Is (Err e) d
+  error_from_drafted c d s Is (Refused cause) p drafted = drafted
+  error_from_drafted c d s Is (Store e) p drafted = drafted
 
   -- what is known where a draft was opened and the command worked on it
   pub record Worked (old new : K) (after : Pending) (r : Result Reply HistoryError) : Type 0 where
     pub stays : Stays contents leaves faults old new
-    pub done : (c : Contents) (s : State) → contents new ≡ Some c → Stands f c s → Drafted f c s (outcome s) r after
+    pub done : (c : Contents) (s : State) → contents new ≡ Some c → Stands f c s → Drafted f c s (Outcomes s) r after
     pub reason : HasReason (contents new) (faults old) (faults new) r
 
   pub worked : (old opened begun new : K) (pending before after : Pending) (r : Result Reply HistoryError) → Stays contents leaves faults old opened →
       ((c : Contents) (s : State) → contents opened ≡ Some c → Stands f c s → IsDraft f c pending s) → begun ≡ opened → before ≡ pending →
-      Drafts f contents leaves faults begun new before after outcome r → Worked old new after r
+      Drafts f contents leaves faults begun new before after Outcomes r → Worked old new after r
   worked old opened begun new pending before after r stays opens same is drafts =
       let to_begun : Stays contents leaves faults old begun = subst (Stays contents leaves faults old) (sym same) stays in
       record {
@@ -83,27 +83,31 @@ module _ (f : List ℕ → List ℕ) {K : Type 0} (contents : K → Option Conte
 
   -- the command gave an error
   pub reply_failed : (old new final : K) (after : Pending) (result : Result Reply HistoryError) (e : HistoryError) → final ≡ new → result ≡ Err e →
-      Worked old new after (Err e) → Performs f contents leaves faults old final outcome result
-  reply_failed old new final after result e ends is work = subst (λ k. Performs f contents leaves faults old k outcome result) (sym ends)
-      (stays_performs old new result e is work.stays (λ c d s now stands. error_from_drafted c d s (outcome s) e after (work.done c s now stands)) work.reason)
+      Worked old new after (Err e) → Performs f contents leaves faults old final Outcomes result
+  reply_failed old new final after result e ends is work = subst (λ k. Performs f contents leaves faults old k Outcomes result) (sym ends)
+      (stays_performs old new result e is work.stays (λ c d s now stands. error_from_drafted c d s (Outcomes s) e after (work.done c s now stands)) work.reason)
 
   -- what a crash may leave once the draft was finished, or that failed
   finish_crash : (old new ended : K) (after : Pending) (reply : Reply) → Worked old new after (Ok reply) → WasTold (contents new) (contents ended) →
       FinishLeaves after (contents new) (contents ended) (leaves new) (leaves ended) →
-      (c d e : Contents) (s : State) → contents old ≡ Some c → contents ended ≡ Some d → Stands f c s → leaves ended e → leaves old e ⊎ Stands f e (outcome s).state
+      (c d e : Contents) (s : State) → contents old ≡ Some c → contents ended ≡ Some d → Stands f c s → leaves ended e → leaves old e ⊎ StandsAfter f (Outcomes s) e
   finish_crash old new ended after reply work was crash c d e s told now stands left =
       let mid : contents new ≡ Some c = between (contents old) (contents new) (contents ended) c d work.stays.same was told now in
-      elim (crash f c d (outcome s).state mid now (work.done c s mid stands).2 e left) [ inl before ↦ inl (work.stays.crash c mid e before) | inr after_it ↦ inr after_it ]
+      let did = work.done c s mid stands in
+      elim (crash f c d did.0 mid now did.2 e left) [
+        | inl before ↦ inl (work.stays.crash c mid e before)
+        | inr after_it ↦ inr (record { outcome = replied reply did.0; is = did.1; stands = after_it })
+      ]
 
   -- the draft was finished
   pub finished : (old new ended final : K) (after : Pending) (reply : Reply) → final ≡ ended → Worked old new after (Ok reply) → WasTold (contents new) (contents ended) →
       FinishLeaves after (contents new) (contents ended) (leaves new) (leaves ended) → faults new ≤ faults ended → Finishes after (contents new) (contents ended) →
-      Performs f contents leaves faults old final outcome (Ok reply)
-  finished old new ended final after reply ends work was crash later ok = subst (λ k. Performs f contents leaves faults old k outcome (Ok reply)) (sym ends) record {
+      Performs f contents leaves faults old final Outcomes (Ok reply)
+  finished old new ended final after reply ends work was crash later ok = subst (λ k. Performs f contents leaves faults old k Outcomes (Ok reply)) (sym ends) record {
     done = λ c d s told now stands.
         let mid : contents new ≡ Some c = between (contents old) (contents new) (contents ended) c d work.stays.same was told now in
         let did = work.done c s mid stands in
-        record { text = did.0; status = did.1; stands = ok f c d (outcome s).state mid now did.2 };
+        (did.0, did.1, ok f c d did.0 mid now did.2);
     crash = finish_crash old new ended after reply work was crash;
     unchanged = tt;
     later = omega (arith, work.stays.later, later);
@@ -114,8 +118,8 @@ module _ (f : List ℕ → List ℕ) {K : Type 0} (contents : K → Option Conte
   pub finish_failed : (old new ended final : K) (after : Pending) (reply : Reply) (result : Result Reply HistoryError) (e : StoreError) → final ≡ ended → result ≡ Err (Store e) → Worked old new after (Ok reply) →
       WasTold (contents new) (contents ended) → FinishLeaves after (contents new) (contents ended) (leaves new) (leaves ended) → faults new ≤ faults ended →
       Same (contents new) (contents ended) → (e ≡ Failed → Rose (faults new) (faults ended)) → IfDamage e (λ _. ⊥) →
-      Performs f contents leaves faults old final outcome result
-  finish_failed old new ended final after reply result e ends is work was crash later same failed sound = subst (λ k. Performs f contents leaves faults old k outcome result) (sym ends) (subst (Performs f contents leaves faults old ended outcome) (sym is) record {
+      Performs f contents leaves faults old final Outcomes result
+  finish_failed old new ended final after reply result e ends is work was crash later same failed sound = subst (λ k. Performs f contents leaves faults old k Outcomes result) (sym ends) (subst (Performs f contents leaves faults old ended Outcomes) (sym is) record {
     done = λ c d s told now stands. sound;
     crash = finish_crash old new ended after reply work was crash;
     unchanged = λ d now. work.stays.same d (same d now);

@@ -19,9 +19,9 @@ use Rattle.mtn_cli.specs.declared.answer.Answer.{Answer}
 use Rattle.mtn_cli.specs.declared.command.Call.{Call}
 use Rattle.mtn_cli.specs.declared.status.Status.{Status}
 use Rattle.mtn_cli.specs.declared.status.Status.TheVariants as status
-use Rattle.mtn_cli.specs.Step.{step, reads, takes_payload, fed, reply_status, refusal_line, usage_line}
+use Rattle.mtn_cli.specs.Step.{Steps, reads, takes_payload, fed, reply_status, refusal_line, usage_line}
 use Rattle.mtn_cli.specs.Texts.{damage_line}
-use Rattle.mtn_cli.specs.Performs.{Performs}
+use Rattle.mtn_cli.specs.Performs.{Performs, StandsAfter}
 use Rattle.mtn_cli.specs.Settles.{Settles, answer_of, want}
 use Rattle.mtn_cli.specs.Kinds.{Kind, Answered, Cut, Quiet, Hurt, kind_of, ByKind}
 use Rattle.mtn_cli.specs.Limit.{Past, Within}
@@ -118,7 +118,7 @@ module _ (f : List ℕ → List ℕ) {K : Type 0} (contents : K → Option Conte
       (answer ≡ answer_of status.Usage usage_line) ⊎ (answer ≡ want) → Computes f call contents leaves faults old old left left s0 s0 answer
   used call old left s0 answer none (inl is) = subst (λ x. Computes f x contents leaves faults old old left left s0 s0 answer) (sym none)
       (subst (Computes f None contents leaves faults old old left left s0 s0) (sym is) record {
-        done = λ c d s input told now stands reads. record { status = refl; text = refl; stands = same_stands (contents old) (contents old) (λ d at. at) c d s told now stands; source = refl };
+        done = λ c d s input told now stands reads. record { outcome = _; is = refl; status = refl; text = refl; stands = same_stands (contents old) (contents old) (λ d at. at) c d s told now stands; source = refl };
         crash = λ c d e s input told now stands reads left. inl left;
         lawful = same_lawful (contents old) (contents old) (λ d at. at);
         quiet = tt;
@@ -151,29 +151,29 @@ module _ (f : List ℕ → List ℕ) {K : Type 0} (contents : K → Option Conte
         by_kind false told took = took
 
     abbrev Over : Result Reply HistoryError → Type 0
-    Over r = Performs f contents leaves faults old new (λ s. step f s k payload) r
+    Over r = Performs f contents leaves faults old new (Steps f k payload) r
 
     abbrev Target : Answer → Type 0
     Target answer = Computes f (Some k) contents leaves faults old new left0 left1 s0 s1 answer
 
     crash_over : (r : Result Reply HistoryError) → Over r → (c d e : Contents) (s : State) (input : List ℕ) → contents old ≡ Some c → contents new ≡ Some d → Stands f c s → OnTrue (reads (Some k)) (left0 ≡ Some input) →
-        leaves new e → leaves old e ⊎ Stands f e (step f s k (fed (takes_payload k) input)).state
+        leaves new e → leaves old e ⊎ StandsAfter f (Steps f k (fed (takes_payload k) input) s) e
     crash_over r performs c d e s input told now stands left may =
-        subst (λ p. leaves old e ⊎ Stands f e (step f s k p).state) (input_of input left).0 (performs.crash c d e s told now stands may)
+        subst (λ p. leaves old e ⊎ StandsAfter f (Steps f k p s) e) (input_of input left).0 (performs.crash c d e s told now stands may)
 
     lawful_over : (r : Result Reply HistoryError) → Over r → StaysLawful f (contents old) (contents new)
-    lawful_over (Ok reply) performs c d s told now stands = let after = (performs.done c d s told now stands).stands in ((step f s k payload).state, after, lawful_of f d _ after)
+    lawful_over (Ok reply) performs c d s told now stands = let did = performs.done c d s told now stands in (did.0, did.2, lawful_of f d did.0 did.2)
     lawful_over (Err e) performs c d s told now stands = same_lawful (contents old) (contents new) performs.unchanged c d s told now stands
 
-    -- an answer, which tells all that the outcome says
+    -- an answer, which tells all that an outcome says
     answered : (r : Result Reply HistoryError) (st : Status) (text : List ℕ) → Over r → ByKind (kind_of st) ⊤ ⊥ ⊥ ⊥ → (st ≡ status.Usage → ⊥) →
-        ((c d : Contents) (s : State) → contents old ≡ Some c → contents new ≡ Some d → Stands f c s → (st ≡ (step f s k payload).status) × (text ≡ (step f s k payload).output) × Stands f d (step f s k payload).state) →
+        ((c d : Contents) (s : State) → contents old ≡ Some c → contents new ≡ Some d → Stands f c s → (t : State) × Steps f k payload s (record { state = t; output = text; status = st }) × Stands f d t) →
         Target (answer_of st text)
     answered r st text performs kind other did = record {
       done = λ c d s input told now stands left. as_answered (kind_of st) _ _ _ _ kind
           (let all = did c d s told now stands in
-          subst (λ p. Answers f (step f s k p) (reads (Some k)) left0 left1 (answer_of st text) d) (input_of input left).0
-          (record { status = all.0; text = all.1; stands = all.2; source = (input_of input left).1 }));
+          subst (λ p. Answers f (Steps f k p s) (reads (Some k)) left0 left1 (answer_of st text) d) (input_of input left).0
+          (record { outcome = record { state = all.0; output = text; status = st }; is = all.1; status = refl; text = refl; stands = all.2; source = (input_of input left).1 }));
       crash = crash_over r performs;
       lawful = lawful_over r performs;
       quiet = as_answered (kind_of st) _ _ _ _ kind tt;
@@ -196,11 +196,9 @@ module _ (f : List ℕ → List ℕ) {K : Type 0} (contents : K → Option Conte
     wants r performs same = quiet_of r status.NoMemory performs same tt (want_causes (Some k) left0 left1 s0 s1 _ _)
 
     settled_on : (r : Result Reply HistoryError) (answer : Answer) → Over r → Settles r answer → Target answer
-    settled_on (Ok reply) answer performs is = subst Target (sym is) (answered _ (reply_status reply) reply.text performs (reply_answers reply.conflicts) (reply_no_usage reply.conflicts)
-        (λ c d s told now stands. let did = performs.done c d s told now stands in (did.status, did.text, did.stands)))
+    settled_on (Ok reply) answer performs is = subst Target (sym is) (answered _ (reply_status reply) reply.text performs (reply_answers reply.conflicts) (reply_no_usage reply.conflicts) performs.done)
     settled_on (Err (Refused cause)) answer performs (inl is) = subst Target (sym is) (answered _ status.Refused (refusal_line cause) performs tt (λ is. cc)
-        (λ c d s told now stands. let did = performs.done c d s told now stands in
-        (sym did.status, sym did.output, subst (Stands f d) (sym did.state) (same_stands (contents old) (contents new) performs.unchanged c d s told now stands))))
+        (λ c d s told now stands. (s, performs.done c d s told now stands, same_stands (contents old) (contents new) performs.unchanged c d s told now stands)))
     settled_on (Err (Refused cause)) answer performs (inr is) = subst Target (sym is) (wants _ performs performs.unchanged)
     settled_on (Err (Store Failed)) answer performs is = subst Target (sym is) (quiet_of _ status.StoreFault performs performs.unchanged tt (store_causes k left0 left1 s0 s1 _ _ performs.reason within))
     settled_on (Err (Store NoMemory)) answer performs is = subst Target (sym is) (wants _ performs performs.unchanged)
@@ -218,7 +216,7 @@ module _ (f : List ℕ → List ℕ) {K : Type 0} (contents : K → Option Conte
     settled_on (Err (Store (Damaged d))) answer performs (inr is) = subst Target (sym is) (wants _ performs performs.unchanged)
 
   pub settled : (call : Option Call) (k : Call) (old new : K) (left0 left1 : Option (List ℕ)) (s0 s1 : ℕ) (payload : List ℕ) (r : Result Reply HistoryError) (answer : Answer) →
-      call ≡ Some k → Feeds (takes_payload k) left0 left1 payload → Within left0 left1 → Performs f contents leaves faults old new (λ s. step f s k payload) r → Settles r answer →
+      call ≡ Some k → Feeds (takes_payload k) left0 left1 payload → Within left0 left1 → Performs f contents leaves faults old new (Steps f k payload) r → Settles r answer →
       Computes f call contents leaves faults old new left0 left1 s0 s1 answer
   settled call k old new left0 left1 s0 s1 payload r answer is feeds within performs settles =
       subst (λ x. Computes f x contents leaves faults old new left0 left1 s0 s1 answer) (sym is)

@@ -8,32 +8,28 @@ use Rattle.mtn_history.specs.Stands.{Stands, IsDraft}
 use Rattle.mtn_history.specs.declared.pending.Pending.{Pending}
 use Rattle.mtn_ports.specs.Kept.{Same, Stays}
 use Rattle.mtn_history.specs.Errors.{IfDamage}
-use Rattle.mtn_base.specs.declared.refusal.Cause.{Cause}
 use Rattle.mtn_history.specs.declared.errors.StoreError.{StoreError}
 use Rattle.mtn_history.specs.declared.errors.StoreError.TheVariants.{Failed, Damaged, NoMemory}
 use Rattle.mtn_history.specs.declared.errors.HistoryError.{HistoryError}
 use Rattle.mtn_history.specs.declared.errors.HistoryError.TheVariants.{Refused, Store}
 use Rattle.mtn_cli.specs.declared.answer.Reply.{Reply}
-use Rattle.mtn_cli.specs.declared.status.Status.TheVariants as status
-use Rattle.mtn_cli.specs.Step.{Outcome, refusal_line, reply_status}
+use Rattle.mtn_cli.specs.Step.{Outcome, refused, reply_status}
 
--- the reply is the outcome's, and the records stand for its state
-pub record Replies (f : List ℕ → List ℕ) (o : Outcome) (reply : Reply) (now : Contents) : Type 0 where
-  pub text : reply.text ≡ o.output
-  pub status : reply_status reply ≡ o.status
-  pub stands : Stands f now o.state
+-- the outcome that a reply tells, over this state
+abbrev pub replied : Reply → State → Outcome
+replied reply t = record { state = t; output = reply.text; status = reply_status reply }
 
--- the outcome is this refusal, and leaves the state
-pub record IsRefusal (o : Outcome) (cause : Cause) (s : State) : Type 0 where
-  pub status : o.status ≡ status.Refused
-  pub output : o.output ≡ refusal_line cause
-  pub state : o.state ≡ s
+-- the records stand for the state of such an outcome
+pub record StandsAfter (f : List ℕ → List ℕ) (Is : Outcome → Type 0) (now : Contents) : Type 0 where
+  pub outcome : Outcome
+  pub is : Is outcome
+  pub stands : Stands f now outcome.state
 
 -- the answer over records that stand for a state
-abbrev pub Performed : (List ℕ → List ℕ) → State → Outcome → Result Reply HistoryError → Contents → Type 0
-Performed f s o (Ok reply) now = Replies f o reply now
-Performed f s o (Err (Refused cause)) now = IsRefusal o cause s
-Performed f s o (Err (Store e)) now = IfDamage e (λ _. ⊥)
+abbrev pub Performed : (List ℕ → List ℕ) → State → (Outcome → Type 0) → Result Reply HistoryError → Contents → Type 0
+Performed f s Is (Ok reply) now = (t : State) × Is (replied reply t) × Stands f now t
+Performed f s Is (Err (Refused cause)) now = Is (refused cause s)
+Performed f s Is (Err (Store e)) now = IfDamage e (λ _. ⊥)
 
 -- an error leaves the records
 abbrev pub Unchanged : Option Contents → Option Contents → Result Reply HistoryError → Type 0
@@ -51,24 +47,24 @@ HasReason told before now (Ok reply) = ⊤
 HasReason told before now (Err (Refused cause)) = ⊤
 HasReason told before now (Err (Store e)) = Reason told before now e
 
--- What a command does over a keeper, seen by the keeper's contents, leaves and faults. `outcome` is what it does to a state.
+-- What a command does over a keeper, seen by the keeper's contents, leaves and faults. `Outcomes` says what it does to a state.
 pub record Performs (f : List ℕ → List ℕ) {K : Type 0} (contents : K → Option Contents) (leaves : K → Contents → Type 0) (faults : K → ℕ) (old new : K)
-    (outcome : State → Outcome) (result : Result Reply HistoryError) : Type 0 where
-  pub done : (c d : Contents) (s : State) → contents old ≡ Some c → contents new ≡ Some d → Stands f c s → Performed f s (outcome s) result d
-  pub crash : (c d e : Contents) (s : State) → contents old ≡ Some c → contents new ≡ Some d → Stands f c s → leaves new e → leaves old e ⊎ Stands f e (outcome s).state
+    (Outcomes : State → Outcome → Type 0) (result : Result Reply HistoryError) : Type 0 where
+  pub done : (c d : Contents) (s : State) → contents old ≡ Some c → contents new ≡ Some d → Stands f c s → Performed f s (Outcomes s) result d
+  pub crash : (c d e : Contents) (s : State) → contents old ≡ Some c → contents new ≡ Some d → Stands f c s → leaves new e → leaves old e ⊎ StandsAfter f (Outcomes s) e
   pub unchanged : Unchanged (contents old) (contents new) result
   pub later : faults old ≤ faults new
   pub reason : HasReason (contents new) (faults old) (faults new) result
 
 -- the answer of a command over a draft
-abbrev pub Drafted : (List ℕ → List ℕ) → Contents → State → Outcome → Result Reply HistoryError → Pending → Type 0
-Drafted f c s o (Ok reply) p = (reply.text ≡ o.output) × (reply_status reply ≡ o.status) × IsDraft f c p o.state
-Drafted f c s o (Err (Refused cause)) p = IsRefusal o cause s
-Drafted f c s o (Err (Store e)) p = IfDamage e (λ _. ⊥)
+abbrev pub Drafted : (List ℕ → List ℕ) → Contents → State → (Outcome → Type 0) → Result Reply HistoryError → Pending → Type 0
+Drafted f c s Is (Ok reply) p = (t : State) × Is (replied reply t) × IsDraft f c p t
+Drafted f c s Is (Err (Refused cause)) p = Is (refused cause s)
+Drafted f c s Is (Err (Store e)) p = IfDamage e (λ _. ⊥)
 
 -- What a command does over a draft. This is the clause of each command's function.
 pub record Drafts (f : List ℕ → List ℕ) {K : Type 0} (contents : K → Option Contents) (leaves : K → Contents → Type 0) (faults : K → ℕ) (old new : K)
-    (before after : Pending) (outcome : State → Outcome) (result : Result Reply HistoryError) : Type 0 where
+    (before after : Pending) (Outcomes : State → Outcome → Type 0) (result : Result Reply HistoryError) : Type 0 where
   pub stays : Stays contents leaves faults old new
-  pub done : (c : Contents) (s : State) → contents new ≡ Some c → IsDraft f c before s → Drafted f c s (outcome s) result after
+  pub done : (c : Contents) (s : State) → contents new ≡ Some c → IsDraft f c before s → Drafted f c s (Outcomes s) result after
   pub reason : HasReason (contents new) (faults old) (faults new) result

@@ -16,7 +16,8 @@ use Rattle.mtn_cli.specs.declared.status.Status.{Status}
 use Rattle.mtn_cli.specs.declared.status.Status.TheVariants.{Usage, SourceFault, SinkFault, StoreFault, NoMemory, TooLong}
 use Rattle.mtn_cli.specs.Kinds.{kind_of, ByKind}
 use Rattle.mtn_cli.specs.Limit.{Past, Within}
-use Rattle.mtn_cli.specs.Step.{Outcome, session_of, reads}
+use Rattle.mtn_cli.specs.Step.{Outcome, SessionOf, reads}
+use Rattle.mtn_cli.specs.Performs.{StandsAfter}
 use Rattle.mtn_cli.specs.Texts.{damage_line}
 
 -- a source that is read is at its end, and another is as it was
@@ -29,11 +30,13 @@ abbrev pub Feeds : Bool → Option (List ℕ) → Option (List ℕ) → List ℕ
 Feeds true old new payload = Consumes old new payload × IsAtEnd new
 Feeds false old new payload = (payload ≡ []) × (new ≡ old)
 
--- the answer is the outcome's, the records stand for its state
-pub record Answers (f : List ℕ → List ℕ) (o : Outcome) (reads : Bool) (left0 left1 : Option (List ℕ)) (answer : Answer) (now : Contents) : Type 0 where
-  pub status : answer.status ≡ o.status
-  pub text : answer.text ≡ o.output
-  pub stands : Stands f now o.state
+-- the answer is such an outcome's, the records stand for its state
+pub record Answers (f : List ℕ → List ℕ) (Is : Outcome → Type 0) (reads : Bool) (left0 left1 : Option (List ℕ)) (answer : Answer) (now : Contents) : Type 0 where
+  pub outcome : Outcome
+  pub is : Is outcome
+  pub status : answer.status ≡ outcome.status
+  pub text : answer.text ≡ outcome.output
+  pub stands : Stands f now outcome.state
   pub source : LeavesSource reads left0 left1
 
 -- Usage, a fault and TooLong come only by their causes. Words outside the grammar come to Usage, and an input past the limit to TooLong, but for want of memory and a sink that fails.
@@ -61,9 +64,9 @@ StaysLawful f old new = (c d : Contents) (s : State) → old ≡ Some c → new 
 pub record Computes (f : List ℕ → List ℕ) (call : Option Call) {K : Type 0} (contents : K → Option Contents) (leaves : K → Contents → Type 0) (faults : K → ℕ) (old new : K)
     (left0 left1 : Option (List ℕ)) (s0 s1 : ℕ) (answer : Answer) : Type 0 where
   pub done : (c d : Contents) (s : State) (input : List ℕ) → contents old ≡ Some c → contents new ≡ Some d → Stands f c s → OnTrue (reads call) (left0 ≡ Some input) →
-      ByKind (kind_of answer.status) (Answers f (session_of f s call input) (reads call) left0 left1 answer d) ⊥ ⊤ ⊥
+      ByKind (kind_of answer.status) (Answers f (SessionOf f call input s) (reads call) left0 left1 answer d) ⊥ ⊤ ⊥
   pub crash : (c d e : Contents) (s : State) (input : List ℕ) → contents old ≡ Some c → contents new ≡ Some d → Stands f c s → OnTrue (reads call) (left0 ≡ Some input) →
-      leaves new e → leaves old e ⊎ Stands f e (session_of f s call input).state
+      leaves new e → leaves old e ⊎ StandsAfter f (SessionOf f call input s) e
   pub lawful : StaysLawful f (contents old) (contents new)
   pub quiet : ByKind (kind_of answer.status) ⊤ ⊥ ((answer.text ≡ []) × Same (contents old) (contents new))
       (IfTold (contents new) (λ c. ShowsDamage c (λ line. answer.text ≡ line)) × Same (contents old) (contents new))

@@ -1,5 +1,5 @@
 -- What a command does to a state, and what it answers.
-use Rattle.std.specs.Prelude.{List, [], ◌∷◌, ◌++◌, Option, Some, None, ℕ, codes, Bool, true, false, if◌then◌else◌}
+use Rattle.std.specs.Prelude.{◌≡◌, List, [], ◌∷◌, ◌++◌, Option, Some, None, ℕ, codes, Bool, true, false, if◌then◌else◌}
 use Rattle.mtn_cli.specs.declared.answer.Reply.{Reply}
 use Rattle.hex.specs.Hex.{encode_lower}
 use Rattle.mtn_model.specs.State.{State}
@@ -32,20 +32,29 @@ id_line id = encode_lower id ++ 10 ∷ []
 abbrev pub refusal_line : Cause → List ℕ
 refusal_line cause = line_of (record { packet = 0; cause = cause })
 
+-- what was done, and answered
+abbrev pub done : State → List ℕ → Outcome
+done new output = record { state = new; output = output; status = status.Ok }
+
+-- the line of a refusal; the state is left
+abbrev pub refused : Cause → State → Outcome
+refused cause old = record { state = old; output = refusal_line cause; status = status.Refused }
+
 -- the refusal, if there is one, and else what was done
 abbrev pub unless : Option Cause → State → State → List ℕ → Outcome
-unless None old new output = record { state = new; output = output; status = status.Ok }
-unless (Some cause) old new output = record { state = old; output = refusal_line cause; status = status.Refused }
+unless None old new output = done new output
+unless (Some cause) old new output = refused cause old
 
 -- the bytes that are held, or the refusal that none are
 abbrev pub found_file : State → Id → Option (List ℕ) → Outcome
-found_file s id None = record { state = s; output = refusal_line (UnknownFile id); status = status.Refused }
-found_file s id (Some bytes) = record { state = s; output = bytes; status = status.Ok }
+found_file s id None = refused (UnknownFile id) s
+found_file s id (Some bytes) = done s bytes
 
--- One equation a command; f is what the ident makes of a text.
-abbrev pub step : (List ℕ → List ℕ) → State → Call → List ℕ → Outcome
-step f s PutFile payload = unless (file_refusal f s payload) s (with_file f s payload) (id_line (f payload))
-step f s (GetFile id) payload = found_file s id (get s.files id.0)
+-- The outcome of a command over a state, one line a command; f is what the ident makes of a text. A lawful state has one
+-- (`one_outcome`).
+abbrev pub Steps : (List ℕ → List ℕ) → Call → List ℕ → State → Outcome → Type 0
+Steps f PutFile payload s o = o ≡ unless (file_refusal f s payload) s (with_file f s payload) (id_line (f payload))
+Steps f (GetFile id) payload s o = o ≡ found_file s id (get s.files id.0)
 
 abbrev pub usage_line : List ℕ
 usage_line = codes "usage" ++ 10 ∷ []
@@ -66,9 +75,9 @@ fed true input = input
 fed false input = []
 
 -- a command by its words; words outside the grammar leave the state
-abbrev pub session_of : (List ℕ → List ℕ) → State → Option Call → List ℕ → Outcome
-session_of f s None input = record { state = s; output = usage_line; status = status.Usage }
-session_of f s (Some call) input = step f s call (fed (takes_payload call) input)
+abbrev pub SessionOf : (List ℕ → List ℕ) → Option Call → List ℕ → State → Outcome → Type 0
+SessionOf f None input s o = o ≡ record { state = s; output = usage_line; status = status.Usage }
+SessionOf f (Some call) input s o = Steps f call (fed (takes_payload call) input) s o
 
-abbrev pub session : (List ℕ → List ℕ) → State → List (List ℕ) → List ℕ → Outcome
-session f s words input = session_of f s (call_of words) input
+abbrev pub Session : (List ℕ → List ℕ) → List (List ℕ) → List ℕ → State → Outcome → Type 0
+Session f words input s o = SessionOf f (call_of words) input s o

@@ -1,7 +1,7 @@
 // The command `get_file`.
 ghost use Rattle.std.specs.Prelude.{◌≡◌};
 ghost use Rattle.mtn_cli.specs.Performs.{Drafts};
-ghost use Rattle.mtn_cli.specs.Step.{step};
+ghost use Rattle.mtn_cli.specs.Step.{Steps};
 
 use crate::answer::Reply;
 use crate::command::Call;
@@ -20,7 +20,7 @@ pub fn get_file<I: Ident, K: Keeper>(
 ) -> Result<Reply, HistoryError>
     ensures same_reference { draft.new.keeper.ghost_name ≡ draft.old.keeper.ghost_name }
     ensures drafts { Drafts (I.meaning ident.now) K.contents K.leaves K.faults draft.old.keeper.now draft.new.keeper.now draft.old.pending draft.new.pending
-        (λ s. step (I.meaning ident.now) s (Call.GetFile id) payload.now) result }
+        (Steps (I.meaning ident.now) (Call.GetFile id) payload.now) result }
 {
     let mut text = Vec::new(alloc);
     draft.file(id, &mut text)?;

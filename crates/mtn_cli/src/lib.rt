@@ -2,9 +2,9 @@
 //!
 //! *Words* are a command and its arguments, the *payload* is what the source gives. A command is done
 //! over a *draft* of the store (`mtn_history`), and its *answer* is a status and a text. What each
-//! command does to a state is one equation of the step (`specs/Step.antt`), what words spell it one
-//! equation of the grammar (`specs/Words.antt`), and its function has the one clause `Drafts` that all
-//! have; the frame (open a draft, do the command, finish, write) is proved once for all of them.
+//! command does to a state is one line of `Steps` (`specs/Step.antt`), what words spell it one line of
+//! the grammar (`specs/Words.antt`), and its function has the one clause `Drafts` that all have; the
+//! frame (open a draft, do the command, finish, write) is proved once for all of them.
 //!
 //! The program relies on this: the clauses of `run` say what each status leaves and when it comes,
 //! whatever the source, the sink and the keeper do, and what a crash may leave.
@@ -14,6 +14,7 @@ mod answer;
 mod command;
 mod deliver;
 mod get_file;
+mod laws;
 mod payload;
 mod put_file;
 mod settle;
@@ -21,6 +22,7 @@ mod status;
 mod top;
 
 pub use command::are_words;
+pub use laws::one_outcome;
 pub use payload::MAX_INPUT;
 pub use status::Status;
 pub use top::run;

@@ -4,7 +4,7 @@ ghost use Rattle.mtn_cli.specs.Words.{call_of};
 ghost use Rattle.mtn_cli.specs.Session.{Computes, Feeds, HasCauses, StaysLawful};
 ghost use Rattle.mtn_cli.specs.Run.{Meets, LeavesRecords, TellsDamage, Completes, Survives};
 ghost use Rattle.mtn_cli.specs.Limit.{Stops};
-ghost use Rattle.mtn_cli.specs.Step.{step, takes_payload};
+ghost use Rattle.mtn_cli.specs.Step.{Steps, takes_payload};
 ghost use Rattle.mtn_ports.specs.Causes.{Rose};
 ghost use Rattle.mtn_cli.specs.Performs.{Drafts, Performs};
 
@@ -33,7 +33,7 @@ fn on_draft<R: Threads + Sync, I: Ident, K: Keeper>(
 ) -> Result<Reply, HistoryError>
     ensures same_reference { draft.new.keeper.ghost_name ≡ draft.old.keeper.ghost_name }
     ensures drafts { Drafts (I.meaning ident.now) K.contents K.leaves K.faults draft.old.keeper.now draft.new.keeper.now draft.old.pending draft.new.pending
-        (λ s. step (I.meaning ident.now) s call payload.now) result }
+        (Steps (I.meaning ident.now) call payload.now) result }
 {
     match call {
         Call::PutFile => put_file(alloc, ident, payload, draft),
@@ -50,7 +50,7 @@ fn perform<R: Threads + Sync, I: Ident, K: Keeper>(
     payload: &[u8],
     keeper: &mut K,
 ) -> Result<Reply, HistoryError>
-    ensures { Performs (I.meaning ident.now) K.contents K.leaves K.faults keeper.old keeper.new (λ s. step (I.meaning ident.now) s call payload.now) result }
+    ensures { Performs (I.meaning ident.now) K.contents K.leaves K.faults keeper.old keeper.new (Steps (I.meaning ident.now) call payload.now) result }
 {
     let pending = Pending::open(alloc, keeper)?;
     let mut draft = DraftOver::new(keeper, pending);

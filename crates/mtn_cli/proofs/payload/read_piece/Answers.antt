@@ -1,4 +1,4 @@
-use Rattle.std.proofs.Common.{◌≡◌, ◌+◌, ◌≤◌, take, length, sym, ap, ◌∙◌, arith}
+use Rattle.std.proofs.Common.{◌≡◌, ◌+◌, ◌≤◌, take, length, ◌∙◌, arith}
 use Rattle.std.proofs.lemmas.List.{length-take-le}
 use Rattle.mtn_cli.proofs.PayloadLemmas.{cut_behind, front_of_grown, part_long}
 use Rattle.mtn_cli.proofs.payload.read_piece.Goals as goal
