@@ -1,6 +1,7 @@
 -- A command has one outcome.
 use Rattle.std.proofs.Common.{◌≡◌, ℕ, List, Option, Some, None, sym, ◌∙◌}
-use Rattle.mtn_model.specs.State.{State, IsLawful}
+use Rattle.mtn_model.specs.State.{State}
+use Rattle.mtn_log.specs.Lawful.{IsLawful}
 use Rattle.mtn_cli.specs.declared.command.Call.{Call}
 use Rattle.mtn_cli.specs.declared.command.Call.TheVariants.{PutFile, GetFile}
 use Rattle.mtn_cli.specs.Step.{Outcome, Steps, SessionOf, takes_payload, fed}
