@@ -1,10 +1,11 @@
 -- A command over a draft, opened and finished, is a command over the keeper.
-use Rattle.std.proofs.Common.{◌≡◌, ◌≤◌, ◌⊎◌, inl, inr, ℕ, List, Option, Some, None, Result, Ok, Err, refl, sym, ap, ◌∙◌, subst, arith}
+use Rattle.std.proofs.Common.{◌≡◌, ◌≤◌, ◌⊎◌, inl, inr, ℕ, List, [], Option, Some, None, Result, Ok, Err, refl, sym, ap, ◌∙◌, subst, arith}
 use Rattle.std.specs.Prelude.{IfSome}
 use Rattle.mtn_model.specs.Table.{Contents}
 use Rattle.mtn_model.specs.State.{State}
 use Rattle.mtn_ports.specs.Causes.{Rose}
-use Rattle.mtn_ports.specs.Kept.{Same, Stays}
+use Rattle.mtn_ports.specs.Kept.{Same, Stays, with_all}
+use Rattle.mtn_ports.specs.declared.batch.Put.{Put}
 use Rattle.mtn_ports.proofs.KeptLemmas.{stays_trans}
 use Rattle.mtn_history.specs.declared.errors.StoreError.{StoreError}
 use Rattle.mtn_history.specs.declared.errors.StoreError.TheVariants.{Failed, Damaged, NoMemory}
@@ -16,7 +17,7 @@ use Rattle.mtn_history.specs.Damage.{IsDamage}
 use Rattle.mtn_history.specs.Stands.{Stands, IsDraft, WasTold, Finishes, FinishLeaves}
 use Rattle.mtn_cli.specs.declared.answer.Reply.{Reply}
 use Rattle.mtn_cli.specs.Step.{Outcome}
-use Rattle.mtn_cli.specs.Performs.{Performs, Performed, Drafts, Drafted, Reason, HasReason, StandsAfter, replied}
+use Rattle.mtn_cli.specs.Performs.{Performs, Performed, drafted, Drafts, Drafted, Reason, HasReason, StandsAfter, replied}
 
 reason_of : (told : Option Contents) (before now : ℕ) (e : StoreError) → (e ≡ Failed → Rose before now) → IfSome told (λ c. IfDamage e (IsDamage c)) → Reason told before now e
 reason_of told before now Failed rose damage = rose refl
@@ -39,6 +40,11 @@ still old new c d same at now = now ∙ sym (same d now) ∙ at
 
 between : (old new ended : Option Contents) (c d : Contents) → Same old new → WasTold new ended → old ≡ Some c → ended ≡ Some d → new ≡ Some c
 between old new ended c d same was at now = let mid = was d now in still old new c mid.0 same at mid.1
+
+-- nothing was pending
+nothing_over : (p : Pending) (told : Option Contents) → p.batch ≡ [] → drafted p told ≡ told
+nothing_over p None none = refl
+nothing_over p (Some c) none = ap (λ (ps : List Put). Some (with_all c ps)) none
 
 module _ (f : List ℕ → List ℕ) {K : Type 0} (contents : K → Option Contents) (leaves : K → Contents → Type 0) (faults : K → ℕ) (Outcomes : State → Outcome → Type 0) where
   -- an error with nothing applied
@@ -71,14 +77,15 @@ module _ (f : List ℕ → List ℕ) {K : Type 0} (contents : K → Option Conte
     pub reason : HasReason (contents new) (faults old) (faults new) r
 
   pub worked : (old opened begun new : K) (pending before after : Pending) (r : Result Reply HistoryError) → Stays contents leaves faults old opened →
-      ((c : Contents) (s : State) → contents opened ≡ Some c → Stands f c s → IsDraft f c pending s) → begun ≡ opened → before ≡ pending →
+      ((c : Contents) (s : State) → contents opened ≡ Some c → Stands f c s → IsDraft f c pending s) → pending.batch ≡ [] → begun ≡ opened → before ≡ pending →
       Drafts f contents leaves faults begun new before after Outcomes r → Worked old new after r
-  worked old opened begun new pending before after r stays opens same is drafts =
+  worked old opened begun new pending before after r stays opens none same is drafts =
       let to_begun : Stays contents leaves faults old begun = subst (Stays contents leaves faults old) (sym same) stays in
       record {
         stays = stays_trans contents leaves faults old begun new to_begun drafts.stays;
         done = λ c s now stands. drafts.done c s now (subst (λ (p : Pending). IsDraft f c p s) (sym is) (opens c s (ap contents (sym same) ∙ drafts.stays.same c now) stands));
-        reason = wider_reason (contents new) (faults old) (faults begun) (faults new) (faults new) r to_begun.later (omega arith) drafts.reason;
+        reason = wider_reason (contents new) (faults old) (faults begun) (faults new) (faults new) r to_begun.later (omega arith)
+            (subst (λ told. HasReason told (faults begun) (faults new) r) (nothing_over before (contents new) (ap (λ (p : Pending). p.batch) is ∙ none)) drafts.reason);
       }
 
   -- the command gave an error

@@ -1,12 +1,12 @@
 -- What the function behind a command ensures, the same words for each.
-use Rattle.std.specs.Prelude.{◌≡◌, ◌≤◌, ◌⊎◌, List, Option, Some, Result, Ok, Err, ℕ, ⊤, IfSome}
+use Rattle.std.specs.Prelude.{◌≡◌, ◌≤◌, ◌⊎◌, List, Option, Some, Result, Ok, Err, ℕ, ⊤, IfSome, option_map}
 use Rattle.mtn_model.specs.Table.{Contents}
 use Rattle.mtn_model.specs.State.{State}
 use Rattle.mtn_ports.specs.Causes.{Rose}
 use Rattle.mtn_history.specs.Damage.{IsDamage}
 use Rattle.mtn_history.specs.Stands.{Stands, IsDraft}
 use Rattle.mtn_history.specs.declared.pending.Pending.{Pending}
-use Rattle.mtn_ports.specs.Kept.{Same, Stays}
+use Rattle.mtn_ports.specs.Kept.{Same, Stays, with_all}
 use Rattle.mtn_history.specs.Errors.{IfDamage}
 use Rattle.mtn_history.specs.declared.errors.StoreError.{StoreError}
 use Rattle.mtn_history.specs.declared.errors.StoreError.TheVariants.{Failed, Damaged, NoMemory}
@@ -62,9 +62,13 @@ Drafted f c s Is (Ok reply) p = (t : State) × Is (replied reply t) × IsDraft f
 Drafted f c s Is (Err (Refused cause)) p = Is (refused cause s)
 Drafted f c s Is (Err (Store e)) p = IfDamage e (λ _. ⊥)
 
--- What a command does over a draft. This is the clause of each command's function.
+-- the records of the keeper with those that are pending
+abbrev pub drafted : Pending → Option Contents → Option Contents
+drafted p told = option_map (λ c. with_all c p.batch) told
+
+-- What a command does over a draft. A damage is one of the records that it began with. This is the clause of each command's function.
 pub record Drafts (f : List ℕ → List ℕ) {K : Type 0} (contents : K → Option Contents) (leaves : K → Contents → Type 0) (faults : K → ℕ) (old new : K)
     (before after : Pending) (Outcomes : State → Outcome → Type 0) (result : Result Reply HistoryError) : Type 0 where
   pub stays : Stays contents leaves faults old new
   pub done : (c : Contents) (s : State) → contents new ≡ Some c → IsDraft f c before s → Drafted f c s (Outcomes s) result after
-  pub reason : HasReason (contents new) (faults old) (faults new) result
+  pub reason : HasReason (drafted before (contents new)) (faults old) (faults new) result

@@ -5,3 +5,4 @@ pub mod Meta
 pub mod Records
 pub mod Revisions
 pub mod Stands
+pub mod Texts

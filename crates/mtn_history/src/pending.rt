@@ -1,5 +1,5 @@
 // Records that wait for the keeper.
-ghost use Rattle.std.specs.Prelude.{◌≡◌, ◌<◌, ◌≤◌, ◌++◌, [], true, false, length, take, OnOk, OnErr};
+ghost use Rattle.std.specs.Prelude.{◌≡◌, ◌<◌, ◌≤◌, ◌++◌, [], true, false, length, take, IfOk, OnOk, OnErr};
 ghost use Rattle.mtn_history.specs.Records.{record_puts};
 
 use crate::meta::{Meta, read_meta};
@@ -33,6 +33,7 @@ impl Pending {
     pub fn open<K: Keeper>(alloc: Global, keeper: &mut K) -> Result<Pending, StoreError>
         ensures stays { Stays K.contents K.leaves K.faults keeper.old keeper.new }
         ensures stands { (f : List ℕ → List ℕ) (c : Contents) (s : State) → K.contents keeper.new ≡ Some c → Stands f c s → Opens f c s result }
+        ensures bare { IfOk result (λ p. p.batch ≡ []) }
         ensures failed { result ≡ Err StoreError.Failed → Rose (K.faults keeper.old) (K.faults keeper.new) }
         ensures damaged { IfSome (K.contents keeper.new) (λ c. IfErr result (λ e. IfDamage e (IsDamage c))) }
     {
