@@ -10,15 +10,17 @@
 //! no state. A call costs a look-up in the pending records and one in the keeper.
 #![tactic(auto)]
 
+mod damaged;
 mod draft;
 mod errors;
 mod files;
 mod meta;
 mod pending;
 mod tables;
+mod texts;
 
 pub use draft::{Draft, DraftOver};
 pub use errors::{Damage, HistoryError, StoreError};
 pub use meta::Meta;
 pub use pending::Pending;
-pub use tables::{FILES, META};
+pub use tables::{FILES, META, TEXTS};

@@ -7,8 +7,8 @@ ghost use Rattle.mtn_ports.specs.Kept.{Stays};
 ghost use Rattle.mtn_history.specs.Meta.{IsMetaOf, MetaDamage, VersionDamage, version_key, version};
 ghost use Rattle.mtn_history.specs.Errors.{IfDamage};
 
-use crate::{Damage, META, StoreError};
-use mtn_base::{Bytes, NoMemory};
+use crate::damaged::{bad, missing};
+use crate::{META, StoreError};
 use mtn_ports::Keeper;
 use std::alloc::Global;
 
@@ -17,33 +17,6 @@ use std::alloc::Global;
 pub struct Meta {
     pub count: u64,
     pub is_new: bool,
-}
-
-fn bad(alloc: Global, key: &[u8], body: &[u8]) -> StoreError
-    ensures damaged { IfDamage result (λ d. d ≡ Damage.Bad 1 key.now body.now) }
-    ensures failed { result ≢ StoreError.Failed }
-{
-    match (
-        Bytes::from_slice(alloc, key),
-        Bytes::from_slice(alloc, body),
-    ) {
-        (Ok(key), Ok(body)) => StoreError::Damaged(Damage::Bad {
-            table: META,
-            key,
-            body,
-        }),
-        _ => StoreError::NoMemory,
-    }
-}
-
-fn missing(alloc: Global, key: &[u8]) -> StoreError
-    ensures damaged { IfDamage result (λ d. d ≡ Damage.Missing 1 key.now) }
-    ensures failed { result ≢ StoreError.Failed }
-{
-    match Bytes::from_slice(alloc, key) {
-        Ok(key) => StoreError::Damaged(Damage::Missing { table: META, key }),
-        Err(NoMemory) => StoreError::NoMemory,
-    }
 }
 
 // The number that eight bytes spell.
@@ -71,7 +44,7 @@ pub fn read_meta<K: Keeper>(alloc: Global, keeper: &mut K) -> Result<Meta, Store
         });
     }
     let Some(count) = number_of(&body) else {
-        return Err(bad(alloc, b"count", &body));
+        return Err(bad(alloc, META, b"count", &body));
     };
     read_version(alloc, keeper)?;
     Ok(Meta {
@@ -89,10 +62,10 @@ fn read_version<K: Keeper>(alloc: Global, keeper: &mut K) -> Result<(), StoreErr
 {
     let mut body = Vec::new(alloc);
     if !keeper.get(META, b"version", &mut body)? {
-        return Err(missing(alloc, b"version"));
+        return Err(missing(alloc, META, b"version"));
     }
     if body.as_slice() != b"1".as_slice() {
-        return Err(bad(alloc, b"version", &body));
+        return Err(bad(alloc, META, b"version", &body));
     }
     Ok(())
 }

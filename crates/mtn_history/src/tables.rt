@@ -5,3 +5,6 @@ pub const META: u8 = 1;
 
 /// Each file under its id.
 pub const FILES: u8 = 2;
+
+/// Under the id of each revision its position and its text.
+pub const TEXTS: u8 = 3;
