@@ -16,6 +16,7 @@ mod entry;
 mod error;
 mod field;
 mod lists;
+mod logs;
 mod names;
 mod record;
 mod rosters;
@@ -23,6 +24,7 @@ mod rosters;
 pub use entry::{Numbered, NumberedAttr, NumberedBody, NumberedEntry};
 pub use error::RecordError;
 pub use field::Field;
+pub use logs::{read_log, write_log};
 pub use record::{LogRecord, RosterRecord};
 pub use rosters::{read_roster, write_roster};
 
