@@ -7,7 +7,7 @@ use Rattle.std.proofs.lemmas.List.{append_assoc, length_push, flat_map_more, tak
 use Rattle.std.proofs.lemmas.Bool.Decides.{leb_tells}
 use Rattle.std.proofs.lemmas.Nat.{be_bytes_4, be_bytes_8}
 use Rattle.mtn_records.specs.Apart.{count_apart, number_apart, each_apart}
-use Rattle.mtn_records.specs.Fields.{AreApart, set_text, IsSet, Begins, BeginsWithAll, BeginsWithNone, number_text, IsNumber, count_text, IsCount, flag_text, pair_text, IsPair, option_text, IsOption}
+use Rattle.mtn_records.specs.Fields.{AreApart, set_text, IsSet, Begins, BeginsWithAll, BeginsWithNone, number_text, IsNumber, count_text, IsCount, flag_text, id_text, IsTwenty, pair_text, IsPair, option_text, IsOption}
 
 -- each is a byte
 abbrev pub AreBytes : List ℕ → Type 0
@@ -36,6 +36,13 @@ module _ (bytes front rest : List ℕ) (n : ℕ) (small : AreBytes bytes) where
         formed = fits;
         whole = sym (take-append-drop 4 bytes) ∙ ap (λ f. f ++ drop 4 bytes) (sym at ∙ sym (be_bytes_4 front n (ap length at ∙ length-take-le 4 bytes (omega arith)) (rw at (bytes_front 4 bytes small)) is)) ∙ ap (λ r. count_text n ++ r) (sym back);
       }
+
+pub id_begins : (bytes front rest : List ℕ) → length rest + 20 ≡ length bytes → front ≡ take 20 bytes → rest ≡ drop 20 bytes → Begins id_text IsTwenty bytes (record { 0 = front }) rest
+id_begins bytes front rest long at back =
+    record {
+      formed = ap length at ∙ length-take-le 20 bytes (omega arith);
+      whole = sym (take-append-drop 20 bytes) ∙ ap (λ f. f ++ drop 20 bytes) (sym at) ∙ ap (λ r. front ++ r) (sym back);
+    }
 
 module _ {A B : Type 0} (a : A → List ℕ) (ia : A → Type 0) (b : B → List ℕ) (ib : B → Type 0) where
   pub pair_none : (bytes rest : List ℕ) (x : A) → AreApart a ia → Begins a ia bytes x rest → BeginsWithNone b ib rest → BeginsWithNone (pair_text a b) (IsPair ia ib) bytes

@@ -1,6 +1,7 @@
 // What stands in a body, and how it is read and written.
-ghost use Rattle.std.specs.Prelude.{◌≡◌, ◌++◌, ℕ, List, length, take, IfOk, OnOk, OnErr, IsErrOf};
-ghost use Rattle.mtn_records.specs.Fields.{AreApart, Begins, BeginsWithNone};
+ghost use Rattle.std.specs.Prelude.{◌≡◌, ◌++◌, ℕ, List, length, take, IfOk, OnOk, OnErr, IsErrOf, MatchOption};
+ghost use Rattle.mtn_records.specs.Fields.{AreApart, Begins, BeginsWithNone, id_text, number_text, IsNumber, IsTwenty};
+ghost use Rattle.mtn_records.specs.Records.{byte_text, IsByte};
 
 use crate::error::RecordError;
 use mtn_ancestry::Pos;
@@ -29,6 +30,30 @@ pub trait Field: Sized + Drop {
     ghost apart: { AreApart text form };
 }
 
+/// A byte.
+pub fn read_byte(bytes: &[u8]) -> Option<(u8, &[u8])>
+    ensures { MatchOption result (BeginsWithNone byte_text IsByte bytes.now) (λ r. Begins byte_text IsByte bytes.now r.0 r.1.now) }
+{
+    let (byte, rest) = bytes.split_first()?;
+    Some((*byte, rest))
+}
+
+/// A number, in eight bytes.
+pub fn read_number(bytes: &[u8]) -> Option<(u64, &[u8])>
+    ensures { MatchOption result (BeginsWithNone number_text IsNumber bytes.now) (λ r. Begins number_text IsNumber bytes.now r.0 r.1.now) }
+{
+    let (number, rest) = bytes.split_first_chunk::<8>()?;
+    Some((u64::from_be_bytes(*number), rest))
+}
+
+/// An id, in twenty bytes.
+pub fn read_id(bytes: &[u8]) -> Option<(Id, &[u8])>
+    ensures { MatchOption result (BeginsWithNone id_text IsTwenty bytes.now) (λ r. Begins id_text IsTwenty bytes.now r.0 r.1.now) }
+{
+    let (id, rest) = bytes.split_first_chunk::<20>()?;
+    Some((Id(*id), rest))
+}
+
 impl Field for u64 {
     ghost use Rattle.mtn_records.specs.Fields.{number_text, IsNumber};
     ghost use Rattle.mtn_records.specs.Apart.{number_apart};
@@ -38,10 +63,7 @@ impl Field for u64 {
     ghost form = { IsNumber };
 
     fn read(_: Global, bytes: &[u8]) -> Result<(u64, &[u8]), RecordError> {
-        match bytes.split_first_chunk::<8>() {
-            Some((number, rest)) => Ok((u64::from_be_bytes(*number), rest)),
-            None => Err(RecordError::Bad),
-        }
+        read_number(bytes).ok_or(RecordError::Bad)
     }
 
     fn write(&self, out: &mut Vec<u8>) -> Result<(), NoMemory> {
@@ -81,10 +103,7 @@ impl Field for u8 {
     ghost form = { IsByte };
 
     fn read(_: Global, bytes: &[u8]) -> Result<(u8, &[u8]), RecordError> {
-        match bytes {
-            [byte, rest @ ..] => Ok((*byte, rest)),
-            _ => Err(RecordError::Bad),
-        }
+        read_byte(bytes).ok_or(RecordError::Bad)
     }
 
     fn write(&self, out: &mut Vec<u8>) -> Result<(), NoMemory> {
@@ -128,10 +147,7 @@ impl Field for Id {
     ghost form = { IsTwenty };
 
     fn read(_: Global, bytes: &[u8]) -> Result<(Id, &[u8]), RecordError> {
-        match bytes.split_first_chunk::<20>() {
-            Some((id, rest)) => Ok((Id(*id), rest)),
-            None => Err(RecordError::Bad),
-        }
+        read_id(bytes).ok_or(RecordError::Bad)
     }
 
     fn write(&self, out: &mut Vec<u8>) -> Result<(), NoMemory> {

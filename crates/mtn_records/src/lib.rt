@@ -15,7 +15,9 @@ mod entries;
 mod entry;
 mod error;
 mod field;
+mod laws;
 mod lists;
+mod logs;
 mod names;
 mod record;
 mod rosters;
@@ -23,6 +25,8 @@ mod rosters;
 pub use entry::{Numbered, NumberedAttr, NumberedBody, NumberedEntry};
 pub use error::RecordError;
 pub use field::Field;
+pub use laws::{log_again, one_record, roster_again};
+pub use logs::{read_log, write_log};
 pub use record::{LogRecord, RosterRecord};
 pub use rosters::{read_roster, write_roster};
 
