@@ -1,5 +1,5 @@
 -- What the records of table 1 say of a state.
-use Rattle.std.proofs.Common.{◌≡◌, ◌≤◌, ◌^◌, ◌<◌, inl, inr, ℕ, Bool, true, false, List, [], ◌∷◌, length, Option, Some, None, refl, sym, ap, ◌∙◌, subst, arith}
+use Rattle.std.proofs.Common.{◌≡◌, ◌≤◌, ◌^◌, ◌<◌, inl, inr, ℕ, Bool, true, false, List, [], ◌∷◌, length, Option, Some, None, refl, sym, ap, ◌∙◌, subst, ⊎_elim, arith}
 use Rattle.std.specs.Prelude.{MatchBool, IfSome, is_some}
 use Rattle.std.specs.Int.{w64, to_be_bytes, from_be_bytes}
 use Rattle.std.specs.FinMap.{get, get-empty, insert, empty}
@@ -9,7 +9,7 @@ use Rattle.std.proofs.lemmas.Nat.{from_be_bytes-to_be_bytes_8}
 use Rattle.mtn_model.specs.Table.{Table, Contents, body_at}
 use Rattle.mtn_model.specs.State.{State}
 use Rattle.mtn_log.specs.Lawful.{IsLawful}
-use Rattle.mtn_log.proofs.Histories.{log_is_short}
+use Rattle.mtn_log.proofs.Histories.{history_is_grown, log_is_short}
 use Rattle.mtn_ports.specs.declared.batch.Put.{Put}
 use Rattle.mtn_ports.specs.Kept.{with_all, Adds, Same, MayLeave, IsBody}
 use Rattle.mtn_history.specs.declared.errors.Damage.{Damage}
@@ -21,6 +21,10 @@ use Rattle.mtn_history.specs.declared.meta.Meta.{Meta}
 use Rattle.mtn_history.specs.declared.pending.Pending.{Pending}
 use Rattle.mtn_history.specs.Meta.{meta_of, count_key, version_key, version, Counted, IsMetaOf, VersionDamage, MetaDamage}
 use Rattle.mtn_history.specs.Damage.{IsDamage, IsShown}
+use Rattle.mtn_history.specs.Logs.{LogDamage}
+use Rattle.mtn_history.specs.Texts.{TextDamage}
+use Rattle.mtn_history.proofs.LogLemmas.{never_wrong, shown_log}
+use Rattle.mtn_history.proofs.TextLemmas.{text_found}
 use Rattle.mtn_history.specs.Stands.{StandsFor, Stands, IsNew, IsDraft, WasTold, Finishes, FinishLeaves}
 use Rattle.mtn_history.proofs.FileLemmas.{get_inserted, draft_stands, empty_lawful}
 
@@ -77,25 +81,42 @@ opened f told m p reads batch count is_new c s at stands =
           (subst (λ b. MatchBool b (IsNew c s) (StandsFor f c s)) (sym is_new) new.1);
     }
 
--- records that stand for a state show no damage
-pub no_damage : (f : List ℕ → List ℕ) (c : Contents) (s : State) (d : Damage) → Stands f c s → IsDamage c d → ⊥
-no_damage f c s d (inl new) damage = let none = none_held c s count_key new in (let there : is_some (body_at c 1 count_key) ≡ true = damage.0 in let not_there : is_some (body_at c 1 count_key) ≡ false = ap is_some none in cc)
-no_damage f c s (Bad table key body) (inr stands) damage = elim damage.1 [
+-- records that stand for a state show no damage of table 1
+no_meta_damage : (f : List ℕ → List ℕ) (c : Contents) (s : State) (d : Damage) → Stands f c s → MetaDamage c d → ⊥
+no_meta_damage f c s d (inl new) damage = let none = none_held c s count_key new in (let there : is_some (body_at c 1 count_key) ≡ true = damage.0 in let not_there : is_some (body_at c 1 count_key) ≡ false = ap is_some none in cc)
+no_meta_damage f c s (Bad table key body) (inr stands) damage = elim damage.1 [
   | inl v ↦ let there = held_version f c s stands in let held = v.2 in let differs = v.3 in absurd (differs cc)
   | inr n ↦
       let body_is : body ≡ to_be_bytes w64 (length s.log) = (let there = held_count f c s stands in let held = n.2 in cc) in
       let differs = n.3 in absurd (differs (ap length body_is))
 ]
-no_damage f c s (Missing table key) (inr stands) damage = elim damage.1 [
+no_meta_damage f c s (Missing table key) (inr stands) damage = elim damage.1 [
   | inl v ↦ let there = held_version f c s stands in let held = v.2 in cc
   | inr n ↦ n
 ]
 
+-- nor of table 3
+no_text_damage : (f : List ℕ → List ℕ) (c : Contents) (s : State) (d : Damage) → Stands f c s → TextDamage c d → ⊥
+no_text_damage f c s (Missing table key) stands damage = damage
+no_text_damage f c s (Bad table key body) (inl new) damage = absurd (clash (body_at c 3 key) body damage.1 (ap (λ (d : Contents). body_at d 3 key) new.records ∙ get-empty (slice_cmp nat_cmp) key))
+no_text_damage f c s (Bad table key body) (inr stands) damage = let t = text_found s.log (c 3) key body stands.texts damage.1 in omega (arith, t.0, damage.2)
+
+-- nor of table 4
+no_log_damage : (f : List ℕ → List ℕ) (c : Contents) (s : State) (d : Damage) → Stands f c s → LogDamage c d → ⊥
+no_log_damage f c s d (inl new) damage = clash (body_at c 1 count_key) damage.counted.body damage.counted.held (none_held c s count_key new)
+no_log_damage f c s d (inr stands) damage =
+    never_wrong c stands.history stands.kept (history_is_grown f s.files s.log stands.history stands.spelled) stands.revisions.long stands.log damage.count d
+    (count_told damage.count f c s damage.counted stands ∙ sym stands.spelled.long) damage.wrong
+
+-- records that stand for a state show no damage
+pub no_damage : (f : List ℕ → List ℕ) (c : Contents) (s : State) (d : Damage) → Stands f c s → IsDamage c d → ⊥
+no_damage f c s d stands damage = ⊎_elim (no_meta_damage f c s d stands) (⊎_elim (no_text_damage f c s d stands) (no_log_damage f c s d stands)) damage
+
 pub err_no_damage : (f : List ℕ → List ℕ) (told : Option Contents) (e : StoreError) → IfSome told (λ c. IfDamage e (IsDamage c)) →
     (c : Contents) (s : State) → told ≡ Some c → Stands f c s → IfDamage e (λ _. ⊥)
-err_no_damage f told e shows c s at stands = by_error e (subst (λ o. IfSome o (λ d. IfDamage e (MetaDamage d))) at shows)
+err_no_damage f told e shows c s at stands = by_error e (subst (λ o. IfSome o (λ d. IfDamage e (IsDamage d))) at shows)
   where
-    by_error : (e : StoreError) → IfDamage e (MetaDamage c) → IfDamage e (λ _. ⊥)
+    by_error : (e : StoreError) → IfDamage e (IsDamage c) → IfDamage e (λ _. ⊥)
     by_error (Damaged d) damage = no_damage f c s d stands damage
     by_error Failed damage = tt
     by_error NoMemory damage = tt
@@ -134,16 +155,30 @@ finish_leaves p old new before now may f c d s at again draft e left = elim (may
   | inr is ↦ inr (subst (λ (x : Contents). Stands f x s) (sym is) (draft_stands f c p s draft))
 ]
 
--- The record that is printed is one of the contents, or it is not in them.
-pub shown : (c : Contents) (d : Damage) → IsDamage c d → IsShown c d
-shown c (Bad table key body) damage = elim damage.1 [
+shown_meta : (c : Contents) (d : Damage) → MetaDamage c d → IsShown c d
+shown_meta c (Bad table key body) damage = elim damage.1 [
   | inl v ↦ ap (λ t. body_at c t key) v.0 ∙ ap (body_at c 1) v.1 ∙ v.2
   | inr n ↦ ap (λ t. body_at c t key) n.0 ∙ ap (body_at c 1) n.1 ∙ n.2
 ]
-shown c (Missing table key) damage = elim damage.1 [
+shown_meta c (Missing table key) damage = elim damage.1 [
   | inl v ↦ ap (λ t. body_at c t key) v.0 ∙ ap (body_at c 1) v.1 ∙ v.2
   | inr n ↦ absurd n
 ]
+
+shown_text : (c : Contents) (d : Damage) → TextDamage c d → IsShown c d
+shown_text c (Bad table key body) damage = ap (λ t. body_at c t key) damage.0 ∙ damage.1
+shown_text c (Missing table key) damage = absurd damage
+
+-- The record that is printed is one of the contents, or it is not in them.
+pub shown : (c : Contents) (d : Damage) → IsDamage c d → IsShown c d
+shown c d damage = ⊎_elim (shown_meta c d) (⊎_elim (shown_text c d) (λ l. shown_log c l.wrong.place d l.wrong.wrong)) damage
+
+-- what was found wrong in table 1 is damage
+pub meta_damage : (told : Option Contents) (e : StoreError) → IfSome told (λ c. IfDamage e (MetaDamage c)) → IfSome told (λ c. IfDamage e (IsDamage c))
+meta_damage None e h = tt
+meta_damage (Some c) Failed h = tt
+meta_damage (Some c) NoMemory h = tt
+meta_damage (Some c) (Damaged d) h = inl h
 
 -- what records stand for is lawful
 pub lawful_of : (f : List ℕ → List ℕ) (c : Contents) (s : State) → Stands f c s → IsLawful f s

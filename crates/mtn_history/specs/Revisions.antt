@@ -13,7 +13,7 @@ use Rattle.mtn_marking.specs.Marking.{Marks}
 use Rattle.mtn_model.specs.State.{Logged}
 use Rattle.mtn_model.specs.Table.{Table}
 use Rattle.mtn_records.specs.Fields.{number_text}
-use Rattle.mtn_records.specs.Records.{log_text, roster_text}
+use Rattle.mtn_records.specs.Bounds.{IsLogAt, IsRosterAt}
 use Rattle.mtn_records.specs.declared.record.RosterRecord.{RosterRecord}
 use Rattle.mtn_records.specs.declared.record.RosterRecord.TheVariants.{Whole, Delta}
 
@@ -67,15 +67,15 @@ pub record AreTexts (log : List Logged) (t : Table) : Type 0 where
 abbrev pub OnlyBelow : ℕ → Table → Type 0
 OnlyBelow n t = (key body : List ℕ) → get t key ≡ Some body → (r : ℕ) × (r < n) × (key ≡ number_text r)
 
--- the record of the log: the revision's id, the next number, and its parents in the order of its edges
-pub record IsLogBody (v : Revision) (k : Kept) (body : List ℕ) : Type 0 where
+-- the record of the log at r: the revision's id, the next number, and its parents in the order of its edges
+pub record IsLogBody (r : ℕ) (v : Revision) (k : Kept) (body : List ℕ) : Type 0 where
   pub parents : ParentList
   pub same : list_of parents ≡ v.parents
-  pub text : body ≡ log_text (record { id = v.id; next_node = k.next; parents = parents })
+  pub text : IsLogAt r body (record { id = v.id; next_node = k.next; parents = parents })
 
 -- table 4: under each position that record
 pub record AreLogged (h : List Revision) (ks : List Kept) (t : Table) : Type 0 where
-  pub each : (r : ℕ) (v : Revision) (k : Kept) → slice_get h r ≡ Some v → slice_get ks r ≡ Some k → (body : List ℕ) × (get t (number_text r) ≡ Some body) × IsLogBody v k body
+  pub each : (r : ℕ) (v : Revision) (k : Kept) → slice_get h r ≡ Some v → slice_get ks r ≡ Some k → (body : List ℕ) × (get t (number_text r) ≡ Some body) × IsLogBody r v k body
   pub only : OnlyBelow (length h) t
 
 -- the record of a roster: whole where nothing is below it, and else what differs from the first parent's
@@ -85,7 +85,12 @@ IsRosterOf ks [] k (Delta base depth gone changed) = ⊥
 IsRosterOf ks (p ∷ ps) k (Delta base depth gone changed) =
     (base ≡ p) × (depth ≡ k.depth) × (0 < depth) × ((below : Kept) × (slice_get ks p ≡ Some below) × IsDifference below.entries k.entries gone changed)
 
+pub record IsRosterBody (ks : List Kept) (r : ℕ) (v : Revision) (k : Kept) (body : List ℕ) : Type 0 where
+  pub roster : RosterRecord
+  pub is : IsRosterOf ks v.parents k roster
+  pub text : IsRosterAt r body roster
+
 -- table 5: under each position that record
 pub record AreRosters (h : List Revision) (ks : List Kept) (t : Table) : Type 0 where
-  pub each : (r : ℕ) (v : Revision) (k : Kept) → slice_get h r ≡ Some v → slice_get ks r ≡ Some k → (roster : RosterRecord) × (get t (number_text r) ≡ Some (roster_text roster)) × IsRosterOf ks v.parents k roster
+  pub each : (r : ℕ) (v : Revision) (k : Kept) → slice_get h r ≡ Some v → slice_get ks r ≡ Some k → (body : List ℕ) × (get t (number_text r) ≡ Some body) × IsRosterBody ks r v k body
   pub only : OnlyBelow (length h) t

@@ -8,3 +8,6 @@ pub const FILES: u8 = 2;
 
 /// Under the id of each revision its position and its text.
 pub const TEXTS: u8 = 3;
+
+/// Under each position of the log its revision's id, the next node number, and its parents' positions.
+pub const LOG: u8 = 4;

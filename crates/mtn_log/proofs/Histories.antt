@@ -76,29 +76,29 @@ module _ (f : List ℕ → List ℕ) (files : Table) (log : List Logged) (h g : 
 pub history_none : (f : List ℕ → List ℕ) (files : Table) → IsHistory f files [] []
 history_none f files = record { long = refl; each = λ k l v a b. absurd cc }
 
-kept_at : {X : Type 0} (xs : List X) (y : X) (k : ℕ) → k < length xs → slice_get (xs ++ y ∷ []) k ≡ slice_get xs k
+pub kept_at : {X : Type 0} (xs : List X) (y : X) (k : ℕ) → k < length xs → slice_get (xs ++ y ∷ []) k ≡ slice_get xs k
 kept_at [] y k lt = absurd (omega arith)
 kept_at (x ∷ xs) y zero lt = refl
 kept_at (x ∷ xs) y (suc k) lt = kept_at xs y k (omega (arith, lt))
 
-last_at : {X : Type 0} (xs : List X) (y : X) → slice_get (xs ++ y ∷ []) (length xs) ≡ Some y
+pub last_at : {X : Type 0} (xs : List X) (y : X) → slice_get (xs ++ y ∷ []) (length xs) ≡ Some y
 last_at [] y = refl
 last_at (x ∷ xs) y = last_at xs y
 
 -- a place of a list with one more is one of the list, or behind it
-data Place {X : Type 0} (xs : List X) : ℕ → Type 0 where
-  old : {k : ℕ} → k < length xs → Place xs k
-  last : Place xs (length xs)
+pub data Place {X : Type 0} (xs : List X) : ℕ → Type 0 where
+  in_front : {k : ℕ} → k < length xs → Place xs k
+  at_back : Place xs (length xs)
 
-place : {X : Type 0} (xs : List X) (y z : X) (k : ℕ) → slice_get (xs ++ y ∷ []) k ≡ Some z → Place xs k
-place [] y z zero e = last
+pub place : {X : Type 0} (xs : List X) (y z : X) (k : ℕ) → slice_get (xs ++ y ∷ []) k ≡ Some z → Place xs k
+place [] y z zero e = at_back
 place [] y z (suc k) e = absurd cc
-place (x ∷ xs) y z zero e = old (omega arith)
+place (x ∷ xs) y z zero e = in_front (omega arith)
 place (x ∷ xs) y z (suc k) e = next (place xs y z k e)
   where
     next : {j : ℕ} → Place xs j → Place (x ∷ xs) (suc j)
-    next (old lt) = old (omega (arith, lt))
-    next last = last
+    next (in_front lt) = in_front (omega (arith, lt))
+    next at_back = at_back
 
 -- one more accepted text
 pub history_more : (f : List ℕ → List ℕ) (files : Table) (log : List Logged) (h : List Revision) (l : Logged) (v : Revision) → IsHistory f files log h → IsNext f files h l v → IsHistory f files (log ++ l ∷ []) (h ++ v ∷ [])
@@ -108,9 +108,9 @@ history_more f files log h l v is next = record {
 }
   where
     at : (k : ℕ) (m : Logged) (w : Revision) → slice_get (log ++ l ∷ []) k ≡ Some m → slice_get (h ++ v ∷ []) k ≡ Some w → Place h k → IsNext f files (take k (h ++ v ∷ [])) m w
-    at k m w a b (old lt) = subst (λ hs. IsNext f files hs m w) (sym (take-append-le k h (v ∷ []) (omega (arith, lt))))
+    at k m w a b (in_front lt) = subst (λ hs. IsNext f files hs m w) (sym (take-append-le k h (v ∷ []) (omega (arith, lt))))
         (is.each k m w (sym (kept_at log l k (subst (λ n. k < n) is.long lt)) ∙ a) (sym (kept_at h v k lt) ∙ b))
-    at k m w a b last =
+    at k m w a b at_back =
         let one : l ≡ m = let t = sym (last_at log l) ∙ ap (slice_get (log ++ l ∷ [])) (sym is.long) ∙ a in cc in
         let two : v ≡ w = let t = sym (last_at h v) ∙ b in cc in
         subst (λ hs. IsNext f files hs m w) (sym (take-append-le (length h) h (v ∷ []) (omega arith) ∙ take_all (length h) h (omega arith)))

@@ -1,0 +1,73 @@
+// The log, and the graph that it tells.
+ghost use Rattle.std.specs.Prelude.{◌≡◌, Err, IfOk, IfErr, IfSome};
+ghost use Rattle.mtn_ports.specs.Causes.{Rose};
+ghost use Rattle.mtn_ports.specs.Kept.{Stays, with_all};
+ghost use Rattle.mtn_records.specs.Bounds.{IsLogWithin};
+ghost use Rattle.mtn_history.specs.Errors.{IfDamage};
+ghost use Rattle.mtn_history.specs.Logs.{IsHeldAt, IsLogged, UnloggedAt, WrongBelow, IsReadTo};
+
+use crate::damaged::{bad, missing};
+use crate::{DraftOver, LOG, Pending, StoreError};
+use mtn_ancestry::{Graph, Pos};
+use mtn_ports::Keeper;
+use mtn_records::{LogRecord, read_log};
+
+impl<'a, K: Keeper> DraftOver<'a, K, Pending> {
+    // The log's record at a position.
+    fn logged(&mut self, at: Pos) -> Result<LogRecord, StoreError>
+        ensures same_reference { self.new.keeper.ghost_name ≡ self.old.keeper.ghost_name }
+        ensures stays { Stays K.contents K.leaves K.faults self.old.keeper.now self.new.keeper.now }
+        ensures pending { self.new.pending ≡ self.old.pending }
+        ensures read { IfSome (K.contents self.new.keeper.now) (λ c. IfOk result (IsLogged (with_all c self.old.pending.batch) at)) }
+        ensures below { IfOk result (IsLogWithin at) }
+        ensures damaged { IfSome (K.contents self.new.keeper.now) (λ c. IfErr result (λ e. IfDamage e (UnloggedAt (with_all c self.old.pending.batch) at))) }
+        ensures failed { result ≡ Err StoreError.Failed → Rose (K.faults self.old.keeper.now) (K.faults self.new.keeper.now) }
+    {
+        let key = at.0.to_be_bytes();
+        let mut body = Vec::new(self.pending.alloc);
+        if !self.get(LOG, &key, &mut body)? {
+            return Err(missing(self.pending.alloc, LOG, &key));
+        }
+        match read_log(at, &body) {
+            Ok(log) => Ok(log),
+            Err(_) => Err(bad(self.pending.alloc, LOG, &key, &body)),
+        }
+    }
+
+    // The log's record at a position, which has the id of an earlier one.
+    fn repeated(&mut self, at: Pos) -> StoreError
+        ensures same_reference { self.new.keeper.ghost_name ≡ self.old.keeper.ghost_name }
+        ensures stays { Stays K.contents K.leaves K.faults self.old.keeper.now self.new.keeper.now }
+        ensures pending { self.new.pending ≡ self.old.pending }
+        ensures damaged { IfSome (K.contents self.new.keeper.now) (λ c. IfDamage result (IsHeldAt (with_all c self.old.pending.batch) at)) }
+        ensures failed { result ≡ StoreError.Failed → Rose (K.faults self.old.keeper.now) (K.faults self.new.keeper.now) }
+    {
+        let key = at.0.to_be_bytes();
+        let mut body = Vec::new(self.pending.alloc);
+        match self.get(LOG, &key, &mut body) {
+            Ok(true) => bad(self.pending.alloc, LOG, &key, &body),
+            Ok(false) => missing(self.pending.alloc, LOG, &key),
+            Err(error) => error,
+        }
+    }
+
+    /// The graph that the log tells. It asks for each record of the log once.
+    pub fn graph(&mut self) -> Result<Graph, StoreError>
+        ensures same_reference { self.new.keeper.ghost_name ≡ self.old.keeper.ghost_name }
+        ensures stays { Stays K.contents K.leaves K.faults self.old.keeper.now self.new.keeper.now }
+        ensures pending { self.new.pending ≡ self.old.pending }
+        ensures read { IfSome (K.contents self.new.keeper.now) (λ c. IfOk result (IsReadTo (with_all c self.old.pending.batch) self.old.pending.count)) }
+        ensures damaged { IfSome (K.contents self.new.keeper.now) (λ c. IfErr result (λ e. IfDamage e (WrongBelow self.old.pending.count (with_all c self.old.pending.batch)))) }
+        ensures failed { result ≡ Err StoreError.Failed → Rose (K.faults self.old.keeper.now) (K.faults self.new.keeper.now) }
+    {
+        let mut graph = Graph::new(self.pending.alloc);
+        for at in 0..self.pending.count {
+            let log = self.logged(Pos(at))?;
+            if graph.find(log.id).is_some() {
+                return Err(self.repeated(Pos(at)));
+            }
+            graph.push(log.id, log.parents)?;
+        }
+        Ok(graph)
+    }
+}
