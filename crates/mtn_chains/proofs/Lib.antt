@@ -1,0 +1,4 @@
+pub mod Ascending
+pub mod Merging
+pub mod Differing
+pub mod Spelling

@@ -13,4 +13,9 @@
 //! look-up by name for each known entry, one walk and one sort of numbers.
 #![tactic(auto)]
 
+mod chain;
 pub mod laws;
+mod merge;
+mod order;
+
+pub use chain::DEEPEST;
