@@ -14,6 +14,7 @@ use Rattle.mtn_roster.proofs.Members.{head}
 use Rattle.mtn_roster.proofs.Tests.{both_true}
 use Rattle.mtn_chains.specs.Chain.{Entries, ascend, entry_at, is_there, number_of, with_all, without, applied, deepest, after_record, after_all, rebuilt}
 use Rattle.mtn_chains.specs.Difference.{IsDifference}
+use Rattle.mtn_chains.specs.Parts.{GoesOn}
 use Rattle.mtn_chains.proofs.Ascending.{same_number-is, same_number-self, own_number, one_by_number, is_one, one_is, cut_of, place_by}
 use Rattle.mtn_chains.proofs.Merging.{over, with_finds, without_finds, with_rises, without_rises}
 
@@ -94,6 +95,14 @@ rebuilt_rises (Whole all ∷ rs) es h =
       | true ↦ λ up g. after_rises 1 all rs es up g
       | false ↦ λ up g. absurd cc
     ] refl h
+
+-- one more record of a chain
+pub goes_on : (chain : List RosterRecord) (depth : ℕ) (es : Entries) (left rest : List RosterRecord) (r : RosterRecord) (fs : Entries) → GoesOn chain depth es left → left ≡ r ∷ rest →
+    after_record depth es r ≡ Some fs → GoesOn chain (depth + 1) fs rest
+goes_on chain depth es left rest r fs m is h = record {
+  so_far = m.so_far ∙ ap (after_all depth es) is ∙ ap (option_and_then (λ gs. after_all (depth + 1) gs rest)) h;
+  rising = record_rises depth es r fs m.rising h;
+}
 
 once_more : (o : Option Entries) → option_and_then (λ fs. Some fs) o ≡ o
 once_more None = refl

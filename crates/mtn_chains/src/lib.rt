@@ -17,5 +17,10 @@ mod chain;
 pub mod laws;
 mod merge;
 mod order;
+mod rebuilding;
+mod sorted;
+mod spell;
+mod spelled;
 
 pub use chain::DEEPEST;
+pub use rebuilding::rebuild;
