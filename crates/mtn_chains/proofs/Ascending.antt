@@ -1,12 +1,13 @@
 -- Lists by ascending numbers: what tests of neighbours tell, what is found, and when two are one.
 use Rattle.std.specs.Prelude.{◌↔◌, ◌⊎◌, map, find, filter, slice_get, option_and_then, Contains, IsTrue}
-use Rattle.std.specs.List.{list_all, list_any, AllAdjacentBelow, IsAllAdjacentAnswer}
+use Rattle.std.specs.List.{list_any, IsAllAdjacentAnswer}
 use Rattle.std.specs.List.Sorted.{IsBinarySearchResult, IsSearchInRange}
 use Rattle.std.specs.Result.{result_ok, is_ok}
 use Rattle.std.specs.FinMap.{nat_cmp-IsAntisymmetric}
+use Rattle.std.specs.declared.cmp.Ordering.{Ordering}
 use Rattle.std.specs.declared.cmp.Ordering.TheVariants.{Less, Equal, Greater}
 use Rattle.std.specs.Ordering.{is_lt, nat_cmp}
-use Rattle.std.specs.Cmp.{first_so, second_so, nat_cmp_total}
+use Rattle.std.specs.Cmp.{IsTotalOrder, nat_cmp_total}
 use Rattle.std.proofs.Common.{◌≡◌, ℕ, zero, suc, ◌+◌, ◌<◌, ◌==◌, Bool, true, false, cond, nat_eq, nat_lt, List, [], ◌∷◌, length, get_or, Option, Some, None, Result, Ok, Err, refl, sym, ◌∙◌, ap, subst, arith}
 use Rattle.std.proofs.lemmas.Bool.{eqb-true, eq-eqb, ltb-true, lt-ltb}
 use Rattle.mtn_marking.proofs.Keyed.{found_there, halved}
@@ -30,24 +31,26 @@ lt_by a b = elim (nat_lt a b) as (λ t. is_lt (cond t Less (cond (a == b) Equal 
 ]
 
 -- a look at the neighbours tells whether the keys ascend
-module _ {X : Type 0} (key : X → ℕ) where
-  up_by : (ks : List X) → AllAdjacentBelow (λ x y. true ≡ nat_lt (key x) (key y)) ks (length ks) → rises nat_cmp (map key ks) ≡ true
-  up_by ks h = rising_by nat_cmp key nat_cmp_total ks (λ k d lt. h k d lt ∙ sym (lt_by (key (get_or ks k d)) (key (get_or ks (k + 1) d))))
-
-  no_up : (ks : List X) (k : ℕ) → k + 1 < length ks → ((d : X) → false ≡ nat_lt (key (get_or ks k d)) (key (get_or ks (k + 1) d))) → rises nat_cmp (map key ks) ≡ false
-  no_up [] k lt f = absurd (omega (arith, lt))
-  no_up (e ∷ rest) k lt f =
-      elim (rises nat_cmp (map key (e ∷ rest))) as (λ b. rises nat_cmp (map key (e ∷ rest)) ≡ b → b ≡ false) [
+module _ {X K : Type 0} (cmp : K → K → Ordering) (o : IsTotalOrder cmp) (key : X → K) where
+  no_rise : (ks : List X) (k : ℕ) → k + 1 < length ks → ((d : X) → false ≡ is_lt (cmp (key (get_or ks k d)) (key (get_or ks (k + 1) d)))) → rises cmp (map key ks) ≡ false
+  no_rise [] k lt f = absurd (omega (arith, lt))
+  no_rise (e ∷ rest) k lt f =
+      elim (rises cmp (map key (e ∷ rest))) as (λ b. rises cmp (map key (e ∷ rest)) ≡ b → b ≡ false) [
         | true ↦ λ h. absurd (
-            let less = less_at nat_cmp key nat_cmp_total (e ∷ rest) k (k + 1) e h (omega arith) lt in
-            let a : is_lt (nat_cmp (key (get_or (e ∷ rest) k e)) (key (get_or (e ∷ rest) (k + 1) e))) ≡ true = ap is_lt less in
-            let b = f e ∙ sym (lt_by (key (get_or (e ∷ rest) k e)) (key (get_or (e ∷ rest) (k + 1) e))) in cc)
+            let less = less_at cmp key o (e ∷ rest) k (k + 1) e h (omega arith) lt in
+            let a : is_lt (cmp (key (get_or (e ∷ rest) k e)) (key (get_or (e ∷ rest) (k + 1) e))) ≡ true = ap is_lt less in
+            let b = f e in cc)
         | false ↦ λ h. refl
       ] refl
 
-  pub up_told : (ks : List X) (r : Bool) → IsAllAdjacentAnswer (λ x y b. b ≡ nat_lt (key x) (key y)) ks r → r ≡ rises nat_cmp (map key ks)
-  up_told ks true h = sym (up_by ks h)
-  up_told ks false h = sym (no_up ks h.0 h.1 h.2)
+  pub rise_told : (ks : List X) (r : Bool) → IsAllAdjacentAnswer (λ x y b. b ≡ is_lt (cmp (key x) (key y))) ks r → r ≡ rises cmp (map key ks)
+  rise_told ks true h = sym (rising_by cmp key o ks h)
+  rise_told ks false h = sym (no_rise ks h.0 h.1 h.2)
+
+-- the same for numbers
+pub up_told : {X : Type 0} (key : X → ℕ) (ks : List X) (r : Bool) → IsAllAdjacentAnswer (λ x y b. b ≡ nat_lt (key x) (key y)) ks r → r ≡ rises nat_cmp (map key ks)
+up_told key ks true h = rise_told nat_cmp nat_cmp_total key ks true (λ k d lt. h k d lt ∙ sym (lt_by (key (get_or ks k d)) (key (get_or ks (k + 1) d))))
+up_told key ks false h = rise_told nat_cmp nat_cmp_total key ks false (h.0, h.1, λ d. h.2 d ∙ sym (lt_by (key (get_or ks h.0 d)) (key (get_or ks (h.0 + 1) d))))
 
 pub map_same : {X : Type 0} (xs : List X) → map (λ x. x) xs ≡ xs
 map_same [] = refl

@@ -114,7 +114,7 @@ after_snoc [] depth es base r h =
     once_more (after_record depth es r) ∙ ap (λ l. after_record depth l r) e ∙ ap (λ k. after_record k base r) (let z : depth ≡ depth + 0 = omega arith in z)
 after_snoc (q ∷ rs) depth es base r h =
     elim (after_record depth es q) as (λ o. option_and_then (λ fs. after_all (depth + 1) fs rs) o ≡ Some base →
-        option_and_then (λ fs. after_all (depth + 1) fs (rs ++ r ∷ [])) o ≡ after_record (depth + suc (length rs)) base r) [
+    option_and_then (λ fs. after_all (depth + 1) fs (rs ++ r ∷ [])) o ≡ after_record (depth + suc (length rs)) base r) [
       | None ↦ λ g. absurd cc
       | Some fs ↦ λ g. after_snoc rs (depth + 1) fs base r g ∙ ap (λ k. after_record k base r) (let z : depth + 1 + length rs ≡ depth + suc (length rs) = omega arith in z)
     ] h

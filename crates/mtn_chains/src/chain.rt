@@ -62,6 +62,7 @@ pub fn entries_at_end(
     chain: Vec<RosterRecord>,
 ) -> Result<Vec<NumberedEntry>, RecordError>
     ensures ok { IfOk result (λ v. rebuilt chain.items ≡ Some v.items) }
+    ensures ascending { IfOk result (λ v. IsTrue (ascend v.items)) }
     ensures bad { IsErrOf result RecordError.Bad → rebuilt chain.items ≡ None }
 {
     let mut records = VecDeque::from_vec(chain);

@@ -75,8 +75,9 @@ pub fn spelled(alloc: Global, entries: &[NumberedEntry]) -> Result<MarkedRoster,
         return Err(RecordError::Bad);
     }
     let sorted = sorted_of(alloc, entries)?;
-    let plain = plain_entries(alloc, entries, &sorted)?;
+    let nodes = sorted.as_slice();
+    let plain = plain_entries(alloc, entries, nodes)?;
     let roster = build(alloc, plain)?;
-    let marks = all_marks(alloc, &sorted)?;
+    let marks = all_marks(alloc, nodes)?;
     Ok(MarkedRoster::new(roster, MarkMap::from_rising(marks)))
 }
