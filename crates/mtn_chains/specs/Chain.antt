@@ -34,9 +34,9 @@ abbrev pub with_all : Entries → Entries → Entries
 with_all [] es = es
 with_all (c ∷ cs) es = placed nat_cmp number_of c (with_all cs es)
 
--- The entries after a delta; none where a number that is gone is not there
+-- The entries after a delta; none where its numbers do not ascend, or one that is gone is not there
 abbrev pub applied : Entries → List ℕ → Entries → Option Entries
-applied es gone changed = if list_all (is_there es) gone then Some (with_all changed (without gone es)) else None
+applied es gone changed = if rises nat_cmp gone && ascend changed && list_all (is_there es) gone then Some (with_all changed (without gone es)) else None
 
 -- how deep a chain may get: the most deltas above a whole record; our format's limit
 abbrev pub deepest : ℕ
@@ -46,15 +46,15 @@ deepest = 15
 abbrev pub after_record : ℕ → Entries → RosterRecord → Option Entries
 after_record depth es (Whole all) = None
 after_record depth es (Delta base d gone changed) =
-    if (d == depth) && not (nat_lt deepest depth) && rises nat_cmp gone && ascend changed then applied es gone changed else None
+    if (d == depth) && not (nat_lt deepest depth) then applied es gone changed else None
 
 -- the entries after records of depths from this one on
 abbrev pub after_all : ℕ → Entries → List RosterRecord → Option Entries
 after_all depth es [] = Some es
 after_all depth es (r ∷ rs) = option_and_then (λ fs. after_all (depth + 1) fs rs) (after_record depth es r)
 
--- The entries at the end of a chain; none where it does not begin with a whole record, where another whole one is in it, where
--- the depths do not follow, where a list of numbers does not ascend, or where a number that is gone is not there
+-- The entries at the end of a chain; none where it is no whole record with deltas behind it, where the depths do not follow,
+-- where numbers do not ascend, or where one that is gone is not there
 abbrev pub rebuilt : List RosterRecord → Option Entries
 rebuilt [] = None
 rebuilt (Whole es ∷ rs) = if ascend es then after_all 1 es rs else None

@@ -2,3 +2,4 @@ pub mod Chain
 pub mod Spelled
 pub mod Difference
 pub mod Numbering
+pub mod Parts

@@ -13,4 +13,14 @@
 //! look-up by name for each known entry, one walk and one sort of numbers.
 #![tactic(auto)]
 
+mod chain;
 pub mod laws;
+mod merge;
+mod order;
+mod rebuilding;
+mod sorted;
+mod spell;
+mod spelled;
+
+pub use chain::DEEPEST;
+pub use rebuilding::rebuild;

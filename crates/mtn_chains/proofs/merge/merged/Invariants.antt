@@ -1,0 +1,12 @@
+use Rattle.std.proofs.Common.{◌≡◌, ◌+◌, ◌++◌}
+use Rattle.std.specs.Prelude.{IsTrue}
+use Rattle.std.specs.VecDeque.{deque_len}
+use Rattle.mtn_chains.specs.Chain.{ascend, with_all}
+use Rattle.mtn_chains.specs.Parts.{MergesTo}
+use Rattle.mtn_chains.proofs.merge.merged.Given as goal
+
+abbrev pub invariant-loop-entry : goal.invariant-loop-entry
+invariant-loop-entry l = MergesTo (with_all l.initial.changed.items l.initial.entries.items) l.all.items l.entries.items l.changed.items
+
+abbrev pub decreases-loop-entry : goal.decreases-loop-entry
+decreases-loop-entry l = deque_len l.entries + deque_len l.changed
