@@ -92,8 +92,11 @@ module _ (old : Tree) (all : List Change) (new : Id) where
   reached : (start entry : Entry) (next : Option ℕ) (h : IsLeft start next entry) → Reaches h.from entry next
   reached start entry next h = subst (Reaches h.from entry) (sym h.next_is) (reaches (length all - h.from) h.from entry (omega (arith, h.within)))
 
-  pub left_first : (e : Entry) (next : Option ℕ) → has_keys e ≡ true → next ≡ next_edit old all new e.name 0 → IsLeft e next e
+  left_first : (e : Entry) (next : Option ℕ) → has_keys e ≡ true → next ≡ next_edit old all new e.name 0 → IsLeft e next e
   left_first e next keys is = record { from = 0; within = omega arith; next_is = is; keys = keys; same = refl }
+
+  pub left_start : (start e : Entry) (next : Option ℕ) → e ≡ start → has_keys start ≡ true → next ≡ next_edit old all new start.name 0 → IsLeft start next e
+  left_start start e next is keys at = subst (IsLeft start next) (sym is) (left_first start next keys at)
 
   -- the change at the next position, and what is left behind it
   pub record IsStep (start : Entry) (at : ℕ) (entry : Entry) : Type 0 where
@@ -122,6 +125,9 @@ module _ (old : Tree) (all : List Change) (new : Id) where
 
   pub left_none : (start entry : Entry) → IsLeft start None entry → entry ≡ edited_by old all new all start
   left_none start entry h = sym (h.same ∙ reached start entry None h)
+
+  pub none_first : (e : Entry) → has_keys e ≡ true → None ≡ next_edit old all new e.name 0 → e ≡ edited_by old all new all e
+  none_first e keys is = left_none e e (left_first e None keys is)
 
   -- the next position is further on
   pub goes_on : (start entry : Entry) (at : ℕ) (next : Option ℕ) → IsLeft start (Some at) entry → next ≡ next_edit old all new entry.name (at + 1) → to_go (length all) next < to_go (length all) (Some at)

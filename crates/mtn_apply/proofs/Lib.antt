@@ -1,15 +1,9 @@
-pub mod Alike
-pub mod Along
 pub mod Births
-pub mod BothStand
 pub mod Builds
 pub mod Chains
 pub mod Gathered
 pub mod Kept
-pub mod Keyed
-pub mod LeastFault
 pub mod Links
-pub mod Made
 pub mod Nothing
 pub mod OldKeys
 pub mod Placing

@@ -1,16 +1,18 @@
 -- The edits of one edge: patches, and cleared and set attributes.
-use Rattle.std.specs.Prelude.{◌≡◌, ◌+◌, ℕ, Bool, true, List, ◌++◌, length, drop, filter_map, slice_get, Option, Some, None}
-use Rattle.std.specs.BTreeMap.{get}
+use Rattle.std.specs.Prelude.{◌≡◌, ◌+◌, ℕ, Bool, true, List, ◌++◌, length, drop, filter_map, slice_get, map, Vec, Option, Some, None}
+use Rattle.std.specs.BTreeMap.{BTreeMap, get}
 use Rattle.std.specs.List.{position_from}
 use Rattle.mtn_base.specs.Names.{name_cmp}
 use Rattle.mtn_base.specs.declared.id.Id.{Id}
 use Rattle.mtn_base.specs.declared.name.NodeName.{NodeName}
+use Rattle.mtn_roster.specs.declared.entry.Attr.{Attr}
 use Rattle.mtn_roster.specs.declared.entry.Entry.{Entry}
 use Rattle.mtn_roster.specs.declared.entry.Body.TheVariants.{File}
 use Rattle.mtn_roster.specs.Tree.{Tree, is_some_with, with_attr}
 use Rattle.mtn_changes.specs.declared.change.Change.{Change}
 use Rattle.mtn_changes.specs.declared.change.Change.TheVariants.{Patch, Clear, Set}
 use Rattle.mtn_edits.specs.Changes.{is_at, old_after, added_by}
+use Rattle.mtn_apply.specs.declared.draft.Draft.{Draft}
 use Rattle.mtn_apply.specs.declared.edits.Edits.{Edits}
 
 -- the path that a change edits
@@ -30,6 +32,18 @@ edited_as (Patch p from to) e = record e { body = File to }
 edited_as (Clear p key) e = record e { attrs = with_attr (record { key = key; value = None }) e.attrs }
 edited_as (Set p key value) e = record e { attrs = with_attr (record { key = key; value = Some value }) e.attrs }
 edited_as _ e = e
+
+-- an attribute of a map
+abbrev pub attr_at : {Z : Type 0} → Vec ℕ Z × Option (List ℕ) → Attr
+attr_at e = record { key = e.0.items; value = e.1 }
+
+-- the attributes that a map has, in the order of its keys
+abbrev pub attrs_in : {Z : Type 0} → BTreeMap (Vec ℕ Z) (Option (List ℕ)) → List Attr
+attrs_in m = map attr_at m.entries
+
+-- an entry with what a draft has of it
+abbrev pub held : Draft → Entry → Entry
+held draft e = record e { body = draft.body; attrs = attrs_in draft.attrs }
 
 -- the first edit of the node of that name among the changes from a position on
 abbrev pub next_edit : Tree → List Change → Id → NodeName → ℕ → Option ℕ

@@ -2,4 +2,3 @@ pub mod Old
 pub mod Index
 pub mod Faults
 pub mod Edits
-pub mod Join

@@ -4,7 +4,7 @@ use Rattle.std.specs.Borrow.{Bor}
 use Rattle.mtn_roster.specs.Tree.{Tree}
 use Rattle.mtn_edits.specs.Changes.{Occupant}
 use Rattle.mtn_edits.specs.Changes.Occupant.{Old, Added}
-use Rattle.mtn_apply.specs.Join.{are_keyed}
+use Rattle.mtn_roster.specs.Attrs.{are_keyed}
 use Rattle.mtn_apply.specs.declared.occupant.There.{There}
 use Rattle.mtn_apply.specs.declared.occupant.There.TheVariants as there
 

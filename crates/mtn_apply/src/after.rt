@@ -6,18 +6,18 @@ ghost use Rattle.mtn_base.specs.declared.id.Id.{Id};
 ghost use Rattle.mtn_roster.specs.declared.entry.Attr.{Attr};
 ghost use Rattle.mtn_roster.specs.Tree.{rises};
 ghost use Rattle.mtn_edits.specs.Changes.{moves, slot_up, slot_by, edited_by, old_after, added_at, added_by};
-ghost use Rattle.mtn_apply.specs.Join.{are_keyed};
+ghost use Rattle.mtn_roster.specs.Attrs.{are_keyed};
 ghost use Rattle.mtn_apply.specs.Index.{IsIndexed, old_of, changes_of};
 ghost use Rattle.mtn_apply.specs.Edits.{AreEdits, listed};
 ghost use Rattle.mtn_apply.specs.Old.{tree_in};
 
-use crate::attrs::copy_attrs;
 use crate::edits::{Edits, edit, edits_of, name_of};
 use crate::index::Edge;
 use crate::occupant::{change_at, is_deleted, occupant_of};
 use crate::old::{old_len, old_place};
 use mtn_base::{Id, List, NoMemory, NodeName, Path};
 use mtn_changes::Change;
+use mtn_roster::attrs::copy_attrs;
 use mtn_roster::{Body, Entry, Slot};
 use std::alloc::Global;
 

@@ -3,20 +3,21 @@ ghost use Rattle.std.specs.Prelude.{◌≡◌, ◌≢◌, ◌<◌, ◌+◌, ℕ,
 ghost use Rattle.std.specs.BTreeMap.{get};
 ghost use Rattle.mtn_base.specs.Names.{name_cmp, same_name, bytes_cmp};
 ghost use Rattle.mtn_base.specs.declared.name.NodeName.{NodeName};
-ghost use Rattle.mtn_roster.specs.declared.entry.Attr.{Attr};
-ghost use Rattle.mtn_roster.specs.Tree.{is_some_with, rises, with_attr};
+ghost use Rattle.mtn_roster.specs.declared.entry.Entry.{Entry};
+ghost use Rattle.mtn_roster.specs.Tree.{is_some_with};
 ghost use Rattle.mtn_changes.specs.declared.change.Change.{Change};
 ghost use Rattle.mtn_edits.specs.Changes.{occupant_name, edited_by};
 ghost use Rattle.mtn_apply.specs.Old.{seen};
-ghost use Rattle.mtn_apply.specs.Join.{are_keyed};
+ghost use Rattle.mtn_roster.specs.Attrs.{are_keyed};
 ghost use Rattle.mtn_apply.specs.Index.{IsIndexed, old_of, changes_of};
-ghost use Rattle.mtn_apply.specs.Edits.{edit_path, touches, edited_as, next_edit, AreEdits};
+ghost use Rattle.mtn_apply.specs.Edits.{edit_path, touches, edited_as, held, AreEdits};
 
+use crate::draft::{Draft, attrs_of, by_keys};
 use crate::index::Edge;
 use crate::occupant::{There, change_at, occupant_of};
 use mtn_base::{Id, List, NoMemory, NodeName, Path};
 use mtn_changes::Change;
-use mtn_roster::{Attr, Body, Entry};
+use mtn_roster::{Body, Entry};
 use std::alloc::Global;
 use std::collections::BTreeMap;
 
@@ -116,33 +117,9 @@ pub fn edits_of(alloc: Global, edge: &Edge, new: Id) -> Result<Edits, NoMemory>
     Ok(Edits { first, next })
 }
 
-/// Puts an attribute in its place by key, over an earlier one of its key.
-fn put_attr(attrs: &mut Vec<Attr>, attr: Attr) -> Result<(), NoMemory>
-    requires rising { IsTrue (are_keyed attrs.old.items) }
-    ensures { OnOk result (attrs.new.items ≡ with_attr attr attrs.old.items) }
-{
-    match attrs.binary_search_by(|other| other.key.as_slice().cmp(attr.key.as_slice())) {
-        Ok(at) => attrs[at] = attr,
-        Err(at) => attrs.insert(at, attr)?,
-    }
-    Ok(())
-}
-
-/// Puts an attribute into an entry.
-fn put_into(alloc: Global, entry: &mut Entry, attr: Attr) -> Result<(), NoMemory>
-    requires rising { IsTrue (are_keyed entry.old.attrs) }
-    ensures { OnOk result (entry.new ≡ record entry.old { attrs = with_attr attr entry.old.attrs }) }
-{
-    let mut attrs = std::mem::replace(&mut entry.attrs, List::new(alloc)).into_vec();
-    put_attr(&mut attrs, attr)?;
-    entry.attrs = List::from_vec(attrs);
-    Ok(())
-}
-
 /// Makes the edit of one change.
-fn edit_once(alloc: Global, change: &Change, entry: &mut Entry) -> Result<(), NoMemory>
-    requires rising { IsTrue (are_keyed entry.old.attrs) }
-    ensures { OnOk result (entry.new ≡ edited_as change.now entry.old) }
+fn edit_once(alloc: Global, change: &Change, draft: &mut Draft) -> Result<(), NoMemory>
+    ensures { OnOk result ((e : Entry) → held draft.new e ≡ edited_as change.now (held draft.old e)) }
 {
     match change {
         Change::Patch {
@@ -150,39 +127,26 @@ fn edit_once(alloc: Global, change: &Change, entry: &mut Entry) -> Result<(), No
             from: _,
             to,
         } => {
-            entry.body = Body::File { content: *to };
+            draft.body = Body::File { content: *to };
             Ok(())
         }
-        Change::Clear { path: _, key } => {
-            let attr = Attr {
-                key: key.copy(alloc)?,
-                value: None,
-            };
-            put_into(alloc, entry, attr)
-        }
+        Change::Clear { path: _, key } => draft.put(key.copy(alloc)?, None),
         Change::Set {
             path: _,
             key,
             value,
-        } => {
-            let attr = Attr {
-                key: key.copy(alloc)?,
-                value: Some(value.copy(alloc)?),
-            };
-            put_into(alloc, entry, attr)
-        }
+        } => draft.put(key.copy(alloc)?, Some(value.copy(alloc)?)),
         _ => Ok(()),
     }
 }
 
 /// Makes the edit of the change at a position.
-fn edit_by(alloc: Global, all: &[Change], at: usize, entry: &mut Entry) -> Result<(), NoMemory>
-    requires rising { IsTrue (are_keyed entry.old.attrs) }
-    ensures { OnOk result ((c : Change) → slice_get all.now at ≡ Some c → entry.new ≡ edited_as c entry.old) }
+fn edit_by(alloc: Global, all: &[Change], at: usize, draft: &mut Draft) -> Result<(), NoMemory>
+    ensures { OnOk result ((c : Change) (e : Entry) → slice_get all.now at ≡ Some c → held draft.new e ≡ edited_as c (held draft.old e)) }
 {
     match change_at(all, at) {
         None => Ok(()),
-        Some(change) => edit_once(alloc, change, entry),
+        Some(change) => edit_once(alloc, change, draft),
     }
 }
 
@@ -208,10 +172,20 @@ pub fn edit(
     requires rising { IsTrue (are_keyed entry.old.attrs) }
     ensures { OnOk result (entry.new ≡ edited_by (old_of edge.now) (changes_of edge.now) new (changes_of edge.now) entry.old) }
 {
-    let mut next = edits.first.get(&entry.name).copied();
+    let Some(first) = edits.first.get(&entry.name).copied() else {
+        return Ok(());
+    };
+    let attrs = std::mem::replace(&mut entry.attrs, List::new(alloc)).into_vec();
+    let mut draft = Draft {
+        body: entry.body,
+        attrs: by_keys(alloc, attrs)?,
+    };
+    let mut next = Some(first);
     while let Some(at) = next {
-        edit_by(alloc, edge.all, at, entry)?;
+        edit_by(alloc, edge.all, at, &mut draft)?;
         next = next_of(edits, at);
     }
+    entry.body = draft.body;
+    entry.attrs = attrs_of(alloc, draft.attrs)?;
     Ok(())
 }

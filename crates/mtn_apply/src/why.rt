@@ -13,7 +13,6 @@ ghost use Rattle.mtn_edits.specs.Changes.Occupant.{Old};
 ghost use Rattle.mtn_apply.specs.Old.{seen, HasRisingKeys};
 ghost use Rattle.mtn_apply.specs.Index.{IsIndexed, old_of, changes_of};
 
-use crate::attrs::live_value;
 use crate::index::Edge;
 use crate::occupant::{There, is_deleted, is_kept, kept_child, occupant_of};
 use crate::old::{old_at, old_children, old_entry};
@@ -22,6 +21,7 @@ use crate::target::{
 };
 use mtn_base::{Bytes, Comp, Id, NoMemory, NodeName, Path, Why};
 use mtn_changes::Change;
+use mtn_roster::attrs::live_value;
 use mtn_roster::{Attr, Body, Entry};
 use std::alloc::Global;
 

@@ -3,8 +3,8 @@
 // both; else it prints how many nodes the joined tree has. `bench/join.sh` times it.
 #![tactic(auto)]
 
-use mtn_apply::{common_are_known, join};
 use mtn_base::{Comp, Id, List, NodeName, Path};
+use mtn_join::{common_are_known, join};
 use mtn_roster::{Body, Entry, Roster, Slot};
 use std::alloc::Global;
 use std::collections::BTreeSet;

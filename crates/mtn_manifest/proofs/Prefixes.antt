@@ -17,13 +17,8 @@ use Rattle.mtn_roster.specs.declared.entry.Slot.TheVariants.{Root, Below}
 use Rattle.mtn_roster.specs.declared.walk.Stop.{Stop}
 use Rattle.mtn_roster.specs.Tree.{Tree, IsSane, entry_of, path_of, path_up, is_dir, is_root_slot}
 use Rattle.mtn_roster.specs.Walk.{by_path, IsAbove, AreStops}
-use Rattle.mtn_roster.proofs.Finding.{Split}
-use Rattle.mtn_roster.proofs.Members.{taken}
+use Rattle.mtn_roster.proofs.Along.{held, named_by, take_at, as_long, stop_has}
 use Rattle.mtn_roster.proofs.Forest.{same_some}
-use Rattle.mtn_roster.proofs.Looking.{paths_total}
-use Rattle.mtn_roster.proofs.Ordered.{forest_of}
-use Rattle.mtn_roster.proofs.Sorting.{of_ordered, long_map}
-use Rattle.mtn_roster.proofs.BySlot.{slot_is}
 use Rattle.mtn_roster.proofs.Walking.{child_path}
 use Rattle.mtn_roster.proofs.Leading.{get_map, get_within}
 use Rattle.mtn_roster.proofs.Stops.{map-snoc}
@@ -67,22 +62,6 @@ module _ (t : Tree) (sane : IsSane t) where
   abbrev pub kept_in : Entry → List ℕ
   kept_in e = kept_at (path_text (path_of t e)) e
 
-  held : (i : ℕ) (e : Entry) → slice_get (by_path t) i ≡ Some e → entry_of t e.name ≡ Some e
-  held i e h =
-      let r = taken (by_path t) i (get_within (by_path t) i e h) in
-      let is : r.0 ≡ e = same_some r.1 h in
-      (forest_of t sane).distinct e (of_ordered path_cmp (path_of t) paths_total t e (subst (Split (by_path t)) is r.2))
-
-  named_by : (o : Option Entry) (p : NodeName) → option_map (λ (e : Entry). e.name) o ≡ Some p → (d : Entry) × (o ≡ Some d) × (d.name ≡ p)
-  named_by None p h = absurd cc
-  named_by (Some d) p h = (d, refl, cc)
-
-  take_at : (xs : List Entry) (i k : ℕ) (d : Entry) → k < i → slice_get xs k ≡ Some d → slice_get (take i xs) k ≡ Some d
-  take_at [] i k d lt h = absurd cc
-  take_at (x ∷ xs) zero k d lt h = absurd (omega (arith, lt))
-  take_at (x ∷ xs) (suc i) zero d lt h = h
-  take_at (x ∷ xs) (suc i) (suc k) d lt h = take_at xs i k d (omega (arith, lt)) h
-
   get_from : (xs : List (List ℕ)) (k : ℕ) (x : List ℕ) → slice_get xs k ≡ Some x → get_or xs k [] ≡ x
   get_from [] k x h = absurd cc
   get_from (y ∷ xs) zero x h = cc
@@ -100,9 +79,9 @@ module _ (t : Tree) (sane : IsSane t) where
       record { met = tt; text = sym (ap path_text none) }
   places kept i above e (Below p n) at slot known is =
       let d = named_by (slice_get (by_path t) above) p known.1 in
-      let own : entry_of t d.0.name ≡ Some d.0 = held above d.0 d.1 in
-      let path : path_of t e ≡ path_of t d.0 ++ n ∷ [] = child_path t sane d.0 e n own (held i e at) (slot ∙ ap (λ m. Below m n) (sym d.2)) in
-      let up = sane.sane.parents e.name p e n (held i e at) slot in
+      let own : entry_of t d.0.name ≡ Some d.0 = held t sane above d.0 d.1 in
+      let path : path_of t e ≡ path_of t d.0 ++ n ∷ [] = child_path t sane d.0 e n own (held t sane i e at) (slot ∙ ap (λ m. Below m n) (sym d.2)) in
+      let up = sane.sane.parents e.name p e n (held t sane i e at) slot in
       let same : up.0 ≡ d.0 = same_some up.1 (ap (entry_of t) (sym d.2) ∙ own) in
       let dir : is_dir d.0 ≡ true = subst (λ (x : Entry). is_dir x ≡ true) same up.2 in
       let there : slice_get kept above ≡ Some (kept_in d.0) =
@@ -112,21 +91,6 @@ module _ (t : Tree) (sane : IsSane t) where
         met = get_within kept above (kept_in d.0) there;
         text = ap (λ f. f ++ n) front ∙ sym (joined_more (path_of t d.0) n) ∙ ap path_text (sym path);
       }
-
-read_some : (o : Option Entry) (p : Option Entry) → option_map Some o ≡ Some p → (e : Entry) × (o ≡ Some e) × (p ≡ Some e)
-read_some None p h = absurd cc
-read_some (Some e) p h = (e, refl, cc)
-
--- the entry at a stop
-pub stop_has : (t : Tree) (stops : List Stop) → AreStops t stops → (i : ℕ) (d : Stop) → i < length stops →
-    (e : Entry) × (slice_get t (get_or stops i d).place ≡ Some e) × (slice_get (by_path t) i ≡ Some e) × IsAbove (by_path t) e.slot i (get_or stops i d).above
-stop_has t stops are i d low =
-    let s : Stop = get_or stops i d in
-    let at : slice_get stops i ≡ Some s = slice_get-get_or stops i d low in
-    let both : option_map Some (slice_get (by_path t) i) ≡ Some (slice_get t s.place) =
-    sym (get_map Some (by_path t) i) ∙ ap (λ l. slice_get l i) (sym are.order) ∙ get_map (λ (s : Stop). slice_get t s.place) stops i ∙ ap (option_map (λ (s : Stop). slice_get t s.place)) at in
-    let r = read_some (slice_get (by_path t) i) (slice_get t s.place) both in
-    (r.0, r.2, r.1, subst (λ q. IsAbove (by_path t) q i s.above) (slot_is t s.place r.0 r.2) (are.parents i s at))
 
 -- one more node
 pub met_more : {Y : Type 0} (t : Tree) (f : Entry → Y) (i : ℕ) (e : Entry) (ys ys' : List Y) (y : Y) → slice_get (by_path t) i ≡ Some e → y ≡ f e → ys ≡ map f (take i (by_path t)) → ys' ≡ ys ++ y ∷ [] → ys' ≡ map f (take (i + 1) (by_path t))
@@ -180,5 +144,4 @@ at_stop t sane items stops are same i d low o b got is_held held prefixes pre wa
 -- all nodes were met
 pub all_met : {Y : Type 0} (t : Tree) (f : Entry → Y) (stops : List Stop) → AreStops t stops → (i : ℕ) → length stops ≤ i → map f (take i (by_path t)) ≡ map f (by_path t)
 all_met t f stops are i far =
-    let same : length stops ≡ length (by_path t) = sym (long_map (λ (s : Stop). slice_get t s.place) stops) ∙ ap length are.order ∙ long_map Some (by_path t) in
-    ap (map f) (take_all i (by_path t) (omega (arith, far, same)))
+    ap (map f) (take_all i (by_path t) (omega (arith, far, as_long t stops are)))

@@ -21,3 +21,5 @@ pub mod Walking
 pub mod Leading
 pub mod Stops
 pub mod Naming
+pub mod Keyed
+pub mod Along

@@ -14,6 +14,7 @@
 //! bytes more than it has itself, and no name is kept twice.
 #![tactic(auto)]
 
+pub mod attrs;
 mod build;
 mod entry;
 mod index;

@@ -7,7 +7,8 @@ use Rattle.mtn_roster.specs.declared.entry.Entry.{Entry}
 use Rattle.mtn_roster.specs.Tree.{path_of}
 use Rattle.mtn_roster.specs.Walk.{AreStops}
 use Rattle.mtn_manifest.specs.Manifest.{head_stanza, node_stanza, kept_at}
-use Rattle.mtn_manifest.proofs.Prefixes.{at_stop, stop_has, met_more, written_more, all_met, copied_some}
+use Rattle.mtn_roster.proofs.Along.{stop_has}
+use Rattle.mtn_manifest.proofs.Prefixes.{at_stop, met_more, written_more, all_met, copied_some}
 use Rattle.mtn_manifest.proofs.write_all.Goals as goal
 
 pub unwrap-entry-requires : goal.unwrap-entry-requires

@@ -1,0 +1,5 @@
+pub mod Alike
+pub mod BothStand
+pub mod Keyed
+pub mod LeastFault
+pub mod Made
