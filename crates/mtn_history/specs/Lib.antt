@@ -5,5 +5,6 @@ pub mod Logs
 pub mod Meta
 pub mod Records
 pub mod Revisions
+pub mod Rosters
 pub mod Stands
 pub mod Texts

@@ -17,6 +17,7 @@ mod files;
 mod logs;
 mod meta;
 mod pending;
+mod rosters;
 mod tables;
 mod texts;
 
@@ -24,4 +25,4 @@ pub use draft::{Draft, DraftOver};
 pub use errors::{Damage, HistoryError, StoreError};
 pub use meta::Meta;
 pub use pending::Pending;
-pub use tables::{FILES, LOG, META, TEXTS};
+pub use tables::{FILES, LOG, META, ROSTERS, TEXTS};

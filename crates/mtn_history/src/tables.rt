@@ -11,3 +11,6 @@ pub const TEXTS: u8 = 3;
 
 /// Under each position of the log its revision's id, the next node number, and its parents' positions.
 pub const LOG: u8 = 4;
+
+/// Under each position the roster of its revision, whole or as it differs from another.
+pub const ROSTERS: u8 = 5;

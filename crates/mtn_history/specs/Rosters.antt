@@ -1,0 +1,60 @@
+-- Rosters: what is read of table 5, and what is damage.
+use Rattle.std.specs.Prelude.{◌≡◌, ◌<◌, ◌⊎◌, ℕ, List, [], ◌∷◌, reverse, length, Option, Some, None, slice_get}
+use Rattle.mtn_chains.specs.Chain.{Entries, rebuilt, deepest}
+use Rattle.mtn_chains.specs.Spelled.{Spells}
+use Rattle.mtn_growth.specs.History.{Revision}
+use Rattle.mtn_marking.specs.Graph.{IsMarkedAt}
+use Rattle.mtn_marking.specs.Marking.{MarkedTree}
+use Rattle.mtn_model.specs.Table.{Contents, body_at}
+use Rattle.mtn_records.specs.Bounds.{IsRosterAt}
+use Rattle.mtn_records.specs.Fields.{number_text}
+use Rattle.mtn_records.specs.declared.record.RosterRecord.{RosterRecord}
+use Rattle.mtn_records.specs.declared.record.RosterRecord.TheVariants.{Whole, Delta}
+use Rattle.mtn_history.specs.declared.errors.Damage.{Damage}
+use Rattle.mtn_history.specs.declared.errors.Damage.TheVariants.{Bad, Missing}
+use Rattle.mtn_history.specs.Revisions.{Kept, AreKept, AreRosters}
+
+-- the record of table 5 at a position
+pub record IsRostered (c : Contents) (r : ℕ) (roster : RosterRecord) : Type 0 where
+  pub body : List ℕ
+  pub held : body_at c 5 (number_text r) ≡ Some body
+  pub text : IsRosterAt r body roster
+
+-- The records from a position down to a whole one, each delta's base next
+abbrev pub IsChainDown : Contents → ℕ → List RosterRecord → Type 0
+IsChainDown c r [] = ⊥
+IsChainDown c r (Whole entries ∷ rest) = IsRostered c r (Whole entries) × (rest ≡ [])
+IsChainDown c r (Delta base depth gone changed ∷ rest) = IsRostered c r (Delta base depth gone changed) × IsChainDown c base rest
+
+-- the records from a position down, of which the last is a delta
+abbrev pub IsPathDown : Contents → ℕ → List RosterRecord → ℕ → Type 0
+IsPathDown c r [] to = to ≡ r
+IsPathDown c r (Whole entries ∷ rest) to = ⊥
+IsPathDown c r (Delta base depth gone changed ∷ rest) to = IsRostered c r (Delta base depth gone changed) × IsPathDown c base rest to
+
+-- what stands at a position is no record of a roster, or nothing does
+abbrev pub UnrosteredAt : Contents → ℕ → Damage → Type 0
+UnrosteredAt c r (Bad table key body) = (table ≡ 5) × (key ≡ number_text r) × (body_at c 5 key ≡ Some body) × ((roster : RosterRecord) → IsRosterAt r body roster → ⊥)
+UnrosteredAt c r (Missing table key) = (table ≡ 5) × (key ≡ number_text r) × (body_at c 5 key ≡ None)
+
+-- what is held at a position, or that nothing is
+abbrev pub IsRosterHeld : Contents → ℕ → Damage → Type 0
+IsRosterHeld c r (Bad table key body) = (table ≡ 5) × (key ≡ number_text r) × (body_at c 5 key ≡ Some body)
+IsRosterHeld c r (Missing table key) = (table ≡ 5) × (key ≡ number_text r) × (body_at c 5 key ≡ None)
+
+-- the record at a position and those below it give no tree with marks
+abbrev pub UnrebuiltAt : Contents → ℕ → Damage → Type 0
+UnrebuiltAt c r d = IsRosterHeld c r d × ((chain : List RosterRecord) (es : Entries) (t : MarkedTree) → IsChainDown c r chain → rebuilt (reverse chain) ≡ Some es → Spells es t → ⊥)
+
+-- a position below n whose record is none, is not there, or gives no tree with those below it
+pub record UnmadeBelow (n : ℕ) (c : Contents) (d : Damage) : Type 0 where
+  pub place : ℕ
+  pub below : place < n
+  pub wrong : UnrosteredAt c place d ⊎ UnrebuiltAt c place d
+
+-- the entries of a chain and the marked tree that they spell
+pub record IsRebuilt (c : Contents) (r : ℕ) (es : Entries) (t : MarkedTree) : Type 0 where
+  pub chain : List RosterRecord
+  pub down : IsChainDown c r chain
+  pub entries : rebuilt (reverse chain) ≡ Some es
+  pub spelled : Spells es t
