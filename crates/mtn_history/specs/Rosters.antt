@@ -46,6 +46,16 @@ IsRosterHeld c r (Missing table key) = (table ≡ 5) × (key ≡ number_text r) 
 abbrev pub UnrebuiltAt : Contents → ℕ → Damage → Type 0
 UnrebuiltAt c r d = IsRosterHeld c r d × ((chain : List RosterRecord) (es : Entries) (t : MarkedTree) → IsChainDown c r chain → rebuilt (reverse chain) ≡ Some es → Spells es t → ⊥)
 
+-- what a record stands on
+abbrev pub base_of : RosterRecord → Option ℕ
+base_of (Whole entries) = None
+base_of (Delta base depth gone changed) = Some base
+
+-- the chain of a position, its whole record first; none where no chain from there gives entries
+abbrev pub IsChainOf : Contents → ℕ → Option (List RosterRecord) → Type 0
+IsChainOf c r (Some chain) = IsChainDown c r (reverse chain)
+IsChainOf c r None = (chain : List RosterRecord) (es : Entries) → IsChainDown c r chain → rebuilt (reverse chain) ≡ Some es → ⊥
+
 -- a position below n whose record is none, is not there, or gives no tree with those below it
 pub record UnmadeBelow (n : ℕ) (c : Contents) (d : Damage) : Type 0 where
   pub place : ℕ

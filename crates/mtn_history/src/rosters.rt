@@ -1,10 +1,10 @@
 // The rosters that records give.
-ghost use Rattle.std.specs.Prelude.{◌≡◌, ◌<◌, ◌≢◌, reverse, Err, IfOk, IfErr, IfSome};
+ghost use Rattle.std.specs.Prelude.{◌≡◌, ◌+◌, option_map, Err, IfOk, IfErr, IfSome};
 ghost use Rattle.mtn_ports.specs.Causes.{Rose};
 ghost use Rattle.mtn_ports.specs.Kept.{Stays, with_all};
 ghost use Rattle.mtn_records.specs.Bounds.{IsWithin};
 ghost use Rattle.mtn_history.specs.Errors.{IfDamage};
-ghost use Rattle.mtn_history.specs.Rosters.{IsRostered, IsChainDown, IsRosterHeld, UnrosteredAt, UnmadeBelow, IsRebuilt};
+ghost use Rattle.mtn_history.specs.Rosters.{IsRostered, IsChainOf, IsRosterHeld, UnrosteredAt, UnmadeBelow, IsRebuilt, base_of as base_in};
 
 use crate::damaged::{bad, missing};
 use crate::{DraftOver, Pending, ROSTERS, StoreError};
@@ -52,5 +52,64 @@ impl<'a, K: Keeper> DraftOver<'a, K, Pending> {
             Ok(false) => missing(self.pending.alloc, ROSTERS, &key),
             Err(error) => error,
         }
+    }
+
+    // The records from a position down to a whole one, the whole one first. None where there are more than a chain may have.
+    fn chain(&mut self, at: Pos) -> Result<Option<Vec<RosterRecord>>, StoreError>
+        ensures same_reference { self.new.keeper.ghost_name ≡ self.old.keeper.ghost_name }
+        ensures stays { Stays K.contents K.leaves K.faults self.old.keeper.now self.new.keeper.now }
+        ensures pending { self.new.pending ≡ self.old.pending }
+        ensures read { IfSome (K.contents self.new.keeper.now) (λ c. IfOk result (λ chain. IsChainOf (with_all c self.old.pending.batch) at (option_map (λ v. v.items) chain))) }
+        ensures damaged { IfSome (K.contents self.new.keeper.now) (λ c. IfErr result (λ e. IfDamage e (UnmadeBelow (at + 1) (with_all c self.old.pending.batch)))) }
+        ensures failed { result ≡ Err StoreError.Failed → Rose (K.faults self.old.keeper.now) (K.faults self.new.keeper.now) }
+    {
+        let mut chain = Vec::new(self.pending.alloc);
+        let mut next = at;
+        for taken in 0..RECORDS {
+            let record = self.rostered(next)?;
+            let base = base_of(&record);
+            chain.push(record)?;
+            match base {
+                Some(base) => next = base,
+                None => {
+                    chain.reverse();
+                    return Ok(Some(chain));
+                }
+            }
+        }
+        Ok(None)
+    }
+
+    /// The entries of a revision's roster under their numbers, and the roster with its marks. It asks for at most sixteen
+    /// records.
+    pub fn roster_at(&mut self, at: Pos) -> Result<(Numbered, MarkedRoster), StoreError>
+        ensures same_reference { self.new.keeper.ghost_name ≡ self.old.keeper.ghost_name }
+        ensures stays { Stays K.contents K.leaves K.faults self.old.keeper.now self.new.keeper.now }
+        ensures pending { self.new.pending ≡ self.old.pending }
+        ensures rebuilt { IfSome (K.contents self.new.keeper.now) (λ c. IfOk result (λ r. IsRebuilt (with_all c self.old.pending.batch) at r.0 r.1)) }
+        ensures damaged { IfSome (K.contents self.new.keeper.now) (λ c. IfErr result (λ e. IfDamage e (UnmadeBelow (at + 1) (with_all c self.old.pending.batch)))) }
+        ensures failed { result ≡ Err StoreError.Failed → Rose (K.faults self.old.keeper.now) (K.faults self.new.keeper.now) }
+    {
+        let Some(chain) = self.chain(at)? else {
+            return Err(self.roster_held(at));
+        };
+        match rebuild(self.pending.alloc, chain) {
+            Ok(made) => Ok(made),
+            Err(RecordError::Bad) => Err(self.roster_held(at)),
+            Err(RecordError::NoMemory) => Err(StoreError::NoMemory),
+        }
+    }
+}
+
+// The most records of a chain: a whole one and the deltas above it.
+const RECORDS: usize = DEEPEST as usize + 1;
+
+// What a record stands on; None for a whole one.
+fn base_of(record: &RosterRecord) -> Option<Pos>
+    ensures { result ≡ base_in record.now }
+{
+    match record {
+        RosterRecord::Whole(_) => None,
+        RosterRecord::Delta { base, .. } => Some(*base),
     }
 }

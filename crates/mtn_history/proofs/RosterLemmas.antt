@@ -1,0 +1,187 @@
+-- Rosters, rebuilt along their chains.
+use Rattle.std.specs.Prelude.{IfSome, IsTrue, nat_lt, not, reverse, slice_get, option_map, option_and_then, ◌==◌, ◌&&◌}
+use Rattle.std.specs.Option.{option_map_or}
+use Rattle.std.proofs.Common.{◌≡◌, ◌≤◌, ◌<◌, ◌+◌, ℕ, zero, suc, Bool, true, false, cond, List, [], ◌∷◌, ◌++◌, length, Option, Some, None, refl, sym, ap, ◌∙◌, subst, ◌⊎◌, ⊎_elim, inl, inr, arith}
+use Rattle.std.proofs.lemmas.List.{length-append, length-reverse, append-nil, reverse-reverse}
+use Rattle.std.proofs.lemmas.Bool.Decides.{nat_tests}
+use Rattle.mtn_chains.specs.Chain.{Entries, applied, after_record, after_all, rebuilt, deepest, ascend}
+use Rattle.mtn_chains.specs.Difference.{IsDifference}
+use Rattle.mtn_chains.specs.Spelled.{Spells}
+use Rattle.mtn_growth.specs.History.{Revision}
+use Rattle.mtn_marking.specs.Graph.{IsMarkedAt}
+use Rattle.mtn_marking.specs.Marking.{MarkedTree}
+use Rattle.mtn_model.specs.Table.{Contents, body_at}
+use Rattle.mtn_ports.specs.Kept.{Same, with_all}
+use Rattle.mtn_ports.specs.declared.batch.Put.{Put}
+use Rattle.mtn_records.specs.Bounds.{IsRosterAt, IsWithin}
+use Rattle.mtn_records.specs.Fields.{number_text}
+use Rattle.mtn_records.specs.Records.{roster_text}
+use Rattle.mtn_records.specs.RecordsApart.{roster_apart}
+use Rattle.mtn_records.specs.declared.record.RosterRecord.{RosterRecord}
+use Rattle.mtn_records.specs.declared.record.RosterRecord.TheVariants.{Whole, Delta}
+use Rattle.mtn_history.specs.Errors.{IfDamage}
+use Rattle.mtn_history.specs.declared.errors.StoreError.{StoreError}
+use Rattle.mtn_history.specs.declared.errors.StoreError.TheVariants.{Failed, Damaged, NoMemory}
+use Rattle.mtn_history.specs.declared.errors.Damage.{Damage}
+use Rattle.mtn_history.specs.declared.errors.Damage.TheVariants.{Bad, Missing}
+use Rattle.mtn_history.specs.Revisions.{Kept, AreKept, AreRosters, IsRosterBody, IsRosterOf}
+use Rattle.mtn_history.specs.Rosters.{IsRostered, IsChainDown, IsPathDown, IsChainOf, IsRosterHeld, UnrosteredAt, UnrebuiltAt, UnmadeBelow, IsRebuilt, base_of}
+use Rattle.mtn_history.proofs.LogLemmas.{told_on}
+
+one_body : (o : Option (List ℕ)) (a b : List ℕ) → o ≡ Some a → o ≡ Some b → a ≡ b
+one_body o a b x y = cc
+
+-- a body is that of one record
+one_roster : (r : ℕ) (a b : List ℕ) (x y : RosterRecord) → a ≡ b → IsRosterAt r a x → IsRosterAt r b y → x ≡ y
+one_roster r a b x y same s t = let both = roster_apart x y [] [] s.formed t.formed (append-nil (roster_text x) ∙ sym s.whole ∙ same ∙ t.whole ∙ sym (append-nil (roster_text y))) in both.0
+
+module _ (c : Contents) where
+  one_rostered : (r : ℕ) (x y : RosterRecord) → IsRostered c r x → IsRostered c r y → x ≡ y
+  one_rostered r x y a b = one_roster r a.body b.body x y (one_body (body_at c 5 (number_text r)) a.body b.body a.held b.held) a.text b.text
+
+  -- a chain is told by where it begins
+  pub one_chain : (r : ℕ) (xs ys : List RosterRecord) → IsChainDown c r xs → IsChainDown c r ys → xs ≡ ys
+  one_chain r [] ys a b = absurd a
+  one_chain r (x ∷ xs) [] a b = absurd b
+  one_chain r (Whole es ∷ xs) (Whole fs ∷ ys) a b = λ i. one_rostered r (Whole es) (Whole fs) a.0 b.0 i ∷ (a.1 ∙ sym b.1) i
+  one_chain r (Whole es ∷ xs) (Delta base d g ch ∷ ys) a b = absurd (let same = one_rostered r (Whole es) (Delta base d g ch) a.0 b.0 in cc)
+  one_chain r (Delta base d g ch ∷ xs) (Whole fs ∷ ys) a b = absurd (let same = one_rostered r (Delta base d g ch) (Whole fs) a.0 b.0 in cc)
+  one_chain r (Delta base d g ch ∷ xs) (Delta base' d' g' ch' ∷ ys) a b =
+      let same = one_rostered r (Delta base d g ch) (Delta base' d' g' ch') a.0 b.0 in
+      let down : base' ≡ base = cc in
+      λ i. same i ∷ one_chain base xs ys a.1 (subst (λ k. IsChainDown c k ys) down b.1) i
+
+  -- one record more
+  pub path_more : (r to b d : ℕ) (g : List ℕ) (ch : Entries) (rs : List RosterRecord) → IsPathDown c r rs to → IsRostered c to (Delta b d g ch) → IsPathDown c r (rs ++ Delta b d g ch ∷ []) b
+  path_more r to b d g ch [] p here = (subst (λ k. IsRostered c k (Delta b d g ch)) p here, refl)
+  path_more r to b d g ch (Whole es ∷ rs) p here = absurd p
+  path_more r to b d g ch (Delta base e h k ∷ rs) p here = (p.0, path_more base to b d g ch rs p.1 here)
+
+  pub path_ends : (r to : ℕ) (es : Entries) (rs : List RosterRecord) → IsPathDown c r rs to → IsRostered c to (Whole es) → IsChainDown c r (rs ++ Whole es ∷ [])
+  path_ends r to es [] p here = (subst (λ k. IsRostered c k (Whole es)) p here, refl)
+  path_ends r to es (Whole fs ∷ rs) p here = absurd p
+  path_ends r to es (Delta base e h k ∷ rs) p here = (p.0, path_ends base to es rs p.1 here)
+
+  -- a path leads down
+  pub path_low : (r to : ℕ) (rs : List RosterRecord) → IsPathDown c r rs to → to ≤ r
+  path_low r to [] p = omega (arith, p)
+  path_low r to (Whole es ∷ rs) p = absurd p
+  path_low r to (Delta base d g ch ∷ rs) p = let low = path_low base to rs p.1 in let under : base < r = p.0.text.within.0 in omega (arith, low, under)
+
+  -- a chain is longer than each path from its place
+  longer : (r to : ℕ) (rs chain : List RosterRecord) → IsPathDown c r rs to → IsChainDown c r chain → length rs < length chain
+  longer r to rs [] p q = absurd q
+  longer r to [] (x ∷ chain) p q = omega arith
+  longer r to (Whole es ∷ rs) (x ∷ chain) p q = absurd p
+  longer r to (Delta base d g ch ∷ rs) (Whole es ∷ chain) p q = absurd (let same = one_rostered r (Delta base d g ch) (Whole es) p.0 q.0 in cc)
+  longer r to (Delta base d g ch ∷ rs) (Delta base' d' g' ch' ∷ chain) p q =
+      let same = one_rostered r (Delta base d g ch) (Delta base' d' g' ch') p.0 q.0 in
+      let down : base' ≡ base = cc in
+      let more = longer base to rs chain p.1 (subst (λ k. IsChainDown c k chain) down q.1) in
+      omega (arith, more)
+
+-- a delta that may follow is within the deepest
+within_depth : (d depth : ℕ) (o : Option Entries) (fs : Entries) → cond ((d == depth) && not (nat_lt deepest depth)) o None ≡ Some fs → depth ≤ 15
+within_depth d depth o fs e = by ((d == depth) && not (nat_lt deepest depth)) refl e
+  where
+    by : (b : Bool) → ((d == depth) && not (nat_lt deepest depth)) ≡ b → cond b o None ≡ Some fs → depth ≤ 15
+    by true is h = grind (arith, nat_tests)
+    by false is h = absurd cc
+
+then : {A B : Type 0} (f : A → Option B) (o : Option A) (b : B) → option_and_then f o ≡ Some b → (a : A) × (o ≡ Some a) × (f a ≡ Some b)
+then f None b e = absurd cc
+then f (Some a) b e = (a, refl, e)
+
+after_short : (depth : ℕ) (es fs : Entries) (rs : List RosterRecord) → after_all depth es rs ≡ Some fs → (length rs ≡ 0) ⊎ (depth + length rs ≤ 16)
+after_short depth es fs [] e = inl refl
+after_short depth es fs (Whole all ∷ rs) e = absurd (let t = then (λ gs. after_all (depth + 1) gs rs) (after_record depth es (Whole all)) fs e in cc)
+after_short depth es fs (Delta base d g ch ∷ rs) e =
+    let t = then (λ gs. after_all (depth + 1) gs rs) (after_record depth es (Delta base d g ch)) fs e in
+    let low = within_depth d depth (applied es g ch) t.0 t.1 in
+    inr (⊎_elim (λ none. omega (arith, low, none)) (λ some. omega (arith, some)) (after_short (depth + 1) t.0 fs rs t.2))
+
+rebuilt_short : (rs : List RosterRecord) (es : Entries) → rebuilt rs ≡ Some es → length rs ≤ 16
+rebuilt_short [] es e = omega arith
+rebuilt_short (Delta base d g ch ∷ rs) es e = absurd cc
+rebuilt_short (Whole all ∷ rs) es e = by (ascend all) refl e
+  where
+    by : (b : Bool) → ascend all ≡ b → cond b (after_all 1 all rs) None ≡ Some es → length (Whole all ∷ rs) ≤ 16
+    by true is h = ⊎_elim (λ none. omega (arith, none)) (λ some. omega (arith, some)) (after_short 1 all es rs h)
+    by false is h = absurd cc
+
+-- sixteen records and no whole one are no chain that gives entries
+pub too_deep : (c : Contents) (r to : ℕ) (rs : List RosterRecord) → IsPathDown c r rs to → length rs ≡ 16 → IsChainOf c r None
+too_deep c r to rs path long chain es down made =
+    let short = rebuilt_short (reverse chain) es made in
+    let more = longer c r to rs chain path down in
+    omega (arith, short, more, long, length-reverse chain)
+
+-- what was found wrong at a place of the path
+unmade_at : (c : Contents) (at next : ℕ) (e : StoreError) → next ≤ at → IfDamage e (UnrosteredAt c next) → IfDamage e (UnmadeBelow (at + 1) c)
+unmade_at c at next Failed le h = tt
+unmade_at c at next NoMemory le h = tt
+unmade_at c at next (Damaged d) le h = record { place = next; below = omega (arith, le); wrong = inl h }
+
+pub unmade : (told : Option Contents) (ps : List Put) (at next : ℕ) (e : StoreError) → next ≤ at → IfSome told (λ c. IfDamage e (UnrosteredAt (with_all c ps) next)) → IfSome told (λ c. IfDamage e (UnmadeBelow (at + 1) (with_all c ps)))
+unmade None ps at next e le h = tt
+unmade (Some c) ps at next e le h = unmade_at (with_all c ps) at next e le h
+
+path_next_at : (c : Contents) (at next b : ℕ) (rs : List RosterRecord) (x : RosterRecord) → IsPathDown c at rs next → IsRostered c next x → base_of x ≡ Some b → IsPathDown c at (rs ++ x ∷ []) b
+path_next_at c at next b rs (Whole es) path here is = absurd cc
+path_next_at c at next b rs (Delta base d g ch) path here is = let same : base ≡ b = cc in subst (IsPathDown c at (rs ++ Delta base d g ch ∷ [])) same (path_more c at next base d g ch rs path here)
+
+pub path_next : (mid new : Option Contents) (ps : List Put) (at next b : ℕ) (rs more : List RosterRecord) (x : RosterRecord) → Same mid new → IfSome mid (λ c. IsPathDown (with_all c ps) at rs next) →
+    IfSome new (λ c. IsRostered (with_all c ps) next x) → base_of x ≡ Some b → more ≡ rs ++ x ∷ [] → IfSome new (λ c. IsPathDown (with_all c ps) at more b)
+path_next mid None ps at next b rs more x same path here is grown = tt
+path_next mid (Some c) ps at next b rs more x same path here is grown =
+    subst (λ l. IsPathDown (with_all c ps) at l b) (sym grown) (path_next_at (with_all c ps) at next b rs x (told_on mid (Some c) (λ d. IsPathDown (with_all d ps) at rs next) same path c refl) here is)
+
+chain_whole_at : (c : Contents) (at next : ℕ) (rs : List RosterRecord) (x : RosterRecord) → IsPathDown c at rs next → IsRostered c next x → base_of x ≡ None → IsChainDown c at (rs ++ x ∷ [])
+chain_whole_at c at next rs (Whole es) path here is = path_ends c at next es rs path here
+chain_whole_at c at next rs (Delta base d g ch) path here is = absurd cc
+
+pub chain_whole : (mid new : Option Contents) (ps : List Put) (at next : ℕ) (rs more turned : List RosterRecord) (x : RosterRecord) → Same mid new → IfSome mid (λ c. IsPathDown (with_all c ps) at rs next) →
+    IfSome new (λ c. IsRostered (with_all c ps) next x) → base_of x ≡ None → more ≡ rs ++ x ∷ [] → turned ≡ reverse more → IfSome new (λ c. IsChainOf (with_all c ps) at (Some turned))
+chain_whole mid None ps at next rs more turned x same path here is grown turns = tt
+chain_whole mid (Some c) ps at next rs more turned x same path here is grown turns =
+    subst (IsChainDown (with_all c ps) at) (sym (ap reverse (turns ∙ ap reverse grown) ∙ reverse-reverse (rs ++ x ∷ [])))
+    (chain_whole_at (with_all c ps) at next rs x (told_on mid (Some c) (λ d. IsPathDown (with_all d ps) at rs next) same path c refl) here is)
+
+pub no_chain : (told : Option Contents) (ps : List Put) (at next : ℕ) (rs : List RosterRecord) → IfSome told (λ c. IsPathDown (with_all c ps) at rs next) → length rs ≡ 16 → IfSome told (λ c. IsChainOf (with_all c ps) at None)
+no_chain None ps at next rs path long = tt
+no_chain (Some c) ps at next rs path long = too_deep (with_all c ps) at next rs path long
+
+unrebuilt_at : (c : Contents) (at : ℕ) (e : StoreError) → ((chain : List RosterRecord) (es : Entries) (t : MarkedTree) → IsChainDown c at chain → rebuilt (reverse chain) ≡ Some es → Spells es t → ⊥) →
+    IfDamage e (IsRosterHeld c at) → IfDamage e (UnmadeBelow (at + 1) c)
+unrebuilt_at c at Failed none held = tt
+unrebuilt_at c at NoMemory none held = tt
+unrebuilt_at c at (Damaged d) none held = record { place = at; below = omega arith; wrong = inr (held, none) }
+
+-- no chain gives entries
+pub unrebuilt_none : (mid new : Option Contents) (ps : List Put) (at : ℕ) (e : StoreError) → Same mid new → IfSome mid (λ c. IsChainOf (with_all c ps) at None) →
+    IfSome new (λ c. IfDamage e (IsRosterHeld (with_all c ps) at)) → IfSome new (λ c. IfDamage e (UnmadeBelow (at + 1) (with_all c ps)))
+unrebuilt_none mid None ps at e same none held = tt
+unrebuilt_none mid (Some c) ps at e same none held =
+    unrebuilt_at (with_all c ps) at e (λ chain es t down made spelled. told_on mid (Some c) (λ d. IsChainOf (with_all d ps) at None) same none c refl chain es down made) held
+
+-- the chain gives no tree
+pub unrebuilt_bad : (mid new : Option Contents) (ps : List Put) (at : ℕ) (e : StoreError) (chain : List RosterRecord) → Same mid new → IfSome mid (λ c. IsChainOf (with_all c ps) at (Some chain)) →
+    ((es : Entries) (t : MarkedTree) → rebuilt chain ≡ Some es → Spells es t → ⊥) →
+    IfSome new (λ c. IfDamage e (IsRosterHeld (with_all c ps) at)) → IfSome new (λ c. IfDamage e (UnmadeBelow (at + 1) (with_all c ps)))
+unrebuilt_bad mid None ps at e chain same is bad held = tt
+unrebuilt_bad mid (Some c) ps at e chain same is bad held =
+    unrebuilt_at (with_all c ps) at e (λ other es t down made spelled.
+        let one : other ≡ reverse chain = one_chain (with_all c ps) at other (reverse chain) down (told_on mid (Some c) (λ d. IsChainOf (with_all d ps) at (Some chain)) same is c refl) in
+        bad es t (sym (ap rebuilt (ap reverse one ∙ reverse-reverse chain)) ∙ made) spelled) held
+
+pub is_rebuilt : (told : Option Contents) (ps : List Put) (at : ℕ) (chain : List RosterRecord) (es : Entries) (t : MarkedTree) → IfSome told (λ c. IsChainOf (with_all c ps) at (Some chain)) → rebuilt chain ≡ Some es → Spells es t →
+    IfSome told (λ c. IsRebuilt (with_all c ps) at es t)
+is_rebuilt None ps at chain es t is made spelled = tt
+is_rebuilt (Some c) ps at chain es t is made spelled = record { chain = reverse chain; down = is; entries = ap rebuilt (reverse-reverse chain) ∙ made; spelled = spelled }
+
+pub one_more_record : (rs more : List RosterRecord) (x : RosterRecord) (n : ℕ) → length rs ≡ n → more ≡ rs ++ x ∷ [] → length more ≡ n + 1
+one_more_record rs more x n long is = ap length is ∙ omega (arith, length-append rs (x ∷ []), long)
+
+pub stays_low : (x : RosterRecord) (at next b : ℕ) → base_of x ≡ Some b → IsWithin next x → next ≤ at → b ≤ at
+stays_low (Whole es) at next b is within le = absurd cc
+stays_low (Delta base d g ch) at next b is within le = let same : base ≡ b = cc in let under : base < next = within.0 in omega (arith, same, under, le)
