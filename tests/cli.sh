@@ -45,10 +45,11 @@ row "the id of nothing" 0 '' "$nothing\n" - put_file
 row "an end of options is dropped" 0 abc "$abc\n" - put_file --
 row "a store in memory begins empty" 1 '' "refused UnknownFile $abc\n" - get_file "$abc"
 
-for words in '' 'heads' 'put_file x' 'put_file --x' 'put_file -- x' 'get_file' 'get_file ABC' "get_file $abc x" 'get_file --' 'PUT_FILE' '-- put_file'; do
+for words in '' 'heads' 'put_file x' 'put_file --x' 'put_file --x=' 'put_file --resolve' 'put_file -- x' 'put_file -- --' 'get_file' 'get_file ABC' "get_file $abc x" "get_file $abc --" "get_file --x= $abc" 'get_file --' 'PUT_FILE' '-- put_file'; do
     # shellcheck disable=SC2086
     row "outside the grammar: '$words'" 2 'never read' 'usage\n' - $words
 done
+row "an end of options before an id" 1 '' "refused UnknownFile $abc\n" - get_file -- "$abc"
 row "no store" 2 '' 'usage\n'
 row "words that are not UTF-8" 2 '' 'usage\n' - put_file "$(printf '\377')"
 row "a command without a payload leaves its input" 1 'unread' "refused UnknownFile $abc\n" - get_file "$abc"

@@ -67,12 +67,11 @@ fn command<T: Threads + Sync>(
     store: &str,
     words: &[Bytes],
 ) -> Status {
-    if !are_words(words) {
-        print(rt, "usage\n", Status::Usage)
-    } else if store == "-" {
-        in_memory(threads, rt, words)
-    } else {
-        in_file(threads, rt, store, words)
+    match are_words(rt.alloc(), words) {
+        Ok(true) if store == "-" => in_memory(threads, rt, words),
+        Ok(true) => in_file(threads, rt, store, words),
+        Ok(false) => print(rt, "usage\n", Status::Usage),
+        Err(NoMemory) => Status::NoMemory,
     }
 }
 

@@ -9,7 +9,7 @@ use Rattle.mtn_base.specs.declared.id.Id.{Id}
 use Rattle.mtn_base.specs.declared.refusal.Cause.TheVariants.{UnknownFile}
 use Rattle.mtn_base.specs.Refusals.{line_of}
 use Rattle.mtn_history.specs.Files.{file_refusal, with_file}
-use Rattle.mtn_cli.specs.Words.{call_of}
+use Rattle.mtn_cli.specs.Calls.{call_of}
 use Rattle.mtn_cli.specs.declared.command.Call.{Call}
 use Rattle.mtn_cli.specs.declared.command.Call.TheVariants.{PutFile, GetFile}
 use Rattle.mtn_cli.specs.declared.status.Status.{Status}

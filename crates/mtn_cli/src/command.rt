@@ -1,11 +1,14 @@
-// The grammar of words.
-ghost use Rattle.std.specs.Prelude.{◌≡◌, option_copied, is_some};
-ghost use Rattle.mtn_cli.specs.Words.{call_of, call_with as call_named, is_end as ends_options, is_option as begins_option, positionals_of, put_file_call as put_file_words, get_file_call as get_file_words};
+// The commands, and the words of each.
+ghost use Rattle.std.specs.Prelude.{◌≡◌, IfOk, is_some};
+ghost use Rattle.mtn_cli.specs.Calls.{call_named as call_by_name, call_of, no_words as nothing, one_id as id_of};
+ghost use Rattle.mtn_cli.specs.Words.{Reads};
 
-use mtn_base::{Bytes, Id};
+use crate::words::{WordsError, step_words};
+use mtn_base::{Bytes, Id, NoMemory};
+use std::alloc::Global;
 
 /// A command with its words read.
-#[derive(Clone, Copy, Debug, PartialEq, Eq)]
+#[derive(Debug, Drop)]
 pub enum Call {
     /// `put_file`: keeps the payload, and answers its id.
     PutFile,
@@ -17,8 +20,8 @@ impl Call {
     ghost use Rattle.mtn_cli.specs.Step.{takes_payload};
 
     /// Whether the source is read.
-    pub fn takes_payload(self) -> bool
-        ensures { result ≡ takes_payload self }
+    pub fn takes_payload(&self) -> bool
+        ensures { result ≡ takes_payload self.now }
     {
         match self {
             Call::PutFile => true,
@@ -27,83 +30,56 @@ impl Call {
     }
 }
 
-/// The call that the words spell, if they are in the grammar.
-pub fn read_words(words: &[Bytes]) -> Option<Call>
-    ensures { result ≡ call_of words.now }
+/// The call that the words spell.
+pub fn read_words(alloc: Global, words: &[Bytes]) -> Result<Call, WordsError>
+    ensures { Reads (call_of words.now) result }
 {
-    match words {
-        [] => None,
-        [name, rest @ ..] => match positionals(rest) {
-            Some(words) => call_with(name.as_slice(), words),
-            None => None,
-        },
+    let command = step_words(alloc, words)?;
+    if !command.options.as_slice().is_empty() {
+        return Err(WordsError::Usage);
+    }
+    match std::str::from_utf8(command.name.as_slice()) {
+        Ok(name) => call_named(name, command.positionals.as_slice()),
+        Err(_) => Err(WordsError::Usage),
     }
 }
 
-/// Whether the words are in the grammar. It takes no memory.
-pub fn are_words(words: &[Bytes]) -> bool
-    ensures { result ≡ is_some (call_of words.now) }
+/// Whether the words spell a command with what it takes.
+pub fn are_words(alloc: Global, words: &[Bytes]) -> Result<bool, NoMemory>
+    ensures { IfOk result (λ b. b ≡ is_some (call_of words.now)) }
 {
-    read_words(words).is_some()
-}
-
-// The words behind the options.
-fn positionals(words: &[Bytes]) -> Option<&[Bytes]>
-    ensures { option_copied result ≡ positionals_of words.now }
-{
-    match words {
-        [] => Some(words),
-        [word, rest @ ..] => {
-            if is_end(word) {
-                Some(rest)
-            } else if is_option(word) {
-                None
-            } else {
-                Some(words)
-            }
-        }
+    match read_words(alloc, words) {
+        Ok(_) => Ok(true),
+        Err(WordsError::Usage) => Ok(false),
+        Err(WordsError::NoMemory) => Err(NoMemory),
     }
 }
 
-fn is_end(word: &Bytes) -> bool
-    ensures { result ≡ ends_options word.now }
+// A command that takes no option.
+fn call_named(name: &str, words: &[Bytes]) -> Result<Call, WordsError>
+    ensures { Reads (call_by_name name.now words.now) result }
 {
-    word.as_slice() == b"--".as_slice()
-}
-
-fn is_option(word: &Bytes) -> bool
-    ensures { result ≡ begins_option word.now }
-{
-    word.as_slice().starts_with(b"--")
-}
-
-// The command of this name with these words.
-fn call_with(name: &[u8], words: &[Bytes]) -> Option<Call>
-    ensures { result ≡ call_named name.now words.now }
-{
-    if name == b"put_file".as_slice() {
-        put_file_call(words)
-    } else if name == b"get_file".as_slice() {
-        get_file_call(words)
-    } else {
-        None
+    match name {
+        "put_file" => no_words(words).map(|()| Call::PutFile),
+        "get_file" => one_id(words).map(|id| Call::GetFile { id }),
+        _ => Err(WordsError::Usage),
     }
 }
 
-fn put_file_call(words: &[Bytes]) -> Option<Call>
-    ensures { result ≡ put_file_words words.now }
+fn no_words(words: &[Bytes]) -> Result<(), WordsError>
+    ensures { Reads (nothing words.now) result }
 {
     match words {
-        [] => Some(Call::PutFile),
-        _ => None,
+        [] => Ok(()),
+        _ => Err(WordsError::Usage),
     }
 }
 
-fn get_file_call(words: &[Bytes]) -> Option<Call>
-    ensures { result ≡ get_file_words words.now }
+fn one_id(words: &[Bytes]) -> Result<Id, WordsError>
+    ensures { Reads (id_of words.now) result }
 {
     match words {
-        [id] => Id::read_hex(id.as_slice()).map(|id| Call::GetFile { id }),
-        _ => None,
+        [word] => Id::read_hex(word.as_slice()).ok_or(WordsError::Usage),
+        _ => Err(WordsError::Usage),
     }
 }

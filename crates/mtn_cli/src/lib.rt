@@ -20,9 +20,11 @@ mod put_file;
 mod settle;
 mod status;
 mod top;
+mod words;
 
 pub use command::are_words;
 pub use laws::one_outcome;
 pub use payload::MAX_INPUT;
 pub use status::Status;
 pub use top::run;
+pub use words::{Command, OptionWord, WordsError, step_words};

@@ -1,6 +1,6 @@
 // The top call.
 ghost use Rattle.std.specs.Prelude.{◌≡◌, ◌≤◌, IfOk, IsErrOf};
-ghost use Rattle.mtn_cli.specs.Words.{call_of};
+ghost use Rattle.mtn_cli.specs.Calls.{call_of};
 ghost use Rattle.mtn_cli.specs.Session.{Computes, Feeds, HasCauses, StaysLawful};
 ghost use Rattle.mtn_cli.specs.Run.{Meets, LeavesRecords, TellsDamage, Completes, Survives};
 ghost use Rattle.mtn_cli.specs.Limit.{Stops};
@@ -16,6 +16,7 @@ use crate::payload::{ReadStop, read_payload};
 use crate::put_file::put_file;
 use crate::settle::{bare, settle, usage};
 use crate::status::Status;
+use crate::words::WordsError;
 use mtn_base::Bytes;
 use mtn_history::{Draft, DraftOver, HistoryError, Pending};
 use mtn_ports::{Ident, Keeper, Sink, Source};
@@ -26,18 +27,18 @@ use std::thread::Threads;
 fn on_draft<R: Threads + Sync, I: Ident, K: Keeper>(
     _rt: &R,
     alloc: Global,
-    call: Call,
+    call: &Call,
     ident: &I,
     payload: &[u8],
     draft: &mut Draft<'_, K>,
 ) -> Result<Reply, HistoryError>
     ensures same_reference { draft.new.keeper.ghost_name ≡ draft.old.keeper.ghost_name }
     ensures drafts { Drafts (I.meaning ident.now) K.contents K.leaves K.faults draft.old.keeper.now draft.new.keeper.now draft.old.pending draft.new.pending
-        (Steps (I.meaning ident.now) call payload.now) result }
+        (Steps (I.meaning ident.now) call.now payload.now) result }
 {
     match call {
         Call::PutFile => put_file(alloc, ident, payload, draft),
-        Call::GetFile { id } => get_file(alloc, ident, id, payload, draft),
+        Call::GetFile { id } => get_file(alloc, ident, *id, payload, draft),
     }
 }
 
@@ -45,12 +46,12 @@ fn on_draft<R: Threads + Sync, I: Ident, K: Keeper>(
 fn perform<R: Threads + Sync, I: Ident, K: Keeper>(
     rt: &R,
     alloc: Global,
-    call: Call,
+    call: &Call,
     ident: &I,
     payload: &[u8],
     keeper: &mut K,
 ) -> Result<Reply, HistoryError>
-    ensures { Performs (I.meaning ident.now) K.contents K.leaves K.faults keeper.old keeper.new (Steps (I.meaning ident.now) call payload.now) result }
+    ensures { Performs (I.meaning ident.now) K.contents K.leaves K.faults keeper.old keeper.new (Steps (I.meaning ident.now) call.now payload.now) result }
 {
     let pending = Pending::open(alloc, keeper)?;
     let mut draft = DraftOver::new(keeper, pending);
@@ -60,9 +61,9 @@ fn perform<R: Threads + Sync, I: Ident, K: Keeper>(
 }
 
 // What the command is given of the source.
-fn feed<S: Source>(alloc: Global, call: Call, source: &mut S) -> Result<Vec<u8>, ReadStop>
-    ensures all { IfOk result (λ payload. Feeds (takes_payload call) (S.left source.old) (S.left source.new) payload.items) }
-    ensures limit { Stops (takes_payload call) (S.left source.old) (S.left source.new) result }
+fn feed<S: Source>(alloc: Global, call: &Call, source: &mut S) -> Result<Vec<u8>, ReadStop>
+    ensures all { IfOk result (λ payload. Feeds (takes_payload call.now) (S.left source.old) (S.left source.new) payload.items) }
+    ensures limit { Stops (takes_payload call.now) (S.left source.old) (S.left source.new) result }
     ensures later { S.faults source.old ≤ S.faults source.new }
     ensures failed { IsErrOf result ReadStop.Failed → Rose (S.faults source.old) (S.faults source.new) }
 {
@@ -85,11 +86,13 @@ fn compute<R: Threads + Sync, I: Ident, S: Source, K: Keeper>(
     ensures computes { Computes (I.meaning ident.now) (call_of words.now) K.contents K.leaves K.faults keeper.old keeper.new
         (S.left source.old) (S.left source.new) (S.faults source.old) (S.faults source.new) result }
 {
-    let Some(call) = read_words(words) else {
-        return usage(alloc);
+    let call = match read_words(alloc, words) {
+        Ok(call) => call,
+        Err(WordsError::Usage) => return usage(alloc),
+        Err(WordsError::NoMemory) => return bare(alloc, Status::NoMemory),
     };
-    match feed(alloc, call, source) {
-        Ok(payload) => settle(alloc, perform(rt, alloc, call, ident, &payload, keeper)),
+    match feed(alloc, &call, source) {
+        Ok(payload) => settle(alloc, perform(rt, alloc, &call, ident, &payload, keeper)),
         Err(ReadStop::Failed) => bare(alloc, Status::SourceFault),
         Err(ReadStop::TooLong) => bare(alloc, Status::TooLong),
         Err(ReadStop::NoMemory) => bare(alloc, Status::NoMemory),

@@ -106,12 +106,17 @@ fn other_words_are_usage(rt: HostRuntime) -> Result<(), Fail> {
         "get_file ABC",
         "generate 0",
         "put_file --a=b",
+        "put_file --resolve",
+        "put_file -- x",
         "get_file",
+        "get_file 0000000000000000000000000000000000000002 x",
     ] {
         let ended = call(&rt, alloc, line, &Sha1One, b"abc", &mut keeper)?;
         assert_eq!(rt; ended.status, Status::Usage, "{line}");
         assert_eq!(rt; ended.written.as_slice(), b"usage\n".as_slice());
     }
     assert_eq!(rt; keeper.reads(), 0, "nothing was asked of the keeper");
+    let ended = call(&rt, alloc, "put_file --", &Toy, b"abc", &mut keeper)?;
+    assert_eq!(rt; ended.status, Status::Ok);
     Ok(())
 }

@@ -11,3 +11,5 @@ mod files;
 mod given;
 #[cfg(test)]
 mod limits;
+#[cfg(test)]
+mod words;

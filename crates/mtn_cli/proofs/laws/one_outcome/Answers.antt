@@ -1,4 +1,4 @@
-use Rattle.mtn_cli.specs.Words.{call_of}
+use Rattle.mtn_cli.specs.Calls.{call_of}
 use Rattle.mtn_cli.proofs.OutcomeLemmas.{one_of_step, one_of_session}
 use Rattle.mtn_cli.proofs.laws.one_outcome.Goals as goal
 
