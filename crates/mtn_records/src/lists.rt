@@ -1,5 +1,5 @@
 // Lists, fields and sets in a body.
-ghost use Rattle.std.specs.Prelude.{◌≡◌, ◌↔◌, ◌++◌, ℕ, List, length, take, map, IfOk, IfSome, OnOk, OnErr, IsErrOf, IsTrue, MatchOption};
+ghost use Rattle.std.specs.Prelude.{◌≡◌, ◌↔◌, ◌++◌, ◌<◌, ℕ, List, length, take, map, IfOk, IfSome, OnOk, OnErr, IsErrOf, IsTrue, MatchOption};
 ghost use Rattle.std.specs.List.{flat_map, AllByRecursion};
 ghost use Rattle.std.specs.List.Sorted.{IsStrictlyIncreasing};
 ghost use Rattle.mtn_records.specs.Fields.{Begins, BeginsWithNone, BeginsWithAll, BeginsWithFewer, count_text, IsCount, field_text, IsField, list_text, IsList};
@@ -125,6 +125,13 @@ fn ascend(positions: &[Pos]) -> bool
     true
 }
 
+// Whether they make a set: some, each below the next.
+fn make_set(positions: &[Pos]) -> bool
+    ensures { IsTrue result ↔ ((0 < length positions.now) × IsStrictlyIncreasing positions.now) }
+{
+    !positions.is_empty() && ascend(positions)
+}
+
 impl Field for PosSet {
     ghost use Rattle.mtn_records.specs.Fields.{set_text, IsSet};
     ghost use Rattle.mtn_records.specs.Apart.{set_apart};
@@ -138,7 +145,7 @@ impl Field for PosSet {
             return Err(RecordError::Bad);
         };
         let (positions, rest) = read_items(alloc, count as u64, rest)?;
-        if count == 0 || !ascend(&positions) {
+        if !make_set(&positions) {
             return Err(RecordError::Bad);
         }
         Ok((PosSet::new(alloc, positions)?, rest))

@@ -5,6 +5,7 @@ ghost use Rattle.mtn_records.specs.declared.record.LogRecord.{LogRecord as Log};
 ghost use Rattle.mtn_records.specs.Bounds.{IsLogAt};
 ghost use Rattle.mtn_records.specs.Fields.{Begins, BeginsWithNone, number_text, pair_text, IsNumber, IsPair};
 ghost use Rattle.mtn_records.specs.Records.{log_text, parents_text, AreParents, IsLogRecord};
+ghost use Rattle.mtn_records.specs.RecordsApart.{from_next, IsFromNext};
 
 use crate::error::RecordError;
 use crate::field::{Field, read_byte, read_id, read_number};
@@ -12,6 +13,7 @@ use crate::record::LogRecord;
 use mtn_ancestry::{ParentList, Pos};
 use mtn_base::NoMemory;
 
+// Two numbers.
 fn read_two(bytes: &[u8]) -> Option<((u64, u64), &[u8])>
     ensures { MatchOption result (BeginsWithNone (pair_text number_text number_text) (IsPair IsNumber IsNumber) bytes.now) (λ r. Begins (pair_text number_text number_text) (IsPair IsNumber IsNumber) bytes.now r.0 r.1.now) }
 {
@@ -58,10 +60,12 @@ fn write_parents(parents: ParentList, out: &mut Vec<u8>) -> Result<(), NoMemory>
     }
 }
 
+// The next node number, and the parents.
 fn read_next(bytes: &[u8]) -> Option<((u64, ParentList), &[u8])>
-    ensures { MatchOption result (BeginsWithNone (pair_text number_text parents_text) (IsPair IsNumber AreParents) bytes.now) (λ r. Begins (pair_text number_text parents_text) (IsPair IsNumber AreParents) bytes.now r.0 r.1.now) }
+    ensures { MatchOption result (BeginsWithNone from_next IsFromNext bytes.now) (λ r. Begins from_next IsFromNext bytes.now r.0 r.1.now) }
 {
     let (next_node, rest) = read_number(bytes)?;
+    // Not by `?`: the borrow checker has no rule for that at an enum beside a reference.
     let Some((parents, rest)) = read_parents(rest) else {
         return None;
     };

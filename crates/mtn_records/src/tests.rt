@@ -1,5 +1,8 @@
 // Small records by hand, under the key 5.
-use crate::{LogRecord, RecordError, RosterRecord, read_log, read_roster, write_log, write_roster};
+use crate::{
+    LogRecord, RecordError, RosterRecord, log_again, one_record, read_log, read_roster,
+    roster_again, write_log, write_roster,
+};
 use mtn_ancestry::{ParentList, Pos};
 use mtn_base::Id;
 use std::alloc::Global;
@@ -79,8 +82,9 @@ fn rosters_are_read_and_written_again(rt: HostRuntime) -> Result<(), Fail> {
     ];
     for body in &bodies {
         let roster = read_roster(alloc, AT, body)?;
+        let again = roster_again(alloc, AT, &roster)?;
         let mut out = Vec::new(alloc);
-        write_roster(&roster, &mut out)?;
+        write_roster(&again, &mut out)?;
         assert_eq!(rt; out.as_slice(), body.as_slice());
     }
     Ok(())
@@ -93,6 +97,7 @@ fn what_is_no_roster_is_bad(rt: HostRuntime) -> Result<(), Fail> {
     if let Some(tag) = other_tag.first_mut() {
         *tag = 2;
     }
+    one_record();
     let mut one_too_few = whole(alloc, &[1, 3], 5, 5)?;
     if let Some(count) = one_too_few.get_mut(8) {
         *count = 1;
@@ -146,8 +151,9 @@ fn logs_are_read_and_written_again(rt: HostRuntime) -> Result<(), Fail> {
         assert_eq!(rt; record.id, Id([7; 20]));
         assert_eq!(rt; record.next_node, 9);
         assert_eq!(rt; record.parents, *parents);
+        let again = log_again(alloc, AT, &record)?;
         let mut out = Vec::new(alloc);
-        write_log(&record, &mut out)?;
+        write_log(&again, &mut out)?;
         assert_eq!(rt; out.as_slice(), body.as_slice());
     }
     let wrong = [
