@@ -3,6 +3,7 @@ use Rattle.std.specs.Prelude.{IfSome, IsTrue, nat_lt, not, reverse, slice_get, o
 use Rattle.std.specs.Option.{option_map_or}
 use Rattle.std.proofs.Common.{◌≡◌, ◌≤◌, ◌<◌, ◌+◌, ℕ, zero, suc, Bool, true, false, cond, List, [], ◌∷◌, ◌++◌, length, Option, Some, None, refl, sym, ap, ◌∙◌, subst, ◌⊎◌, ⊎_elim, inl, inr, arith}
 use Rattle.std.proofs.lemmas.List.{length-append, length-reverse, append-nil, reverse-reverse}
+use mathlib.Core.List.{reverse-cons}
 use Rattle.std.proofs.lemmas.Bool.Decides.{nat_tests}
 use Rattle.mtn_chains.specs.Chain.{Entries, applied, after_record, after_all, rebuilt, deepest, ascend}
 use Rattle.mtn_chains.specs.Difference.{IsDifference}
@@ -27,6 +28,10 @@ use Rattle.mtn_history.specs.declared.errors.Damage.TheVariants.{Bad, Missing}
 use Rattle.mtn_history.specs.Revisions.{Kept, AreKept, AreRosters, IsRosterBody, IsRosterOf}
 use Rattle.mtn_history.specs.Rosters.{IsRostered, IsChainDown, IsPathDown, IsChainOf, IsRosterHeld, UnrosteredAt, UnrebuiltAt, UnmadeBelow, IsRebuilt, base_of}
 use Rattle.mtn_history.proofs.LogLemmas.{told_on}
+use Rattle.mtn_chains.proofs.Differing.{chain_grows}
+use Rattle.mtn_chains.proofs.Spelling.{one_tree}
+use Rattle.mtn_log.proofs.Places.{within, inside}
+use Rattle.mtn_history.specs.Revisions.{deeper, depth_on}
 
 one_body : (o : Option (List ℕ)) (a b : List ℕ) → o ≡ Some a → o ≡ Some b → a ≡ b
 one_body o a b x y = cc
@@ -185,3 +190,103 @@ one_more_record rs more x n long is = ap length is ∙ omega (arith, length-appe
 pub stays_low : (x : RosterRecord) (at next b : ℕ) → base_of x ≡ Some b → IsWithin next x → next ≤ at → b ≤ at
 stays_low (Whole es) at next b is within le = absurd cc
 stays_low (Delta base d g ch) at next b is within le = let same : base ≡ b = cc in let under : base < next = within.0 in omega (arith, same, under, le)
+
+-- one delta deeper, where the record is a delta
+one_deeper : (below depth : ℕ) → depth ≡ deeper below → 0 < depth → (below < 15) × (depth ≡ below + 1)
+one_deeper below depth is some = by (nat_lt below deepest) refl is
+  where
+    by : (b : Bool) → nat_lt below deepest ≡ b → depth ≡ cond b (below + 1) 0 → (below < 15) × (depth ≡ below + 1)
+    by true test e = (grind (arith, nat_tests), e)
+    by false test e = absurd (omega (arith, e, some))
+
+-- the chain of a revision's roster
+record Chained (c : Contents) (r depth : ℕ) (entries : Entries) : Type 0 where
+  chain : List RosterRecord
+  down : IsChainDown c r chain
+  made : rebuilt (reverse chain) ≡ Some entries
+  long : length chain ≡ suc depth
+
+whole_chained : (c : Contents) (r : ℕ) (body : List ℕ) (es : Entries) → ascend es ≡ true → body_at c 5 (number_text r) ≡ Some body → IsRosterAt r body (Whole es) → Chained c r 0 es
+whole_chained c r body es rise held text = record {
+  chain = Whole es ∷ [];
+  down = (record { body = body; held = held; text = text }, refl);
+  made = ap (λ b. cond b (Some es) None) rise;
+  long = refl;
+}
+
+delta_chained : (c : Contents) (r base depth below : ℕ) (body g : List ℕ) (ch es fs : Entries) → ascend fs ≡ true → body_at c 5 (number_text r) ≡ Some body → IsRosterAt r body (Delta base depth g ch) →
+    Chained c base below es → IsDifference es fs g ch → below < 15 → depth ≡ below + 1 → Chained c r depth fs
+delta_chained c r base depth below body g ch es fs rise held text chained differ low is =
+    let long : length (reverse chained.chain) ≡ depth = length-reverse chained.chain ∙ chained.long ∙ omega (arith, is) in
+    let grown = chain_grows (reverse chained.chain) es fs ch g base (omega (arith, long, low, is)) chained.made rise differ in
+    record {
+      chain = Delta base depth g ch ∷ chained.chain;
+      down = (record { body = body; held = held; text = text }, chained.down);
+      made = ap rebuilt (reverse-cons (Delta base depth g ch) chained.chain) ∙ subst (λ d. rebuilt (reverse chained.chain ++ Delta base d g ch ∷ []) ≡ Some fs) long grown;
+      long = omega (arith, chained.long, is);
+    }
+
+module _ (c : Contents) (h : List Revision) (ks : List Kept) (kept : AreKept h ks) (rosters : AreRosters h ks (c 5)) where
+  rises_at : (r : ℕ) (v : Revision) (k : Kept) → slice_get h r ≡ Some v → slice_get ks r ≡ Some k → ascend k.entries ≡ true
+  rises_at r v k hv hk = (kept.each r v k hv hk).numbered.spells.ascending
+
+  from : (n r : ℕ) (v : Revision) (k : Kept) → slice_get h r ≡ Some v → slice_get ks r ≡ Some k → k.depth ≡ n →
+      ((p : ℕ) (u : Revision) (below : Kept) → slice_get h p ≡ Some u → slice_get ks p ≡ Some below → below.depth + 1 ≡ n → Chained c p below.depth below.entries) →
+      (parents : List ℕ) → k.depth ≡ depth_on ks parents →
+      (body : List ℕ) → body_at c 5 (number_text r) ≡ Some body → (x : RosterRecord) → IsRosterOf ks parents k x → IsRosterAt r body x → Chained c r k.depth k.entries
+  from n r v k hv hk e lower parents d body held (Whole es) is text =
+      let one = whole_chained c r body es (ap ascend is.1 ∙ rises_at r v k hv hk) held text in
+      subst (λ m. Chained c r m k.entries) (sym is.0) (subst (Chained c r 0) is.1 one)
+  from n r v k hv hk e lower [] d body held (Delta base depth g ch) is text = absurd is
+  from n r v k hv hk e lower (p ∷ ps) d body held (Delta base depth g ch) is text =
+      let below = is.3.0 in
+      let at : slice_get ks p ≡ Some below = is.3.1 in
+      let next = one_deeper below.depth k.depth (d ∙ ap (λ o. option_map_or (λ (x : Kept). deeper x.depth) o 0) at) (omega (arith, is.1, is.2)) in
+      let u = within h p (subst (λ m. p < m) kept.long (inside ks p below at)) in
+      let down = lower p u.0 below u.1 at (sym next.1 ∙ e) in
+      subst (λ m. Chained c r m k.entries) is.1
+      (delta_chained c r base depth below.depth body g ch below.entries k.entries (rises_at r v k hv hk) held text (subst (λ q. Chained c q below.depth below.entries) (sym is.0) down) is.3.2 next.0 (is.1 ∙ next.1))
+
+  chained : (n r : ℕ) (v : Revision) (k : Kept) → slice_get h r ≡ Some v → slice_get ks r ≡ Some k → k.depth ≡ n → Chained c r k.depth k.entries
+  chained zero r v k hv hk e =
+      let b = rosters.each r v k hv hk in
+      from zero r v k hv hk e (λ p u below hu hb s. absurd (omega (arith, s))) v.parents (kept.each r v k hv hk).depth b.0 b.1 b.2.roster b.2.is b.2.text
+  chained (suc n) r v k hv hk e =
+      let b = rosters.each r v k hv hk in
+      from (suc n) r v k hv hk e (λ p u below hu hb s. chained n p u below hu hb (omega (arith, s))) v.parents (kept.each r v k hv hk).depth b.0 b.1 b.2.roster b.2.is b.2.text
+
+  -- what is rebuilt at a position are the entries that are kept there, and the tree with the marks of the whole history
+  pub rebuilt_is : (r : ℕ) (v : Revision) (k : Kept) (es : Entries) (t : MarkedTree) → slice_get h r ≡ Some v → slice_get ks r ≡ Some k → IsRebuilt c r es t → (es ≡ k.entries) × IsMarkedAt h r t
+  rebuilt_is r v k es t hv hk is =
+      let x = chained k.depth r v k hv hk refl in
+      let one = one_chain c r is.chain x.chain is.down x.down in
+      let same : es ≡ k.entries = let t = sym is.entries ∙ ap rebuilt (ap reverse one) ∙ x.made in cc in
+      let known = kept.each r v k hv hk in
+      let tree = one_tree k.entries t (record { tree = v.tree; marks = known.marks }) (subst (λ fs. Spells fs t) same is.spelled) known.numbered.spells in
+      (same, subst (IsMarkedAt h r) (sym tree) known.marked)
+
+  never_unrostered : (r : ℕ) (d : Damage) → r < length h → UnrosteredAt c r d → ⊥
+  never_unrostered r (Bad table key body) lt wrong =
+      let v = within h r lt in
+      let k = within ks r (subst (λ n. r < n) (sym kept.long) lt) in
+      let b = rosters.each r v.0 k.0 v.1 k.1 in
+      let same : body ≡ b.0 = one_body (body_at c 5 key) body b.0 wrong.2 (ap (body_at c 5) wrong.1 ∙ b.1) in
+      wrong.3 b.2.roster (subst (λ x. IsRosterAt r x b.2.roster) (sym same) b.2.text)
+  never_unrostered r (Missing table key) lt wrong =
+      let v = within h r lt in
+      let k = within ks r (subst (λ n. r < n) (sym kept.long) lt) in
+      let b = rosters.each r v.0 k.0 v.1 k.1 in
+      absurd (let both : None ≡ Some b.0 = sym wrong.2 ∙ ap (body_at c 5) wrong.1 ∙ b.1 in cc)
+
+  never_unrebuilt : (r : ℕ) (d : Damage) → r < length h → UnrebuiltAt c r d → ⊥
+  never_unrebuilt r d lt wrong =
+      let v = within h r lt in
+      let k = within ks r (subst (λ n. r < n) (sym kept.long) lt) in
+      let x = chained k.0.depth r v.0 k.0 v.1 k.1 refl in
+      let known = kept.each r v.0 k.0 v.1 k.1 in
+      wrong.1 x.chain k.0.entries (record { tree = v.0.tree; marks = known.marks }) x.down x.made known.numbered.spells
+
+  pub never_unmade : (n : ℕ) (d : Damage) → n ≡ length h → UnmadeBelow n c d → ⊥
+  never_unmade n d is wrong =
+      let lt : wrong.place < length h = subst (λ m. wrong.place < m) is wrong.below in
+      ⊎_elim (never_unrostered wrong.place d lt) (never_unrebuilt wrong.place d lt) wrong.wrong
