@@ -12,7 +12,6 @@ use Rattle.mtn_model.specs.Table.{Table, Contents, body_at, with_record, nothing
 use Rattle.mtn_model.specs.State.{State, AreFiles, empty_state}
 use Rattle.mtn_log.specs.Lawful.{Keeps, IsLawful}
 use Rattle.mtn_log.proofs.Histories.{history_none, history_kept}
-use Rattle.mtn_history.specs.Revisions.{AreKept, AreTexts, AreLogged, AreRosters}
 use Rattle.mtn_ports.specs.Kept.{with_all, IsBody}
 use Rattle.mtn_ports.proofs.KeptLemmas.{with_all-append}
 use Rattle.mtn_history.specs.declared.pending.Pending.{Pending}

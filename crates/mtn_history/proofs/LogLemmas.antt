@@ -1,6 +1,6 @@
 -- The log, read record by record.
-use Rattle.std.specs.Prelude.{IfSome, is_some, All, Contains, slice_get, option_map}
-use Rattle.std.proofs.Common.{◌≡◌, ◌<◌, ◌+◌, ℕ, zero, suc, true, List, [], ◌∷◌, ◌++◌, length, get_or, Option, Some, None, refl, sym, ap, ◌∙◌, subst, ◌⊎◌, ⊎_elim, inl, inr, arith}
+use Rattle.std.specs.Prelude.{IfSome, is_some, Contains, slice_get, option_map}
+use Rattle.std.proofs.Common.{◌≡◌, ◌<◌, ◌+◌, ℕ, true, List, [], ◌∷◌, ◌++◌, length, Option, Some, None, refl, sym, ap, ◌∙◌, subst, ◌⊎◌, ⊎_elim, inl, inr, arith}
 use Rattle.std.proofs.lemmas.List.{length-append, append-nil}
 use Rattle.mtn_ancestry.specs.Log.{id_at, list_of}
 use Rattle.mtn_ancestry.specs.declared.pos.LogEntry.{LogEntry}

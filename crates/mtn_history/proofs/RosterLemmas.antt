@@ -1,5 +1,5 @@
 -- Rosters, rebuilt along their chains.
-use Rattle.std.specs.Prelude.{IfSome, IsTrue, nat_lt, not, reverse, slice_get, option_map, option_and_then, ◌==◌, ◌&&◌}
+use Rattle.std.specs.Prelude.{IfSome, nat_lt, not, reverse, slice_get, option_and_then, ◌==◌, ◌&&◌}
 use Rattle.std.specs.Option.{option_map_or}
 use Rattle.std.proofs.Common.{◌≡◌, ◌≤◌, ◌<◌, ◌+◌, ℕ, zero, suc, Bool, true, false, cond, List, [], ◌∷◌, ◌++◌, length, Option, Some, None, refl, sym, ap, ◌∙◌, subst, ◌⊎◌, ⊎_elim, inl, inr, arith}
 use Rattle.std.proofs.lemmas.List.{length-append, length-reverse, append-nil, reverse-reverse}
@@ -20,12 +20,13 @@ use Rattle.mtn_records.specs.Records.{roster_text}
 use Rattle.mtn_records.specs.RecordsApart.{roster_apart}
 use Rattle.mtn_records.specs.declared.record.RosterRecord.{RosterRecord}
 use Rattle.mtn_records.specs.declared.record.RosterRecord.TheVariants.{Whole, Delta}
+use Rattle.mtn_history.specs.Damage.{IsShown}
 use Rattle.mtn_history.specs.Errors.{IfDamage}
 use Rattle.mtn_history.specs.declared.errors.StoreError.{StoreError}
 use Rattle.mtn_history.specs.declared.errors.StoreError.TheVariants.{Failed, Damaged, NoMemory}
 use Rattle.mtn_history.specs.declared.errors.Damage.{Damage}
 use Rattle.mtn_history.specs.declared.errors.Damage.TheVariants.{Bad, Missing}
-use Rattle.mtn_history.specs.Revisions.{Kept, AreKept, AreRosters, IsRosterBody, IsRosterOf}
+use Rattle.mtn_history.specs.Revisions.{Kept, AreKept, AreRosters, IsRosterOf}
 use Rattle.mtn_history.specs.Rosters.{IsRostered, IsChainDown, IsPathDown, IsChainOf, IsRosterHeld, UnrosteredAt, UnrebuiltAt, UnmadeBelow, IsRebuilt, base_of}
 use Rattle.mtn_history.proofs.LogLemmas.{told_on}
 use Rattle.mtn_chains.proofs.Differing.{chain_grows}
@@ -176,8 +177,8 @@ pub unrebuilt_bad : (mid new : Option Contents) (ps : List Put) (at : ℕ) (e : 
 unrebuilt_bad mid None ps at e chain same is bad held = tt
 unrebuilt_bad mid (Some c) ps at e chain same is bad held =
     unrebuilt_at (with_all c ps) at e (λ other es t down made spelled.
-        let one : other ≡ reverse chain = one_chain (with_all c ps) at other (reverse chain) down (told_on mid (Some c) (λ d. IsChainOf (with_all d ps) at (Some chain)) same is c refl) in
-        bad es t (sym (ap rebuilt (ap reverse one ∙ reverse-reverse chain)) ∙ made) spelled) held
+    let one : other ≡ reverse chain = one_chain (with_all c ps) at other (reverse chain) down (told_on mid (Some c) (λ d. IsChainOf (with_all d ps) at (Some chain)) same is c refl) in
+    bad es t (sym (ap rebuilt (ap reverse one ∙ reverse-reverse chain)) ∙ made) spelled) held
 
 pub is_rebuilt : (told : Option Contents) (ps : List Put) (at : ℕ) (chain : List RosterRecord) (es : Entries) (t : MarkedTree) → IfSome told (λ c. IsChainOf (with_all c ps) at (Some chain)) → rebuilt chain ≡ Some es → Spells es t →
     IfSome told (λ c. IsRebuilt (with_all c ps) at es t)
@@ -290,3 +291,9 @@ module _ (c : Contents) (h : List Revision) (ks : List Kept) (kept : AreKept h k
   never_unmade n d is wrong =
       let lt : wrong.place < length h = subst (λ m. wrong.place < m) is wrong.below in
       ⊎_elim (never_unrostered wrong.place d lt) (never_unrebuilt wrong.place d lt) wrong.wrong
+
+pub shown_roster : (c : Contents) (r : ℕ) (d : Damage) → UnrosteredAt c r d ⊎ UnrebuiltAt c r d → IsShown c d
+shown_roster c r (Bad table key body) (inl w) = ap (λ t. body_at c t key) w.0 ∙ w.2
+shown_roster c r (Bad table key body) (inr w) = ap (λ t. body_at c t key) w.0.0 ∙ w.0.2
+shown_roster c r (Missing table key) (inl w) = ap (λ t. body_at c t key) w.0 ∙ w.2
+shown_roster c r (Missing table key) (inr w) = ap (λ t. body_at c t key) w.0.0 ∙ w.0.2

@@ -1,6 +1,6 @@
 -- Texts of revisions, found in table 3.
 use Rattle.std.specs.Prelude.{IfSome, MatchBool, find, slice_get, option_map}
-use Rattle.std.proofs.Common.{◌≡◌, ◌≤◌, ◌<◌, ◌-◌, ◌+◌, ℕ, zero, suc, Bool, true, false, cond, List, [], ◌∷◌, ◌++◌, length, take, drop, Option, Some, None, refl, sym, ap, ◌∙◌, subst, inl, inr, arith, rules}
+use Rattle.std.proofs.Common.{◌≡◌, ◌≤◌, ◌<◌, ◌-◌, ◌+◌, ℕ, zero, suc, Bool, true, false, cond, List, [], ◌∷◌, ◌++◌, length, take, drop, Option, Some, None, refl, sym, ap, ◌∙◌, subst, arith, rules}
 use Rattle.std.proofs.lemmas.List.{length-take, length-drop, take-append-le, take_all}
 use Rattle.std.specs.FinMap.{get, get-empty, empty}
 use Rattle.std.specs.Ordering.{nat_cmp}

@@ -1,9 +1,7 @@
 -- Rosters: what is read of table 5, and what is damage.
-use Rattle.std.specs.Prelude.{◌≡◌, ◌<◌, ◌⊎◌, ℕ, List, [], ◌∷◌, reverse, length, Option, Some, None, slice_get}
-use Rattle.mtn_chains.specs.Chain.{Entries, rebuilt, deepest}
+use Rattle.std.specs.Prelude.{◌≡◌, ◌<◌, ◌⊎◌, ℕ, List, [], ◌∷◌, reverse, Option, Some, None}
+use Rattle.mtn_chains.specs.Chain.{Entries, rebuilt}
 use Rattle.mtn_chains.specs.Spelled.{Spells}
-use Rattle.mtn_growth.specs.History.{Revision}
-use Rattle.mtn_marking.specs.Graph.{IsMarkedAt}
 use Rattle.mtn_marking.specs.Marking.{MarkedTree}
 use Rattle.mtn_model.specs.Table.{Contents, body_at}
 use Rattle.mtn_records.specs.Bounds.{IsRosterAt}
@@ -12,7 +10,7 @@ use Rattle.mtn_records.specs.declared.record.RosterRecord.{RosterRecord}
 use Rattle.mtn_records.specs.declared.record.RosterRecord.TheVariants.{Whole, Delta}
 use Rattle.mtn_history.specs.declared.errors.Damage.{Damage}
 use Rattle.mtn_history.specs.declared.errors.Damage.TheVariants.{Bad, Missing}
-use Rattle.mtn_history.specs.Revisions.{Kept, AreKept, AreRosters}
+use Rattle.mtn_history.specs.Meta.{Counted}
 
 -- the record of table 5 at a position
 pub record IsRostered (c : Contents) (r : ℕ) (roster : RosterRecord) : Type 0 where
@@ -68,3 +66,9 @@ pub record IsRebuilt (c : Contents) (r : ℕ) (es : Entries) (t : MarkedTree) : 
   pub down : IsChainDown c r chain
   pub entries : rebuilt (reverse chain) ≡ Some es
   pub spelled : Spells es t
+
+-- the same below `count`
+pub record RosterDamage (c : Contents) (d : Damage) : Type 0 where
+  pub count : ℕ
+  pub counted : Counted c count
+  pub wrong : UnmadeBelow count c d

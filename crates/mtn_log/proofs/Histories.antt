@@ -1,23 +1,21 @@
 -- The history of a log: one, grown, and longer by each accepted text.
 use Rattle.std.specs.Prelude.{slice_get, option_map, find, is_none, nat_le}
 use Rattle.std.specs.FinMap.{get}
-use Rattle.std.proofs.Common.{◌≡◌, ◌≤◌, ◌<◌, ◌+◌, ℕ, zero, suc, Bool, true, false, List, [], ◌∷◌, ◌++◌, length, get_or, take, Option, Some, None, refl, sym, ◌∙◌, ap, subst, cond, arith}
-use Rattle.std.proofs.lemmas.List.{take_all, take_more, length-take, length-append, take-append-le, take_at}
+use Rattle.std.proofs.Common.{◌≡◌, ◌≤◌, ◌<◌, ℕ, zero, suc, Bool, true, false, List, [], ◌∷◌, ◌++◌, length, take, Some, None, refl, sym, ◌∙◌, ap, subst, cond, arith}
+use Rattle.std.proofs.lemmas.List.{take_all, length-take, length-append, take-append-le}
 use Rattle.std.proofs.lemmas.Bool.Decides.{nat_tests}
 use Rattle.mtn_base.specs.Hex.{id_of}
 use Rattle.mtn_base.specs.declared.id.Id.{Id}
 use Rattle.mtn_base.specs.declared.refusal.Cause.TheVariants.{LogFull, UnknownFile}
-use Rattle.mtn_changes.specs.declared.change.Edge.{Edge}
 use Rattle.mtn_changes.specs.declared.change.Revision.{Revision as Spelled}
 use Rattle.mtn_changes.proofs.OneValue.{same_revision}
-use Rattle.mtn_edits.specs.Changes.{or_else}
 use Rattle.mtn_growth.specs.History.{Revision, IsGrown, IsStep}
 use Rattle.mtn_growth.proofs.Growing.{grown_none, grown_more}
 use Rattle.mtn_model.specs.State.{Logged}
 use Rattle.mtn_model.specs.Table.{Table}
-use Rattle.mtn_log.specs.Making.{made, made_tree, refusal_of, log_full, unknown_parent, bad_change, bad_join, too_many, too_long, new_contents, unknown_file, other_manifest}
-use Rattle.mtn_log.specs.Lawful.{Spells, IsNext, Keeps, IsHistory}
-use Rattle.mtn_log.proofs.Places.{within, inside, no_place}
+use Rattle.mtn_log.specs.Making.{made, made_tree, log_full, unknown_parent, bad_change, bad_join, too_many, too_long, new_contents, unknown_file, other_manifest}
+use Rattle.mtn_log.specs.Lawful.{IsNext, Keeps, IsHistory}
+use Rattle.mtn_log.proofs.Places.{within, no_place}
 use Rattle.mtn_log.proofs.Steps.{both_none, join_none, unmapped, first_fails, is_there, accepted_steps}
 
 -- an accepted text is a step

@@ -1,28 +1,26 @@
 -- An accepted text is a step.
-use Rattle.std.specs.Prelude.{Contains, IsSome, find, filter_map, is_none, option_map, option_and_then, slice_get}
-use Rattle.std.proofs.Common.{◌≡◌, ◌≢◌, ◌≤◌, ◌<◌, ℕ, zero, suc, Bool, true, false, List, [], ◌∷◌, length, Option, Some, None, refl, sym, ◌∙◌, ap, subst, ◌⊎◌, inl, inr, ⊎_elim, arith, rules, cond}
+use Rattle.std.specs.Prelude.{find, is_none, option_map, option_and_then}
+use Rattle.std.proofs.Common.{◌≡◌, ◌≢◌, ℕ, Bool, true, false, List, [], ◌∷◌, Option, Some, None, refl, sym, ◌∙◌, ap, subst, rules, cond}
 use Rattle.std.specs.Option.{option_map_or}
 use Rattle.std.specs.declared.cmp.Ordering.TheVariants.{Less, Equal}
 use Rattle.std.specs.Cmp.{tied_itself}
 use Rattle.std.specs.List.{cons_option}
 use Rattle.mtn_roster.proofs.Looking.{bytes_total}
 use Rattle.mtn_base.specs.declared.id.Id.{Id}
-use Rattle.mtn_base.specs.declared.refusal.Cause.{Cause}
 use Rattle.mtn_base.specs.Names.{bytes_cmp}
-use Rattle.mtn_ancestry.specs.Ancestors.{ParentsAreEarlier}
 use Rattle.mtn_changes.specs.declared.change.Change.{Change}
 use Rattle.mtn_changes.specs.declared.change.Edge.{Edge}
 use Rattle.mtn_changes.specs.ChangesText.{AreChanges}
 use Rattle.mtn_changes.specs.RevisionText.{AreEdges, Ascend}
 use Rattle.mtn_changes.proofs.Unsorted.{unsorted}
-use Rattle.mtn_edits.specs.Changes.{Fault, first_fault, or_else, tree_after}
-use Rattle.mtn_edits.specs.Joining.{JoinWhy, join_fault, joined}
+use Rattle.mtn_edits.specs.Changes.{first_fault, or_else, tree_after}
+use Rattle.mtn_edits.specs.Joining.{join_fault, joined}
 use Rattle.mtn_edits.specs.Laws.{RenamesDiffer, IsFresh}
 use Rattle.mtn_edits.proofs.Renaming.{renames_differ}
 use Rattle.mtn_edits.proofs.Stepping.{root_step, one_step}
 use Rattle.mtn_edits.proofs.Joining.{two_step}
-use Rattle.mtn_growth.specs.History.{Revision, parents_at, tree_at, IsPlaceOf, IsGrown, IsStep}
-use Rattle.mtn_log.specs.Making.{place_of, is_above, parent_tree, edge_tree, parents_of, made, unknown_parent, change_fault, bad_change, join_cause, bad_join}
+use Rattle.mtn_growth.specs.History.{Revision, tree_at, IsGrown, IsStep}
+use Rattle.mtn_log.specs.Making.{place_of, is_above, parent_tree, made, unknown_parent, bad_change, bad_join}
 use Rattle.mtn_log.proofs.Places.{place_has, place_within, above_passes}
 
 pub both_none : {A : Type 0} (x y : Option A) → or_else x y ≡ None → (x ≡ None) × (y ≡ None)

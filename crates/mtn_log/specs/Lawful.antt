@@ -1,5 +1,5 @@
 -- The history that the texts of a log spell, and lawful states.
-use Rattle.std.specs.Prelude.{◌≡◌, ◌≤◌, ℕ, List, length, take, Option, Some, None, slice_get}
+use Rattle.std.specs.Prelude.{◌≡◌, ◌≤◌, ℕ, List, length, take, Some, None, slice_get}
 use Rattle.std.specs.FinMap.{empty, get}
 use Rattle.mtn_base.specs.Hex.{id_of}
 use Rattle.mtn_basic_io.specs.Spelling.{AreStanzas}

@@ -1,5 +1,5 @@
 -- The tree that a revision's edges make over a history, and why they make none. Monotone's rules; the limits are our choice.
-use Rattle.std.specs.Prelude.{ℕ, ◌+◌, zero, suc, Bool, true, false, ◌||◌, if◌then◌else◌, List, [], ◌∷◌, length, map, filter_map, find, position, nat_lt, nat_le, bytes_eq, Option, Some, None, is_none, option_map, option_and_then, slice_get}
+use Rattle.std.specs.Prelude.{ℕ, ◌+◌, zero, suc, Bool, false, ◌||◌, if◌then◌else◌, List, [], ◌∷◌, length, map, filter_map, find, position, nat_lt, nat_le, bytes_eq, Option, Some, None, is_none, option_map, option_and_then, slice_get}
 use Rattle.std.specs.List.{flat_map, list_any}
 use Rattle.std.specs.Option.{option_map_or}
 use Rattle.std.specs.FinMap.{get}

@@ -1,11 +1,11 @@
-use Rattle.std.proofs.Common.{rules, refl, sym, ap, ◌∙◌, subst}
-use Rattle.std.specs.Prelude.{IfSome, IfErr}
+use Rattle.std.proofs.Common.{sym, ◌∙◌, subst}
+use Rattle.std.specs.Prelude.{IfSome}
 use Rattle.mtn_ports.specs.Kept.{with_all}
 use Rattle.mtn_ports.proofs.KeptLemmas.{stays_trans}
 use Rattle.mtn_history.specs.declared.pending.Pending.{Pending}
 use Rattle.mtn_history.specs.Errors.{IfDamage}
 use Rattle.mtn_history.specs.Logs.{IsHeldAt, IsLogged}
-use Rattle.mtn_history.proofs.LogLemmas.{unlogged, repeated, read_more, known, found_at, one_longer}
+use Rattle.mtn_history.proofs.LogLemmas.{repeated, read_more, known, found_at, one_longer}
 use Rattle.mtn_history.proofs.logs.DraftOver+K+Pending.graph.Goals as goal
 
 pub returns-in_err-log-clause-stays : goal.returns-in_err-log-clause-stays
@@ -37,5 +37,5 @@ loop-at-preserved g c = record {
   pending = c.logged.ensures.pending ∙ c.loop-at.invariant.pending;
   long = one_longer c.loop-at.at c.loop-at.graph _ _ c.loop-at.invariant.long c.in_ok-push.ensures.ok;
   read = read_more (g.K.Keeper.contents c.loop-at.self.keeper.now) (g.K.Keeper.contents c.logged.new.self.keeper.now) c.args.self.now.pending.batch c.loop-at.at c.loop-at.graph _ c.in_ok-log.log c.logged.ensures.stays.same c.loop-at.invariant.read
-    (subst (λ (p : Pending). IfSome (g.K.Keeper.contents c.logged.new.self.keeper.now) (λ d. IsLogged (with_all d p.batch) c.loop-at.at c.in_ok-log.log)) c.loop-at.invariant.pending c.in_ok-log.ensures.read) c.in_ok-push.ensures.ok;
+      (subst (λ (p : Pending). IfSome (g.K.Keeper.contents c.logged.new.self.keeper.now) (λ d. IsLogged (with_all d p.batch) c.loop-at.at c.in_ok-log.log)) c.loop-at.invariant.pending c.in_ok-log.ensures.read) c.in_ok-push.ensures.ok;
 }

@@ -1,4 +1,4 @@
-use Rattle.std.proofs.Common.{rules, refl, sym, ap, ◌∙◌, subst, arith}
+use Rattle.std.proofs.Common.{sym, ◌∙◌, subst, arith}
 use Rattle.std.specs.Prelude.{IfSome}
 use Rattle.std.proofs.lemmas.Result.{err_from_is_err_and}
 use Rattle.mtn_ports.specs.Kept.{with_all}
@@ -39,9 +39,9 @@ loop-taken-preserved g c = record {
   long = one_more_record c.loop-taken.chain.items c.push.new.self.items c.in_ok-record.record c.loop-taken.taken c.loop-taken.invariant.long c.in_ok-push.ensures.items;
   low = stays_low c.in_ok-record.record c.args.at c.loop-taken.next c.in-Some.base (sym c.base_of-base.ensures ∙ c.in-Some.is) c.in_ok-record.ensures.below c.loop-taken.invariant.low;
   path = path_next (g.K.Keeper.contents c.loop-taken.self.keeper.now) (g.K.Keeper.contents c.rostered.new.self.keeper.now) c.args.self.now.pending.batch c.args.at c.loop-taken.next c.in-Some.base c.loop-taken.chain.items c.push.new.self.items c.in_ok-record.record
-    c.rostered.ensures.stays.same c.loop-taken.invariant.path
-    (subst (λ (p : Pending). IfSome (g.K.Keeper.contents c.rostered.new.self.keeper.now) (λ d. IsRostered (with_all d p.batch) c.loop-taken.next c.in_ok-record.record)) c.loop-taken.invariant.pending c.in_ok-record.ensures.read)
-    (sym c.base_of-base.ensures ∙ c.in-Some.is) c.in_ok-push.ensures.items;
+      c.rostered.ensures.stays.same c.loop-taken.invariant.path
+      (subst (λ (p : Pending). IfSome (g.K.Keeper.contents c.rostered.new.self.keeper.now) (λ d. IsRostered (with_all d p.batch) c.loop-taken.next c.in_ok-record.record)) c.loop-taken.invariant.pending c.in_ok-record.ensures.read)
+      (sym c.base_of-base.ensures ∙ c.in-Some.is) c.in_ok-push.ensures.items;
 }
 
 pub returns-clause-read : goal.returns-clause-read

@@ -1,4 +1,4 @@
-use Rattle.std.proofs.Common.{rules, refl, sym, ap, ◌∙◌, subst, Some}
+use Rattle.std.proofs.Common.{refl, subst}
 use Rattle.std.specs.Prelude.{IfSome, option_map}
 use Rattle.mtn_ports.specs.Kept.{with_all}
 use Rattle.mtn_ports.proofs.KeptLemmas.{stays_trans}

@@ -1,4 +1,4 @@
-use Rattle.std.proofs.Common.{rules, arith, length, refl, sym, ap, ◌∙◌}
+use Rattle.std.proofs.Common.{rules, arith, length, refl, ap}
 use Rattle.mtn_history.proofs.TextLemmas.{finds_none, never_short, finds_text}
 use Rattle.mtn_history.proofs.texts.DraftOver+K+Pending.text_of.Goals as goal
 
