@@ -3,13 +3,19 @@ ghost use Rattle.std.specs.Prelude.{◌≡◌, ◌↔◌, IsTrue};
 ghost use Rattle.mtn_chains.specs.Parts.{IsSameHead};
 
 use mtn_ancestry::PosSet;
-use mtn_base::Bytes;
+use mtn_base::{Bytes, NodeName};
 use mtn_records::{NumberedAttr, NumberedBody, NumberedEntry};
 
 fn are_same_sets(first: &PosSet, second: &PosSet) -> bool
     ensures { IsTrue result ↔ (first.now ≡ second.now) }
 {
     first.as_slice() == second.as_slice()
+}
+
+fn are_same_nodes(first: &NodeName, second: &NodeName) -> bool
+    ensures { IsTrue result ↔ (first.now ≡ second.now) }
+{
+    first.same(second)
 }
 
 fn are_same_values(first: &Option<Bytes>, second: &Option<Bytes>) -> bool
@@ -27,9 +33,13 @@ fn are_same_values(first: &Option<Bytes>, second: &Option<Bytes>) -> bool
 fn are_same_attrs(first: &NumberedAttr, second: &NumberedAttr) -> bool
     ensures { IsTrue result ↔ (first.now ≡ second.now) }
 {
-    first.key.as_slice() == second.key.as_slice()
-        && are_same_values(&first.value, &second.value)
-        && are_same_sets(&first.marks, &second.marks)
+    if first.key.as_slice() != second.key.as_slice() {
+        return false;
+    }
+    if !are_same_values(&first.value, &second.value) {
+        return false;
+    }
+    are_same_sets(&first.marks, &second.marks)
 }
 
 fn are_same_lists(first: &[NumberedAttr], second: &[NumberedAttr]) -> bool
@@ -56,7 +66,12 @@ fn are_same_bodies(first: &NumberedBody, second: &NumberedBody) -> bool
             NumberedBody::File {
                 content: other,
                 marks: others,
-            } => content == other && are_same_sets(marks, others),
+            } => {
+                if content != other {
+                    return false;
+                }
+                are_same_sets(marks, others)
+            }
         },
     }
 }
@@ -65,19 +80,30 @@ fn are_same_bodies(first: &NumberedBody, second: &NumberedBody) -> bool
 fn are_same_heads(first: &NumberedEntry, second: &NumberedEntry) -> bool
     ensures { IsTrue result ↔ IsSameHead first.now second.now }
 {
-    first.number == second.number
-        && first.birth_at == second.birth_at
-        && first.parent == second.parent
-        && first.name.as_slice() == second.name.as_slice()
-        && first.node.same(&second.node)
+    if first.number != second.number || first.parent != second.parent {
+        return false;
+    }
+    if first.birth_at.0 != second.birth_at.0 {
+        return false;
+    }
+    if first.name.as_slice() != second.name.as_slice() {
+        return false;
+    }
+    are_same_nodes(&first.node, &second.node)
 }
 
 /// Whether two entries are equal.
 pub fn are_same(first: &NumberedEntry, second: &NumberedEntry) -> bool
     ensures { IsTrue result ↔ (first.now ≡ second.now) }
 {
-    are_same_heads(first, second)
-        && are_same_sets(&first.slot_marks, &second.slot_marks)
-        && are_same_bodies(&first.body, &second.body)
-        && are_same_lists(first.attrs.as_slice(), second.attrs.as_slice())
+    if !are_same_heads(first, second) {
+        return false;
+    }
+    if !are_same_sets(&first.slot_marks, &second.slot_marks) {
+        return false;
+    }
+    if !are_same_bodies(&first.body, &second.body) {
+        return false;
+    }
+    are_same_lists(first.attrs.as_slice(), second.attrs.as_slice())
 }
