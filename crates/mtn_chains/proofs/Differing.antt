@@ -140,3 +140,13 @@ chain_grows chain base new changed gone base_at le h rise d =
     rebuilt_snoc chain base (Delta base_at (length chain) gone changed) h
     ∙ delta_follows (length chain) base_at base gone changed le
     ∙ difference_applies base new gone changed (rebuilt_rises chain base h) rise d
+
+-- the same for what a call found of lists that it was lent
+pub grows_by : (chain : List RosterRecord) (base new changed b n found : Entries) (gone lost : List ℕ) (base_at depth : ℕ) → b ≡ base → n ≡ new → gone ≡ lost → changed ≡ found →
+    (ascend b ≡ true → ascend n ≡ true → IsDifference b n lost found) → length chain ≡ depth → depth ≤ deepest → rebuilt chain ≡ Some base → ascend new ≡ true →
+    rebuilt (chain ++ Delta base_at depth gone changed ∷ []) ≡ Some new
+grows_by chain base new changed b n found gone lost base_at depth is_b is_n is_gone is_changed finds long deep was rise =
+    let d : IsDifference b n lost found = finds (ap ascend is_b ∙ rebuilt_rises chain base was) (ap ascend is_n ∙ rise) in
+    let e : IsDifference base new lost found = subst (λ l. IsDifference l new lost found) is_b (subst (λ l. IsDifference b l lost found) is_n d) in
+    (let back = sym long in λ i. rebuilt (chain ++ Delta base_at (back i) (is_gone i) (is_changed i) ∷ []))
+    ∙ chain_grows chain base new found lost base_at (subst (λ k. k ≤ deepest) (sym long) deep) was rise e

@@ -1,5 +1,6 @@
 pub mod Ascending
 pub mod Merging
 pub mod Differing
+pub mod Walking
 pub mod ByNode
 pub mod Spelling

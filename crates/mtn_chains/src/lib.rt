@@ -14,13 +14,17 @@
 #![tactic(auto)]
 
 mod chain;
+mod copies;
+mod difference;
 pub mod laws;
 mod merge;
 mod order;
 mod rebuilding;
+mod same;
 mod sorted;
 mod spell;
 mod spelled;
 
 pub use chain::DEEPEST;
+pub use difference::delta;
 pub use rebuilding::rebuild;

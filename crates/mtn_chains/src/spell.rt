@@ -9,9 +9,10 @@ ghost use Rattle.mtn_chains.specs.Chain.{ascend};
 ghost use Rattle.mtn_chains.specs.Parts.{numbered_key, IsKeyedEntryOf};
 ghost use Rattle.mtn_chains.specs.Spelled.{attr_of, attr_marks_of, body_of, content_marks_of, marks_of, IsSlotOf};
 
+use crate::copies::copy_value;
 use crate::order::entry_of;
 use mtn_ancestry::PosSet;
-use mtn_base::{Bytes, Comp, List, NoMemory, PathError};
+use mtn_base::{Comp, List, NoMemory, PathError};
 use mtn_marking::{AttrMarks, Marking, NodeMarks};
 use mtn_records::{NumberedAttr, NumberedBody, NumberedEntry, RecordError};
 use mtn_roster::{Attr, Body, Entry, Slot};
@@ -60,16 +61,6 @@ fn keys_ascend(attrs: &[NumberedAttr]) -> bool
     ensures { result ≡ rises bytes_cmp (map numbered_key attrs.now) }
 {
     attrs.is_sorted_by(|first, second| { first.key.as_slice().cmp(second.key.as_slice()).is_lt() })
-}
-
-/// The value of an attribute.
-fn copy_value(alloc: Global, value: &Option<Bytes>) -> Result<Option<Bytes>, NoMemory>
-    ensures { IfOk result (λ v. v ≡ value.now) }
-{
-    match value {
-        None => Ok(None),
-        Some(bytes) => Ok(Some(bytes.copy(alloc)?)),
-    }
 }
 
 /// Attributes without their marks.
