@@ -6,7 +6,6 @@ use Rattle.std.proofs.lemmas.List.Elements.{filter_map-append}
 use Rattle.mtn_roster.specs.declared.entry.Attr.{Attr}
 use Rattle.std.proofs.Common.{◌≡◌, ℕ, zero, suc, ◌+◌, ◌<◌, ◌≤◌, List, [], ◌∷◌, ◌++◌, length, get_or, take, Option, Some, None, refl, sym, ◌∙◌, ap, subst, arith, append_assoc, Bor}
 use Rattle.std.proofs.lemmas.List.{take_more, take_all}
-use Rattle.mtn_base.specs.Names.{path_cmp}
 use Rattle.mtn_base.specs.Paths.{path_text}
 use Rattle.mtn_base.specs.declared.name.NodeName.{NodeName}
 use Rattle.mtn_basic_io.specs.Spelling.{LineText, stanza_text, spelling}

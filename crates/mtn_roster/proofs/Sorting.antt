@@ -251,11 +251,15 @@ module _ {X K : Type 0} (cmp : K → K → Ordering) (key : X → K) (o : IsTota
           | Greater ↦ λ q. absurd (let a : cmp (key y) (key x) ≡ Less = o.antisymm (key y) (key x) ∙ ap ordering_reverse q in let b = ap is_lt a in cc)
         ] refl
 
-    pub sorts : (es ks : List X) (r : Bool) → IsPermutation es ks → IsSortedBy (λ x y. is_lt (cmp (key x) (key y))) ks → IsAllAdjacentAnswer (λ x y b. b ≡ is_lt (cmp (key x) (key y))) ks r → Sorts es ks r
-    sorts es ks true moved sorted h =
+    -- a look at the neighbours tells it without a sort
+    pub sorts_already : (es ks : List X) → IsPermutation es ks → IsAllAdjacentAnswer (λ x y b. b ≡ is_lt (cmp (key x) (key y))) ks true → Sorts es ks true
+    sorts_already es ks moved h =
         let up = rising_by ks h in
         let d = IsDistinct-IsPermutation twin twin_flips ks es (IsPermutation-sym es ks moved) (rising_differ ks up) in
         record { apart = (λ _. d, λ _. refl); rising = λ _. up; order = λ _. sorted_is es ks moved d up }
+
+    pub sorts : (es ks : List X) (r : Bool) → IsPermutation es ks → IsSortedBy (λ x y. is_lt (cmp (key x) (key y))) ks → IsAllAdjacentAnswer (λ x y b. b ≡ is_lt (cmp (key x) (key y))) ks r → Sorts es ks r
+    sorts es ks true moved sorted h = sorts_already es ks moved h
     sorts es ks false moved sorted h = record {
       apart = (λ e. absurd cc, λ d. absurd (clash ks h.0 h.1 h.2 (IsDistinct-IsPermutation twin twin_flips es ks moved d) sorted));
       rising = λ e. absurd cc;

@@ -1,6 +1,7 @@
 // Entries put in order.
 ghost use Rattle.std.specs.Prelude.{◌≡◌, ◌↔◌, IsTrue, map};
-ghost use Rattle.std.specs.List.{AllByRecursion, IsDistinct};
+ghost use Rattle.std.specs.List.{AllByRecursion, IsDistinct, IsAllAdjacentAnswer};
+ghost use Rattle.mtn_roster.specs.declared.entry.Entry.{Entry};
 ghost use Rattle.std.specs.List.Sorted.{IsPermutation, IsSortedBy};
 ghost use Rattle.std.specs.Ordering.{is_lt};
 ghost use Rattle.mtn_base.specs.Names.{same_bytes, bytes_cmp, name_cmp};
@@ -109,11 +110,22 @@ fn sort_entries(entries: &mut Vec<Entry>)
     entries.sort_unstable_by(|first, second| first.name.compare(&second.name));
 }
 
-/// Puts entries in order by their names, and says whether these are apart.
+/// Whether the names of entries ascend.
+fn names_ascend(entries: &[Entry]) -> bool
+    ensures { IsAllAdjacentAnswer (λ (e : Entry) (f : Entry) b. b ≡ is_lt (name_cmp e.name f.name)) entries.now result }
+{
+    entries.is_sorted_by(|first, second| first.name.compare(&second.name).is_lt())
+}
+
+/// Puts entries in order by their names, and says whether these are apart. Where they ascend, as those of
+/// an earlier tree, one look tells it.
 pub fn sort_names(entries: &mut Vec<Entry>) -> bool
     ensures apart { IsTrue result ↔ NamesDiffer entries.old.items }
     ensures order { IsTrue result → entries.new.items ≡ in_order entries.old.items }
 {
+    if names_ascend(entries) {
+        return true;
+    }
     sort_entries(entries);
-    entries.is_sorted_by(|first, second| first.name.compare(&second.name).is_lt())
+    names_ascend(entries)
 }

@@ -1,5 +1,8 @@
 // The places of entries by slot.
 ghost use Rattle.std.specs.Prelude.{◌≡◌, ◌<◌, ◌↔◌, length, map, option_and_then, slice_get, slice_index_or, IsTrue, IfSome, IfOk, OnOk, IsErrOf};
+ghost use Rattle.std.specs.List.{IsAllAdjacentAnswer};
+ghost use Rattle.std.specs.List.Sorted.{IsPermutation};
+ghost use Rattle.std.specs.Ordering.{is_lt};
 ghost use Rattle.mtn_roster.specs.declared.entry.Slot.TheVariants.{Root, Below};
 ghost use Rattle.mtn_roster.specs.Tree.{root_of, child_of, rises};
 ghost use Rattle.mtn_base.specs.Names.{name_cmp};
@@ -132,7 +135,26 @@ fn places_of(alloc: Global, count: usize) -> Result<Vec<usize>, NoMemory>
     Ok(places)
 }
 
-/// Puts the places of entries in the order of their slots, and says whether these are apart.
+/// Puts places together by those of their parents: numbers alone are compared. Where there is no memory
+/// for it, they stay as they are.
+fn group_places(ups: &[usize], places: &mut Vec<usize>)
+    ensures { IsPermutation places.old.items places.new.items }
+{
+    let _ = places.sort_by_key(|at| up_at(ups, *at));
+}
+
+/// Whether the slots at places ascend.
+fn slots_ascend(entries: &[Entry], ups: &[usize], places: &[usize]) -> bool
+    requires rising { IsTrue (rises name_cmp (map (λ (e : Entry). e.name) entries.now)) }
+    requires ups { AreUps entries.now ups.now }
+    ensures { IsAllAdjacentAnswer (λ x y b. b ≡ is_lt (slot_cmp (slot_in entries.now x) (slot_in entries.now y))) places.now result }
+{
+    places.is_sorted_by(|first, second| compare_places(entries, ups, *first, *second).is_lt())
+}
+
+/// Puts the places of entries in the order of their slots, and says whether these are apart. Where the
+/// nodes kept the paths of their births, the children of each stand by their components once they are
+/// together, and one look tells it.
 fn sort_places(entries: &[Entry], ups: &[usize], places: &mut Vec<usize>) -> bool
     requires rising { IsTrue (rises name_cmp (map (λ (e : Entry). e.name) entries.now)) }
     requires ups { AreUps entries.now ups.now }
@@ -140,8 +162,12 @@ fn sort_places(entries: &[Entry], ups: &[usize], places: &mut Vec<usize>) -> boo
     ensures apart { IsTrue result ↔ SlotsDiffer entries.now }
     ensures index { IsTrue result → IsIndex entries.now places.new.items }
 {
+    group_places(ups, places);
+    if slots_ascend(entries, ups, places) {
+        return true;
+    }
     places.sort_unstable_by(|first, second| compare_places(entries, ups, *first, *second));
-    places.is_sorted_by(|first, second| compare_places(entries, ups, *first, *second).is_lt())
+    slots_ascend(entries, ups, places)
 }
 
 /// The places of entries in the order of their slots; Insane where two have the same.

@@ -1,6 +1,6 @@
--- Both closures compare the names.
-use Rattle.std.proofs.Common.{◌≡◌, Bool, rules, subst}
-use Rattle.std.proofs.lemmas.Fn.{always_returns_same}
+-- The names ascend as they stand, or once they are sorted.
+use Rattle.std.proofs.Common.{◌≡◌, Bool, true, subst, ◌∙◌, sym}
+use Rattle.std.proofs.lemmas.List.Sorted.{IsPermutation-refl}
 use Rattle.std.specs.List.{IsAllAdjacentAnswer}
 use Rattle.std.specs.Ordering.{is_lt}
 use Rattle.mtn_base.specs.Names.{name_cmp, same_name}
@@ -8,17 +8,30 @@ use Rattle.mtn_roster.specs.declared.entry.Entry.{Entry}
 use Rattle.mtn_roster.specs.Tree.{Tree}
 use Rattle.mtn_roster.proofs.Tests.{same_name-is, same_name-self}
 use Rattle.mtn_roster.proofs.Looking.{names_total, exact_names}
-use Rattle.mtn_roster.proofs.Sorting.{Sorts, sorts}
+use Rattle.mtn_roster.proofs.Sorting.{Sorts, sorts, sorts_already}
 use Rattle.mtn_roster.proofs.build.sort_names.Goals as goal
 
-abbrev lower : Entry → Entry → Bool
-lower x y = is_lt (name_cmp x.name y.name)
+abbrev Told : Tree → Bool → Type 0
+Told t r = IsAllAdjacentAnswer (λ (x : Entry) (y : Entry) b. b ≡ is_lt (name_cmp x.name y.name)) t r
 
-both : (c : goal.After-is_sorted_by) → Sorts name_cmp (λ (e : Entry). e.name) names_total same_name same_name-is same_name-self exact_names c.args.entries.now.items c.sort_entries.new.entries.items c.is_sorted_by.result
-both c = sorts name_cmp (λ (e : Entry). e.name) names_total same_name same_name-is same_name-self exact_names c.args.entries.now.items c.sort_entries.new.entries.items c.is_sorted_by.result c.sort_entries.ensures.permutation
-    c.sort_entries.ensures.sorted
-    (subst (λ (t : Tree). IsAllAdjacentAnswer (λ x y b. b ≡ lower x y) t c.is_sorted_by.result) c.deref.ensures.value
-    (c.is_sorted_by.ensures.cases lower (always_returns_same _ _ _ (λ a r g called. (search rules, search rules)))))
+abbrev Put : Tree → Tree → Bool → Type 0
+Put t s r = Sorts name_cmp (λ (e : Entry). e.name) names_total same_name same_name-is same_name-self exact_names t s r
+
+already : (c : goal.Then-names_ascend) → Put c.args.entries.now.items c.args.entries.now.items true
+already c =
+    let es = c.args.entries.now.items in
+    sorts_already name_cmp (λ (e : Entry). e.name) names_total same_name same_name-is same_name-self exact_names es es (IsPermutation-refl es)
+    (subst (λ (t : Tree). Told t true) c.deref.ensures.value (subst (Told c.deref.result.now) c.if-names_ascend.true c.names_ascend.ensures))
+
+pub returns-then-names_ascend-clause-apart : goal.returns-then-names_ascend-clause-apart
+returns-then-names_ascend-clause-apart c = (already c).apart
+
+pub returns-then-names_ascend-clause-order : goal.returns-then-names_ascend-clause-order
+returns-then-names_ascend-clause-order c = (already c).order
+
+both : (c : goal.After-names_ascend-2) → Put c.args.entries.now.items c.sort_entries.new.entries.items c.names_ascend-2.result
+both c = sorts name_cmp (λ (e : Entry). e.name) names_total same_name same_name-is same_name-self exact_names c.args.entries.now.items c.sort_entries.new.entries.items c.names_ascend-2.result c.sort_entries.ensures.permutation
+    c.sort_entries.ensures.sorted (subst (λ (t : Tree). Told t c.names_ascend-2.result) c.deref-2.ensures.value c.names_ascend-2.ensures)
 
 pub returns-clause-apart : goal.returns-clause-apart
 returns-clause-apart c = (both c).apart
