@@ -1,4 +1,4 @@
--- What positions a record may name, by the key that it stands under.
+-- What positions a record may name, by the key that it stands under, as docs/FORMATS.md says.
 use Rattle.std.specs.Prelude.{◌≡◌, ℕ, ◌<◌, ◌≤◌, List, All}
 use Rattle.mtn_ancestry.specs.Log.{list_of}
 use Rattle.mtn_records.specs.declared.entry.NumberedAttr.{NumberedAttr}

@@ -1,4 +1,4 @@
--- The bodies of rosters and of the log: whole records.
+-- The bodies of rosters and of the log, whole records, as docs/FORMATS.md lists them.
 use Rattle.std.specs.Prelude.{ℕ, ◌<◌, ◌^◌, true, false, List, [], ◌∷◌, ◌++◌, length}
 use Rattle.std.specs.List.{AllByRecursion, flat_map}
 use Rattle.std.specs.List.Sorted.{IsStrictlyIncreasing}
