@@ -13,11 +13,12 @@ use Rattle.mtn_history.specs.declared.errors.HistoryError.{HistoryError}
 use Rattle.mtn_history.specs.declared.errors.HistoryError.TheVariants.{Refused, Store}
 use Rattle.mtn_history.specs.declared.pending.Pending.{Pending}
 use Rattle.mtn_history.specs.Errors.{IfDamage}
+use Rattle.mtn_history.specs.Meta.{IsMetaOf}
 use Rattle.mtn_history.specs.Damage.{IsDamage}
 use Rattle.mtn_history.specs.Stands.{Stands, IsDraft, WasTold, Finishes, FinishLeaves}
 use Rattle.mtn_cli.specs.declared.answer.Reply.{Reply}
 use Rattle.mtn_cli.specs.Step.{Outcome}
-use Rattle.mtn_cli.specs.Performs.{Performs, Performed, drafted, Drafts, Drafted, Reason, HasReason, StandsAfter, replied}
+use Rattle.mtn_cli.specs.Performs.{Performs, Performed, Counts, drafted, Drafts, Drafted, Reason, HasReason, StandsAfter, replied}
 
 reason_of : (told : Option Contents) (before now : ℕ) (e : StoreError) → (e ≡ Failed → Rose before now) → IfSome told (λ c. IfDamage e (IsDamage c)) → Reason told before now e
 reason_of told before now Failed rose damage = rose refl
@@ -45,6 +46,14 @@ between old new ended c d same was at now = let mid = was d now in still old new
 nothing_over : (p : Pending) (told : Option Contents) → p.batch ≡ [] → drafted p told ≡ told
 nothing_over p None none = refl
 nothing_over p (Some c) none = ap (λ (ps : List Put). Some (with_all c ps)) none
+
+-- what was counted when the draft was opened is so still
+counts_of : (opened now : Option Contents) (pending before : Pending) → pending.batch ≡ [] → before ≡ pending → Same opened now →
+    IfSome opened (λ c. IsMetaOf c (record { count = pending.count; is_new = pending.is_new })) → Counts before now
+counts_of opened None pending before none is same counted = tt
+counts_of opened (Some c) pending before none is same counted =
+    let at : IsMetaOf c (record { count = pending.count; is_new = pending.is_new }) = subst (λ o. IfSome o (λ d. IsMetaOf d (record { count = pending.count; is_new = pending.is_new }))) (same c refl) counted in
+    subst (λ (p : Pending). Counts p (Some c)) (sym is) (subst (λ (ps : List Put). IsMetaOf (with_all c ps) (record { count = pending.count; is_new = pending.is_new })) (sym none) at)
 
 module _ (f : List ℕ → List ℕ) {K : Type 0} (contents : K → Option Contents) (leaves : K → Contents → Type 0) (faults : K → ℕ) (Outcomes : State → Outcome → Type 0) where
   -- an error with nothing applied
@@ -77,15 +86,17 @@ module _ (f : List ℕ → List ℕ) {K : Type 0} (contents : K → Option Conte
     pub reason : HasReason (contents new) (faults old) (faults new) r
 
   pub worked : (old opened begun new : K) (pending before after : Pending) (r : Result Reply HistoryError) → Stays contents leaves faults old opened →
-      ((c : Contents) (s : State) → contents opened ≡ Some c → Stands f c s → IsDraft f c pending s) → pending.batch ≡ [] → begun ≡ opened → before ≡ pending →
+      ((c : Contents) (s : State) → contents opened ≡ Some c → Stands f c s → IsDraft f c pending s) → pending.batch ≡ [] →
+      IfSome (contents opened) (λ c. IsMetaOf c (record { count = pending.count; is_new = pending.is_new })) → begun ≡ opened → before ≡ pending →
       Drafts f contents leaves faults begun new before after Outcomes r → Worked old new after r
-  worked old opened begun new pending before after r stays opens none same is drafts =
+  worked old opened begun new pending before after r stays opens none counted same is drafts =
       let to_begun : Stays contents leaves faults old begun = subst (Stays contents leaves faults old) (sym same) stays in
       record {
         stays = stays_trans contents leaves faults old begun new to_begun drafts.stays;
         done = λ c s now stands. drafts.done c s now (subst (λ (p : Pending). IsDraft f c p s) (sym is) (opens c s (ap contents (sym same) ∙ drafts.stays.same c now) stands));
         reason = wider_reason (contents new) (faults old) (faults begun) (faults new) (faults new) r to_begun.later (omega arith)
-            (subst (λ told. HasReason told (faults begun) (faults new) r) (nothing_over before (contents new) (ap (λ (p : Pending). p.batch) is ∙ none)) drafts.reason);
+            (subst (λ told. HasReason told (faults begun) (faults new) r) (nothing_over before (contents new) (ap (λ (p : Pending). p.batch) is ∙ none))
+            (drafts.reason (counts_of (contents opened) (contents new) pending before none is (λ c now. ap contents (sym same) ∙ drafts.stays.same c now) counted)));
       }
 
   -- the command gave an error

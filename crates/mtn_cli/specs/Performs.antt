@@ -8,6 +8,7 @@ use Rattle.mtn_history.specs.Stands.{Stands, IsDraft}
 use Rattle.mtn_history.specs.declared.pending.Pending.{Pending}
 use Rattle.mtn_ports.specs.Kept.{Same, Stays, with_all}
 use Rattle.mtn_history.specs.Errors.{IfDamage}
+use Rattle.mtn_history.specs.Meta.{IsMetaOf}
 use Rattle.mtn_history.specs.declared.errors.StoreError.{StoreError}
 use Rattle.mtn_history.specs.declared.errors.StoreError.TheVariants.{Failed, Damaged, NoMemory}
 use Rattle.mtn_history.specs.declared.errors.HistoryError.{HistoryError}
@@ -66,9 +67,13 @@ Drafted f c s Is (Err (Store e)) p = IfDamage e (λ _. ⊥)
 abbrev pub drafted : Pending → Option Contents → Option Contents
 drafted p told = option_map (λ c. with_all c p.batch) told
 
+-- the count of a draft is what its records tell
+abbrev pub Counts : Pending → Option Contents → Type 0
+Counts p told = IfSome told (λ c. IsMetaOf (with_all c p.batch) (record { count = p.count; is_new = p.is_new }))
+
 -- What a command does over a draft. A damage is one of the records that it began with. This is the clause of each command's function.
 pub record Drafts (f : List ℕ → List ℕ) {K : Type 0} (contents : K → Option Contents) (leaves : K → Contents → Type 0) (faults : K → ℕ) (old new : K)
     (before after : Pending) (Outcomes : State → Outcome → Type 0) (result : Result Reply HistoryError) : Type 0 where
   pub stays : Stays contents leaves faults old new
   pub done : (c : Contents) (s : State) → contents new ≡ Some c → IsDraft f c before s → Drafted f c s (Outcomes s) result after
-  pub reason : HasReason (drafted before (contents new)) (faults old) (faults new) result
+  pub reason : Counts before (contents new) → HasReason (drafted before (contents new)) (faults old) (faults new) result

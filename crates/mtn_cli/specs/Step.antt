@@ -6,12 +6,13 @@ use Rattle.mtn_model.specs.State.{State}
 use Rattle.mtn_base.specs.declared.refusal.Cause.{Cause}
 use Rattle.std.specs.FinMap.{get}
 use Rattle.mtn_base.specs.declared.id.Id.{Id}
-use Rattle.mtn_base.specs.declared.refusal.Cause.TheVariants.{UnknownFile}
+use Rattle.mtn_base.specs.declared.refusal.Cause.TheVariants.{UnknownFile, UnknownRevision}
 use Rattle.mtn_base.specs.Refusals.{line_of}
 use Rattle.mtn_history.specs.Files.{file_refusal, with_file}
+use Rattle.mtn_history.specs.Texts.{text_under}
 use Rattle.mtn_cli.specs.Calls.{call_of}
 use Rattle.mtn_cli.specs.declared.command.Call.{Call}
-use Rattle.mtn_cli.specs.declared.command.Call.TheVariants.{PutFile, GetFile}
+use Rattle.mtn_cli.specs.declared.command.Call.TheVariants.{PutFile, GetFile, GetRevision}
 use Rattle.mtn_cli.specs.declared.status.Status.{Status}
 use Rattle.mtn_cli.specs.declared.status.Status.TheVariants as status
 
@@ -45,16 +46,17 @@ abbrev pub unless : Option Cause → State → State → List ℕ → Outcome
 unless None old new output = done new output
 unless (Some cause) old new output = refused cause old
 
--- the bytes that are held, or the refusal that none are
-abbrev pub found_file : State → Id → Option (List ℕ) → Outcome
-found_file s id None = refused (UnknownFile id) s
-found_file s id (Some bytes) = done s bytes
+-- what is held, or the refusal that nothing is
+abbrev pub found : Cause → State → Option (List ℕ) → Outcome
+found cause s None = refused cause s
+found cause s (Some bytes) = done s bytes
 
 -- The outcome of a command over a state, one line a command; f is what the ident makes of a text. A lawful state has one
 -- (`one_outcome`).
 abbrev pub Steps : (List ℕ → List ℕ) → Call → List ℕ → State → Outcome → Type 0
 Steps f PutFile payload s o = o ≡ unless (file_refusal f s payload) s (with_file f s payload) (id_line (f payload))
-Steps f (GetFile id) payload s o = o ≡ found_file s id (get s.files id.0)
+Steps f (GetFile id) payload s o = o ≡ found (UnknownFile id) s (get s.files id.0)
+Steps f (GetRevision id) payload s o = o ≡ found (UnknownRevision id) s (text_under s.log id.0)
 
 abbrev pub usage_line : List ℕ
 usage_line = codes "usage" ++ 10 ∷ []
@@ -63,6 +65,7 @@ usage_line = codes "usage" ++ 10 ∷ []
 abbrev pub takes_payload : Call → Bool
 takes_payload PutFile = true
 takes_payload (GetFile id) = false
+takes_payload (GetRevision id) = false
 
 -- whether the source is read
 abbrev pub reads : Option Call → Bool

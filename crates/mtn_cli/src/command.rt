@@ -14,6 +14,8 @@ pub enum Call {
     PutFile,
     /// `get_file ID`: answers the bytes of a file.
     GetFile { id: Id },
+    /// `get_revision ID`: answers the text of a revision.
+    GetRevision { id: Id },
 }
 
 impl Call {
@@ -25,7 +27,7 @@ impl Call {
     {
         match self {
             Call::PutFile => true,
-            Call::GetFile { .. } => false,
+            Call::GetFile { .. } | Call::GetRevision { .. } => false,
         }
     }
 }
@@ -62,6 +64,7 @@ fn call_named(name: &str, words: &[Bytes]) -> Result<Call, WordsError>
     match name {
         "put_file" => no_words(words).map(|()| Call::PutFile),
         "get_file" => one_id(words).map(|id| Call::GetFile { id }),
+        "get_revision" => one_id(words).map(|id| Call::GetRevision { id }),
         _ => Err(WordsError::Usage),
     }
 }

@@ -14,6 +14,7 @@ mod answer;
 mod command;
 mod deliver;
 mod get_file;
+mod get_revision;
 mod laws;
 mod payload;
 mod put_file;

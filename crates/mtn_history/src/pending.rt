@@ -26,6 +26,7 @@ impl Pending {
     ghost use Rattle.mtn_ports.specs.Kept.{Stays};
     ghost use Rattle.mtn_history.specs.Errors.{IfDamage};
     ghost use Rattle.mtn_history.specs.Damage.{IsDamage};
+    ghost use Rattle.mtn_history.specs.Meta.{IsMetaOf};
     ghost use Rattle.mtn_history.specs.Stands.{Stands, Opens};
 
     /// The first half of beginning a draft: reads of table 1 what the keeper stands for, with nothing
@@ -34,6 +35,7 @@ impl Pending {
         ensures stays { Stays K.contents K.leaves K.faults keeper.old keeper.new }
         ensures stands { (f : List ℕ → List ℕ) (c : Contents) (s : State) → K.contents keeper.new ≡ Some c → Stands f c s → Opens f c s result }
         ensures bare { IfOk result (λ p. p.batch ≡ []) }
+        ensures counted { IfSome (K.contents keeper.new) (λ c. IfOk result (λ p. IsMetaOf c (record { count = p.count; is_new = p.is_new }))) }
         ensures failed { result ≡ Err StoreError.Failed → Rose (K.faults keeper.old) (K.faults keeper.new) }
         ensures damaged { IfSome (K.contents keeper.new) (λ c. IfErr result (λ e. IfDamage e (IsDamage c))) }
     {

@@ -1,7 +1,8 @@
 use Rattle.std.proofs.Common.{sym, ap, ◌∙◌, subst}
 use Rattle.mtn_history.specs.declared.pending.Pending.{Pending}
 use Rattle.mtn_history.specs.Stands.{IsDraft}
-use Rattle.mtn_cli.specs.Step.{done, found_file}
+use Rattle.mtn_base.specs.declared.refusal.Cause.TheVariants.{UnknownFile}
+use Rattle.mtn_cli.specs.Step.{done, found}
 use Rattle.mtn_cli.proofs.get_file.get_file.Goals as goal
 
 pub returns-clause-drafts : goal.returns-clause-drafts
@@ -11,8 +12,8 @@ returns-clause-drafts g c =
       stays = c.in_ok-file.ensures.stays;
       done = λ k s told draft. (
         s,
-        ap (done s) c.from_vec.ensures ∙ sym (ap (found_file s c.args.id) (c.in_ok-file.ensures.finds f k s told draft)),
+        ap (done s) c.from_vec.ensures ∙ sym (ap (found (UnknownFile c.args.id) s) (c.in_ok-file.ensures.finds f k s told draft)),
         subst (λ (p : Pending). IsDraft f k p s) (sym c.in_ok-file.ensures.pending) draft,
       );
-      reason = tt;
+      reason = λ counted. tt;
     }

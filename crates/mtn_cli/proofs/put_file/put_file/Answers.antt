@@ -15,5 +15,5 @@ returns-clause-drafts g c =
             ap (done (with_file f s payload)) (c.in_ok-id_text.ensures ∙ ap id_line accepted.0) ∙ sym (ap (λ r. unless r s (with_file f s payload) (id_line (f payload))) accepted.1),
             accepted.2,
           );
-      reason = tt;
+      reason = λ counted. tt;
     }

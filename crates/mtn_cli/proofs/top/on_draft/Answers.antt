@@ -6,3 +6,6 @@ returns-in-PutFile-clause-drafts g c = rw c.in-PutFile.is c.put_file.ensures.dra
 
 pub returns-in-GetFile-clause-drafts : goal.returns-in-GetFile-clause-drafts
 returns-in-GetFile-clause-drafts g c = rw c.in-GetFile.is c.get_file.ensures.drafts
+
+pub returns-in-GetRevision-clause-drafts : goal.returns-in-GetRevision-clause-drafts
+returns-in-GetRevision-clause-drafts g c = rw c.in-GetRevision.is c.get_revision.ensures.drafts

@@ -17,7 +17,7 @@ returns-in_err-reply g c =
     let p = err_from_is_err_and c.from_residual-in_err-reply.result c.from_residual-in_err-reply.ensures.1 in
     let work = worked (g.I.Ident.meaning c.args.ident.now) g.K.Keeper.contents g.K.Keeper.leaves g.K.Keeper.faults (Steps (g.I.Ident.meaning c.args.ident.now) c.args.call.now c.args.payload.now)
     c.args.keeper.now c.open.new.keeper c.new-draft.result.keeper.now c.on_draft.new.draft.keeper.now c.in_ok-pending.pending c.new-draft.result.pending c.on_draft.new.draft.pending (Err c.in_err-reply.field-0.0)
-    c.in_ok-pending.ensures.stays (λ d s told stands. c.in_ok-pending.ensures.stands (g.I.Ident.meaning c.args.ident.now) d s told stands) c.in_ok-pending.ensures.bare c.new-draft.ensures.keeper c.new-draft.ensures.pending c.in_err-reply.ensures.drafts in
+    c.in_ok-pending.ensures.stays (λ d s told stands. c.in_ok-pending.ensures.stands (g.I.Ident.meaning c.args.ident.now) d s told stands) c.in_ok-pending.ensures.bare c.in_ok-pending.ensures.counted c.new-draft.ensures.keeper c.new-draft.ensures.pending c.in_err-reply.ensures.drafts in
     reply_failed _ _ _ _ _ c.args.keeper.now c.on_draft.new.draft.keeper.now _ c.on_draft.new.draft.pending c.from_residual-in_err-reply.result c.in_err-reply.field-0.0 (search rules) (p.1 ∙ ap Err p.2) work
 
 pub returns-in_err-finish : goal.returns-in_err-finish
@@ -25,7 +25,7 @@ returns-in_err-finish g c =
     let p = err_from_is_err_and c.from_residual-in_err-finish.result c.from_residual-in_err-finish.ensures.1 in
     let work = worked (g.I.Ident.meaning c.args.ident.now) g.K.Keeper.contents g.K.Keeper.leaves g.K.Keeper.faults (Steps (g.I.Ident.meaning c.args.ident.now) c.args.call.now c.args.payload.now)
     c.args.keeper.now c.open.new.keeper c.new-draft.result.keeper.now c.on_draft.new.draft.keeper.now c.in_ok-pending.pending c.new-draft.result.pending c.on_draft.new.draft.pending (Ok c.in_ok-reply.reply)
-    c.in_ok-pending.ensures.stays (λ d s told stands. c.in_ok-pending.ensures.stands (g.I.Ident.meaning c.args.ident.now) d s told stands) c.in_ok-pending.ensures.bare c.new-draft.ensures.keeper c.new-draft.ensures.pending c.in_ok-reply.ensures.drafts in
+    c.in_ok-pending.ensures.stays (λ d s told stands. c.in_ok-pending.ensures.stands (g.I.Ident.meaning c.args.ident.now) d s told stands) c.in_ok-pending.ensures.bare c.in_ok-pending.ensures.counted c.new-draft.ensures.keeper c.new-draft.ensures.pending c.in_ok-reply.ensures.drafts in
     finish_failed (g.I.Ident.meaning c.args.ident.now) g.K.Keeper.contents g.K.Keeper.leaves g.K.Keeper.faults _ c.args.keeper.now c.on_draft.new.draft.keeper.now c.finish.new.self.0 _ c.on_draft.new.draft.pending c.in_ok-reply.reply
     c.from_residual-in_err-finish.result c.in_err-finish.field-0.0 (search rules) (p.1 ∙ ap Err p.2) work
     c.in_err-finish.ensures.told c.in_err-finish.ensures.crash c.in_err-finish.ensures.later c.in_err-finish.ensures.err
@@ -35,7 +35,7 @@ pub returns : goal.returns
 returns g c =
     let work = worked (g.I.Ident.meaning c.args.ident.now) g.K.Keeper.contents g.K.Keeper.leaves g.K.Keeper.faults (Steps (g.I.Ident.meaning c.args.ident.now) c.args.call.now c.args.payload.now)
     c.args.keeper.now c.open.new.keeper c.new-draft.result.keeper.now c.on_draft.new.draft.keeper.now c.in_ok-pending.pending c.new-draft.result.pending c.on_draft.new.draft.pending (Ok c.in_ok-reply.reply)
-    c.in_ok-pending.ensures.stays (λ d s told stands. c.in_ok-pending.ensures.stands (g.I.Ident.meaning c.args.ident.now) d s told stands) c.in_ok-pending.ensures.bare c.new-draft.ensures.keeper c.new-draft.ensures.pending c.in_ok-reply.ensures.drafts in
+    c.in_ok-pending.ensures.stays (λ d s told stands. c.in_ok-pending.ensures.stands (g.I.Ident.meaning c.args.ident.now) d s told stands) c.in_ok-pending.ensures.bare c.in_ok-pending.ensures.counted c.new-draft.ensures.keeper c.new-draft.ensures.pending c.in_ok-reply.ensures.drafts in
     finished (g.I.Ident.meaning c.args.ident.now) g.K.Keeper.contents g.K.Keeper.leaves g.K.Keeper.faults _ c.args.keeper.now c.on_draft.new.draft.keeper.now c.finish.new.self.0 _ c.on_draft.new.draft.pending c.in_ok-reply.reply
     (search rules) work
     c.in_ok-finish.ensures.told c.in_ok-finish.ensures.crash c.in_ok-finish.ensures.later c.in_ok-finish.ensures.ok

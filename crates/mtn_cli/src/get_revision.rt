@@ -1,0 +1,31 @@
+// The command `get_revision`.
+ghost use Rattle.std.specs.Prelude.{◌≡◌};
+ghost use Rattle.mtn_cli.specs.Performs.{Drafts};
+ghost use Rattle.mtn_cli.specs.Step.{Steps};
+
+use crate::answer::Reply;
+use crate::command::Call;
+use mtn_base::{Id, List};
+use mtn_history::{Draft, HistoryError};
+use mtn_ports::{Ident, Keeper};
+use std::alloc::Global;
+
+/// Answers the text of a revision.
+pub fn get_revision<I: Ident, K: Keeper>(
+    alloc: Global,
+    ident: &I,
+    id: Id,
+    payload: &[u8],
+    draft: &mut Draft<'_, K>,
+) -> Result<Reply, HistoryError>
+    ensures same_reference { draft.new.keeper.ghost_name ≡ draft.old.keeper.ghost_name }
+    ensures drafts { Drafts (I.meaning ident.now) K.contents K.leaves K.faults draft.old.keeper.now draft.new.keeper.now draft.old.pending draft.new.pending
+        (Steps (I.meaning ident.now) (Call.GetRevision id) payload.now) result }
+{
+    let mut text = Vec::new(alloc);
+    draft.text_of(id, &mut text)?;
+    Ok(Reply {
+        conflicts: false,
+        text: List::from_vec(text),
+    })
+}
