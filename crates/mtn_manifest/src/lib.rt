@@ -6,71 +6,21 @@
 //!
 //! The crates above rely on this: `write` appends the printed form of exactly these stanzas.
 //!
-//! Cost: one walk; the path of a node is made from its parent's, and each stanza is printed before the
-//! next is made. Besides the text it takes the paths of the directories.
+//! Cost: one walk; the path of a node is made from its parent's, and each stanza is printed straight into
+//! the text. Besides that it takes the paths of the directories.
 #![tactic(auto)]
 
-ghost use Rattle.std.specs.Prelude.{◌≡◌, ◌++◌, ◌∷◌, [], map, filter_map, codes, true, IfOk, OnOk, OnErr};
-ghost use Rattle.mtn_basic_io.specs.Spelling.{is_symbol, stanza_text, spelling};
+ghost use Rattle.std.specs.Prelude.{◌≡◌, ◌++◌, ◌∷◌, IfOk, OnOk, OnErr};
+ghost use Rattle.mtn_basic_io.specs.Spelling.{stanza_text, spelling};
 ghost use Rattle.mtn_basic_io.specs.Front.{IsFront};
-ghost use Rattle.mtn_basic_io.specs.declared.stanza.Value.TheVariants.{Text, Hex};
-ghost use Rattle.mtn_manifest.specs.Manifest.{line_of, body_lines, attr_line, node_stanza, head_stanza, manifest_of, text_at, kept_at, IsMet};
+ghost use Rattle.mtn_manifest.specs.Manifest.{node_stanza, manifest_of, text_at, kept_at, IsMet};
 
+mod printing;
+
+use crate::printing::{write_head, write_node};
 use mtn_base::{Bytes, NoMemory};
-use mtn_basic_io::{Line, Stanza, Value};
-use mtn_roster::{Attr, Body, Entry, Roster, Slot};
+use mtn_roster::{Entry, Roster, Slot};
 use std::alloc::Global;
-
-/// The line of one text.
-fn text_line(alloc: Global, symbol: &[u8], text: Bytes) -> Result<Line, NoMemory>
-    requires { is_symbol symbol.now ≡ true }
-    ensures { IfOk result (λ l. l ≡ line_of symbol.now (Text text ∷ [])) }
-{
-    Line::new(alloc, symbol, Value::Text(text))
-}
-
-/// The lines of a body at a path.
-fn body_stanza(alloc: Global, path: Bytes, body: &Body) -> Result<Stanza, NoMemory>
-    ensures { IfOk result (λ s. s ≡ body_lines path body.now) }
-{
-    match body {
-        Body::Dir => Stanza::new(alloc, text_line(alloc, b"dir", path)?),
-        Body::File { content } => {
-            let mut stanza = Stanza::new(alloc, text_line(alloc, b"file", path)?)?;
-            stanza.push(Line::new(alloc, b"content", Value::Hex(Some(*content)))?)?;
-            Ok(stanza)
-        }
-    }
-}
-
-fn attr_line_of(alloc: Global, key: &[u8], value: &[u8]) -> Result<Line, NoMemory>
-    ensures { IfOk result (λ l. l ≡ line_of (codes "attr") (Text key.now ∷ Text value.now ∷ [])) }
-{
-    let mut line = text_line(alloc, b"attr", Bytes::from_slice(alloc, key)?)?;
-    line.push(Value::text(alloc, value)?)?;
-    Ok(line)
-}
-
-/// Appends the lines of the live attributes.
-fn push_attrs(alloc: Global, attrs: &[Attr], stanza: &mut Stanza) -> Result<(), NoMemory>
-    ensures { OnOk result (stanza.new ≡ stanza.old ++ filter_map attr_line attrs.now) }
-{
-    for attr in attrs {
-        if let Some(value) = &attr.value {
-            stanza.push(attr_line_of(alloc, attr.key.as_slice(), value.as_slice())?)?;
-        }
-    }
-    Ok(())
-}
-
-/// The stanza of a node.
-fn stanza_of(alloc: Global, path: Bytes, entry: &Entry) -> Result<Stanza, NoMemory>
-    ensures { IfOk result (λ s. s ≡ node_stanza path entry.now) }
-{
-    let mut stanza = body_stanza(alloc, path, &entry.body)?;
-    push_attrs(alloc, entry.attrs.as_slice(), &mut stanza)?;
-    Ok(stanza)
-}
 
 /// Two texts as one.
 fn joined(alloc: Global, front: &[u8], end: &[u8]) -> Result<Bytes, NoMemory>
@@ -82,15 +32,17 @@ fn joined(alloc: Global, front: &[u8], end: &[u8]) -> Result<Bytes, NoMemory>
     Ok(Bytes::from_vec(text))
 }
 
-/// The text of the path of what hangs there, by what is kept of the nodes before.
-fn text_of(alloc: Global, kept: &[Bytes], slot: &Slot, above: usize) -> Result<Bytes, NoMemory>
+/// Makes the text of the path of what hangs there, by what is kept of the nodes before.
+fn put_text(kept: &[Bytes], slot: &Slot, above: usize, text: &mut Vec<u8>) -> Result<(), NoMemory>
     requires { IsMet kept.now slot.now above }
-    ensures { IfOk result (λ text. text ≡ text_at kept.now slot.now above) }
+    ensures { OnOk result (text.new.items ≡ text_at kept.now slot.now above) }
 {
-    match slot {
-        Slot::Root => Ok(Bytes::new(alloc)),
-        Slot::Below { name, .. } => joined(alloc, kept[above].as_slice(), name.bytes()),
+    text.clear();
+    if let Slot::Below { name, .. } = slot {
+        text.extend_from_slice(kept[above].as_slice())?;
+        text.extend_from_slice(name.bytes())?;
     }
+    Ok(())
 }
 
 /// What is kept of a node at a path for its children: what stands before their components. A file has none.
@@ -105,23 +57,12 @@ fn kept_of(alloc: Global, text: &[u8], entry: &Entry) -> Result<Bytes, NoMemory>
 }
 
 /// Appends one more stanza.
-fn write_next(stanza: Stanza, out: &mut Vec<u8>) -> Result<(), NoMemory>
-    ensures ok { OnOk result (out.new.items ≡ out.old.items ++ 10 ∷ stanza_text stanza) }
+fn write_next(path: &[u8], entry: &Entry, out: &mut Vec<u8>) -> Result<(), NoMemory>
+    ensures ok { OnOk result (out.new.items ≡ out.old.items ++ 10 ∷ stanza_text (node_stanza path.now entry.now)) }
     ensures kept { IsFront out.old.items out.new.items }
 {
     out.push(b'\n')?;
-    mtn_basic_io::write(&[stanza], out)?;
-    Ok(())
-}
-
-/// Appends the first stanza.
-fn write_head(alloc: Global, out: &mut Vec<u8>) -> Result<(), NoMemory>
-    ensures ok { OnOk result (out.new.items ≡ out.old.items ++ spelling (head_stanza ∷ [])) }
-    ensures kept { IsFront out.old.items out.new.items }
-{
-    let version = Bytes::from_slice(alloc, b"1")?;
-    let head = Stanza::new(alloc, text_line(alloc, b"format_version", version)?)?;
-    mtn_basic_io::write(&[head], out)?;
+    write_node(path, entry, out)?;
     Ok(())
 }
 
@@ -134,12 +75,13 @@ fn write_all(roster: &Roster, out: &mut Vec<u8>) -> Result<(), NoMemory>
     let _nodes = roster.len();
     let stops = roster.stops(alloc)?;
     let mut kept = Vec::with_capacity(alloc, stops.len())?;
-    write_head(alloc, out)?;
+    let mut text = Vec::new(alloc);
+    write_head(out)?;
     for stop in &stops {
         let entry = roster.at_place(stop.place).unwrap();
-        let text = text_of(alloc, &kept, &entry.slot, stop.above)?;
-        kept.push(kept_of(alloc, text.as_slice(), entry)?)?;
-        write_next(stanza_of(alloc, text, entry)?, out)?;
+        put_text(&kept, &entry.slot, stop.above, &mut text)?;
+        kept.push(kept_of(alloc, &text, entry)?)?;
+        write_next(&text, entry, out)?;
     }
     Ok(())
 }

@@ -17,8 +17,8 @@ unwrap-entry-requires c =
     let has = stop_has c.args.roster.now c.deref-stop-items.result.now are c.loop-stop.stop-index (record { place = 0; above = 0 }) c.loop-stop-test.true in
     copied_some c.at_place.result has.0 (c.at_place.ensures ∙ has.1)
 
-pub text_of-requires : goal.text_of-requires
-text_of-requires c =
+pub put_text-requires : goal.put_text-requires
+put_text-requires c =
     (at_stop c.args.roster.now c.len-nodes.ensures.sane c.in_ok-stops.stops.items c.deref-stop-items.result.now c.in_ok-stops.ensures c.deref-stop-items.ensures.value c.loop-stop.stop-index (record { place = 0; above = 0 }) c.loop-stop-test.true
     c.at_place.result c.unwrap-entry.result c.unwrap-entry.ensures c.at_place.ensures c.loop-stop.kept.items c.deref.result.now c.deref.ensures.value c.loop-stop.invariant.0).places.met
 
@@ -29,11 +29,12 @@ loop-stop-preserved c =
     let e : Entry = c.unwrap-entry.result.now in
     let a = at_stop t c.len-nodes.ensures.sane c.in_ok-stops.stops.items c.deref-stop-items.result.now c.in_ok-stops.ensures c.deref-stop-items.ensures.value i (record { place = 0; above = 0 }) c.loop-stop-test.true
     c.at_place.result c.unwrap-entry.result c.unwrap-entry.ensures c.at_place.ensures c.loop-stop.kept.items c.deref.result.now c.deref.ensures.value c.loop-stop.invariant.0 in
-    let text : c.in_ok-text.text ≡ path_text (path_of t e) = c.in_ok-text.ensures ∙ a.places.text in (
+    let text : c.put_text.new.text.items ≡ path_text (path_of t e) = c.in_ok-put_text.ensures ∙ a.places.text in
+    let last : c.deref-in-loop-stop-2.result.now ≡ path_text (path_of t e) = c.deref-in-loop-stop-2.ensures.value ∙ text in (
       met_more t (λ (e : Entry). kept_at (path_text (path_of t e)) e) i e c.loop-stop.kept.items _ _ a.node
-          (c.in_ok-kept_of.ensures ∙ ap (λ p. kept_at p e) (c.as_slice.ensures ∙ text)) c.loop-stop.invariant.0 c.in_ok-push.ensures.items,
-      written_more t (λ (e : Entry). node_stanza (path_text (path_of t e)) e) i e head_stanza _ c.args.out.now.items c.loop-stop.out.items _ a.node
-          (c.in_ok-stanza_of.ensures ∙ ap (λ p. node_stanza p e) text) c.loop-stop.invariant.1 c.in_ok-write_next.ensures.ok,
+          (c.in_ok-kept_of.ensures ∙ ap (λ p. kept_at p e) (c.deref-in-loop-stop.ensures.value ∙ text)) c.loop-stop.invariant.0 c.in_ok-push.ensures.items,
+      written_more t (λ (e : Entry). node_stanza (path_text (path_of t e)) e) i e head_stanza (node_stanza c.deref-in-loop-stop-2.result.now e) c.args.out.now.items c.loop-stop.out.items _ a.node
+          (ap (λ p. node_stanza p e) last) c.loop-stop.invariant.1 c.in_ok-write_next.ensures.ok,
       front_trans c.loop-stop.invariant.2 c.in_ok-write_next.ensures.kept,
     )
 
