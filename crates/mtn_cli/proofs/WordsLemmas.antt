@@ -12,7 +12,7 @@ use Rattle.std.proofs.lemmas.Bool.{false_from_ne_true, not-false}
 use Rattle.std.proofs.Math.Seq.{drop-cons}
 use Rattle.std.specs.Option.{option_and_then}
 use Rattle.std.proofs.lemmas.Map.Text.{is_eq-slice_cmp}
-use Rattle.mtn_cli.specs.Words.{options_of, option_of, are_apart, is_option, positionals_of, command_of, command_with}
+use Rattle.mtn_cli.specs.Words.{each_of, option_of, are_apart, is_option, positionals_of, command_of, command_with}
 use Rattle.mtn_cli.specs.declared.words.Command.{Command}
 use Rattle.mtn_cli.specs.declared.words.OptionWord.{OptionWord}
 
@@ -21,17 +21,24 @@ pub told_utf8 : {T E : Type 0} (P : T → Type 0) (Q : E → Type 0) (bs : List 
 told_utf8 P Q bs (Ok s) told = sym (is_utf8-from_IsUtf8 bs told.1)
 told_utf8 P Q bs (Err e) told = sym (false_from_ne_true (is_utf8 bs) (λ yes. told.0 (IsUtf8-from_is_utf8 bs yes)))
 
--- options that were read stand before those that are left
-abbrev pub with_front : List OptionWord → Option (List OptionWord) → Option (List OptionWord)
+-- what was read stands before what is left
+abbrev pub with_front : {T : Type 0} → List T → Option (List T) → Option (List T)
 with_front front = option_map (λ rest. front ++ rest)
 
-pub no_front : (o : Option (List OptionWord)) → o ≡ with_front [] o
-no_front None = refl
-no_front (Some rest) = refl
-
-pub one_more : (front : List OptionWord) (x : OptionWord) (o : Option (List OptionWord)) → with_front front (option_map (λ rest. x ∷ rest) o) ≡ with_front (front ++ x ∷ []) o
+one_more : {T : Type 0} (front : List T) (x : T) (o : Option (List T)) → with_front front (option_map (λ rest. x ∷ rest) o) ≡ with_front (front ++ x ∷ []) o
 one_more front x None = refl
 one_more front x (Some rest) = ap Some (sym (append_assoc front (x ∷ []) rest))
+
+-- one word more is read
+pub read_one : {T : Type 0} (read : List ℕ → Option T) (front new : List T) (words : List (List ℕ)) (i : ℕ) (w : List ℕ) (x : T) → i < length words → w ≡ get_or words i w → read w ≡ Some x → new ≡ front ++ x ∷ [] →
+    each_of read words ≡ with_front front (each_of read (drop i words)) → each_of read words ≡ with_front new (each_of read (drop (i + 1) words))
+read_one read front new words i w x inside item reads is so_far =
+    let rest = drop (suc i) words in
+    let here : drop i words ≡ w ∷ rest = drop-cons words i w inside ∙ ap (λ y. y ∷ rest) (sym item) in
+    let this : each_of read (w ∷ rest) ≡ option_map (λ values. x ∷ values) (each_of read rest) = ap (option_and_then (λ value. option_map (λ values. value ∷ values) (each_of read rest))) reads in
+    let next : suc i ≡ i + 1 = omega arith in
+    so_far ∙ ap (λ ws. with_front front (each_of read ws)) here ∙ ap (with_front front) this ∙ one_more front x (each_of read rest)
+    ∙ ap (λ values. with_front values (each_of read rest)) (sym is) ∙ ap (λ n. with_front new (each_of read (drop n words))) next
 
 -- the names that a set has, of options that differ
 abbrev by_text : Bor (List ℕ) → Bor (List ℕ) → Ordering
@@ -40,17 +47,6 @@ by_text x y = slice_cmp nat_cmp x.now y.now
 pub record Seen (names : BTreeSet (Bor (List ℕ))) (all : List (List ℕ)) : Type 0 where
   pub apart : are_apart all ≡ true
   pub has : (q : Bor (List ℕ)) → contains by_text names q ≡ list_any (λ other. bytes_eq other q.now) all
-
--- one option is read
-pub read_one : (front new : List OptionWord) (words : List (List ℕ)) (i : ℕ) (w : List ℕ) (x : OptionWord) → i < length words → w ≡ get_or words i w → option_of w ≡ Some x → new ≡ front ++ x ∷ [] →
-    options_of words ≡ with_front front (options_of (drop i words)) → options_of words ≡ with_front new (options_of (drop (i + 1) words))
-read_one front new words i w x inside item reads is so_far =
-    let rest = drop (suc i) words in
-    let here : drop i words ≡ w ∷ rest = drop-cons words i w inside ∙ ap (λ y. y ∷ rest) (sym item) in
-    let read : options_of (w ∷ rest) ≡ option_map (λ os. x ∷ os) (options_of rest) = ap (option_and_then (λ o. option_map (λ os. o ∷ os) (options_of rest))) reads in
-    let next : suc i ≡ i + 1 = omega arith in
-    so_far ∙ ap (λ ws. with_front front (options_of ws)) here ∙ ap (with_front front) read ∙ one_more front x (options_of rest)
-    ∙ ap (λ os. with_front os (options_of rest)) (sym is) ∙ ap (λ n. with_front new (options_of (drop n words))) next
 
 or_cond : (b x : Bool) → cond b true x ≡ (b || x)
 or_cond true x = refl
@@ -118,5 +114,5 @@ first_true false b e = e
 pub name_is_utf8 : (words : List (List ℕ)) (c : Command) → command_of words ≡ Some c → IsUtf8 c.name
 name_is_utf8 [] c is = cc
 name_is_utf8 (name ∷ rest) c is =
-    let has = named name (positionals_of (drop (prefix_len is_option rest) rest)) (list_all is_utf8 (name ∷ rest)) (options_of (take_while is_option rest)) c is in
+    let has = named name (positionals_of (drop (prefix_len is_option rest) rest)) (list_all is_utf8 (name ∷ rest)) (each_of option_of (take_while is_option rest)) c is in
     subst IsUtf8 has.1 (IsUtf8-from_is_utf8 name (first_true (is_utf8 name) (list_all is_utf8 rest) has.0))

@@ -24,10 +24,10 @@ option_cut text None = if bytes_eq text (codes "resolve") then Some (record { na
 abbrev pub option_of : List ℕ → Option OptionWord
 option_of word = let text = drop 2 word in option_cut text (position (λ b. b == 61) text)
 
--- each of the words is an option
-abbrev pub options_of : List (List ℕ) → Option (List OptionWord)
-options_of [] = Some []
-options_of (word ∷ rest) = option_and_then (λ option. option_map (λ options. option ∷ options) (options_of rest)) (option_of word)
+-- what each of the words says, where each says something
+abbrev pub each_of : {T : Type 0} → (List ℕ → Option T) → List (List ℕ) → Option (List T)
+each_of read [] = Some []
+each_of read (word ∷ rest) = option_and_then (λ value. option_map (λ values. value ∷ values) (each_of read rest)) (read word)
 
 -- no name stands twice
 abbrev pub are_apart : List (List ℕ) → Bool
@@ -49,7 +49,7 @@ abbrev pub command_of : List (List ℕ) → Option Command
 command_of [] = None
 command_of (name ∷ rest) =
     if list_all is_utf8 (name ∷ rest)
-    then option_and_then (command_with name (positionals_of (drop (prefix_len is_option rest) rest))) (options_of (take_while is_option rest))
+    then option_and_then (command_with name (positionals_of (drop (prefix_len is_option rest) rest))) (each_of option_of (take_while is_option rest))
     else None
 
 -- A reader's answer: what is spelled; Usage exactly where nothing is; or memory is wanting.

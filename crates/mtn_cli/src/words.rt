@@ -2,7 +2,7 @@
 ghost use Rattle.std.specs.Prelude.{◌≡◌, ◌==◌, IfOk, map, position};
 ghost use Rattle.std.specs.List.{list_all, prefix_len};
 ghost use Rattle.std.specs.Str.{is_utf8 as utf8};
-ghost use Rattle.mtn_cli.specs.Words.{Reads, are_apart as apart, command_of, is_end as ends, is_option as optional, option_cut, option_of, options_of, positionals_of};
+ghost use Rattle.mtn_cli.specs.Words.{Reads, are_apart as apart, command_of, each_of, is_end as ends, is_option as optional, option_cut, option_of, positionals_of};
 
 use mtn_base::{Bytes, List, NoMemory};
 use std::alloc::Global;
@@ -109,7 +109,7 @@ fn positionals(words: &[Bytes]) -> &[Bytes]
 }
 
 fn read_options(alloc: Global, words: &[Bytes]) -> Result<List<OptionWord>, WordsError>
-    ensures { Reads (options_of words.now) result }
+    ensures { Reads (each_of option_of words.now) result }
 {
     let mut options = List::new(alloc);
     for word in words {
