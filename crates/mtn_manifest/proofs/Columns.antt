@@ -2,7 +2,7 @@
 use Rattle.std.specs.Prelude.{codes, filter_map, is_some, option_map, max}
 use Rattle.std.specs.List.{flat_map, list_any, cons_option}
 use Rattle.std.proofs.lemmas.List.Concat.{flat_map-append}
-use Rattle.std.proofs.Common.{◌≡◌, ◌||◌, ℕ, ◌+◌, ◌<◌, Bool, true, false, cond, List, [], ◌∷◌, ◌++◌, length, take, get_or, append_assoc, Option, Some, None, refl, sym, ◌∙◌, ap}
+use Rattle.std.proofs.Common.{◌≡◌, ◌||◌, ℕ, ◌+◌, ◌<◌, Bool, true, false, cond, List, [], ◌∷◌, ◌++◌, length, take, get_or, append_assoc, Some, None, refl, sym, ◌∙◌, ap}
 use Rattle.mtn_basic_io.specs.Spelling.{longest, line_text, stanza_text}
 use Rattle.mtn_basic_io.specs.declared.stanza.Value.TheVariants.{Text}
 use Rattle.mtn_roster.specs.declared.entry.Attr.{Attr}

@@ -1,5 +1,5 @@
 -- The names ascend as they stand, or once they are sorted.
-use Rattle.std.proofs.Common.{◌≡◌, Bool, true, subst, ◌∙◌, sym}
+use Rattle.std.proofs.Common.{◌≡◌, Bool, true, subst}
 use Rattle.std.proofs.lemmas.List.Sorted.{IsPermutation-refl}
 use Rattle.std.specs.List.{IsAllAdjacentAnswer}
 use Rattle.std.specs.Ordering.{is_lt}
