@@ -70,7 +70,7 @@ lawful_more f s bytes law none small = record {
   certs = law.certs;
 }
 
-other_table : (n t : ℕ) (x y : Table) → t ≢ n → cond (eqb n t) x y ≡ y
+pub other_table : (n t : ℕ) (x y : Table) → t ≢ n → cond (eqb n t) x y ≡ y
 other_table n t x y other = let test : eqb n t ≡ false = grind (arith, nat_tests) in ap (λ b. cond b x y) test
 
 -- a file goes behind the records of a store
