@@ -3,6 +3,7 @@ pub mod Errors
 pub mod Files
 pub mod Logs
 pub mod Meta
+pub mod Places
 pub mod Records
 pub mod Revisions
 pub mod Rosters

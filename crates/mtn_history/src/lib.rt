@@ -17,6 +17,7 @@ mod files;
 mod logs;
 mod meta;
 mod pending;
+mod places;
 mod rosters;
 mod tables;
 mod texts;
