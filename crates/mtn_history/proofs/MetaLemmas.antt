@@ -22,7 +22,9 @@ use Rattle.mtn_history.specs.declared.pending.Pending.{Pending}
 use Rattle.mtn_history.specs.Meta.{meta_of, count_key, version_key, version, Counted, IsMetaOf, VersionDamage, MetaDamage}
 use Rattle.mtn_history.specs.Damage.{IsDamage, IsShown}
 use Rattle.mtn_history.specs.Logs.{LogDamage}
+use Rattle.mtn_history.specs.Places.{PlaceDamage}
 use Rattle.mtn_history.specs.Rosters.{RosterDamage}
+use Rattle.mtn_history.proofs.PlaceLemmas.{never_unplaced, shown_place}
 use Rattle.mtn_history.specs.Texts.{TextDamage}
 use Rattle.mtn_history.proofs.RosterLemmas.{never_unmade, shown_roster}
 use Rattle.mtn_history.proofs.LogLemmas.{never_wrong, shown_log}
@@ -116,9 +118,14 @@ no_roster_damage f c s d (inl new) damage = clash (body_at c 1 count_key) damage
 no_roster_damage f c s d (inr stands) damage =
     never_unmade c stands.history stands.kept stands.revisions stands.rosters damage.count d (count_told damage.count f c s damage.counted stands ∙ sym stands.spelled.long) damage.wrong
 
+-- nor of the positions in table 3
+no_place_damage : (f : List ℕ → List ℕ) (c : Contents) (s : State) (d : Damage) → Stands f c s → PlaceDamage c d → ⊥
+no_place_damage f c s d (inl new) damage = clash (body_at c 1 count_key) damage.counted.body damage.counted.held (none_held c s count_key new)
+no_place_damage f c s d (inr stands) damage = never_unplaced s.log (c 3) stands.texts c refl damage.count d (count_told damage.count f c s damage.counted stands) damage.wrong
+
 -- records that stand for a state show no damage
 pub no_damage : (f : List ℕ → List ℕ) (c : Contents) (s : State) (d : Damage) → Stands f c s → IsDamage c d → ⊥
-no_damage f c s d stands damage = ⊎_elim (no_meta_damage f c s d stands) (⊎_elim (no_text_damage f c s d stands) (⊎_elim (no_log_damage f c s d stands) (no_roster_damage f c s d stands))) damage
+no_damage f c s d stands damage = ⊎_elim (no_meta_damage f c s d stands) (⊎_elim (no_text_damage f c s d stands) (⊎_elim (no_log_damage f c s d stands) (⊎_elim (no_roster_damage f c s d stands) (no_place_damage f c s d stands)))) damage
 
 pub err_no_damage : (f : List ℕ → List ℕ) (told : Option Contents) (e : StoreError) → IfSome told (λ c. IfDamage e (IsDamage c)) →
     (c : Contents) (s : State) → told ≡ Some c → Stands f c s → IfDamage e (λ _. ⊥)
@@ -179,7 +186,7 @@ shown_text c (Missing table key) damage = absurd damage
 
 -- The record that is printed is one of the contents, or it is not in them.
 pub shown : (c : Contents) (d : Damage) → IsDamage c d → IsShown c d
-shown c d damage = ⊎_elim (shown_meta c d) (⊎_elim (shown_text c d) (⊎_elim (λ l. shown_log c l.wrong.place d l.wrong.wrong) (λ l. shown_roster c l.wrong.place d l.wrong.wrong))) damage
+shown c d damage = ⊎_elim (shown_meta c d) (⊎_elim (shown_text c d) (⊎_elim (λ l. shown_log c l.wrong.place d l.wrong.wrong) (⊎_elim (λ l. shown_roster c l.wrong.place d l.wrong.wrong) (λ p. shown_place c p.count d p.wrong)))) damage
 
 -- what was found wrong in table 1 is damage
 pub meta_damage : (told : Option Contents) (e : StoreError) → IfSome told (λ c. IfDamage e (MetaDamage c)) → IfSome told (λ c. IfDamage e (IsDamage c))

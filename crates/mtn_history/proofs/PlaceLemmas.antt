@@ -19,6 +19,7 @@ use Rattle.mtn_history.specs.declared.errors.Damage.{Damage}
 use Rattle.mtn_history.specs.declared.errors.Damage.TheVariants.{Bad, Missing}
 use Rattle.mtn_history.specs.declared.errors.StoreError.{StoreError}
 use Rattle.mtn_history.specs.declared.errors.StoreError.TheVariants.{Failed, Damaged, NoMemory}
+use Rattle.mtn_history.specs.Damage.{IsShown}
 use Rattle.mtn_history.specs.Errors.{IfDamage}
 use Rattle.mtn_history.specs.Places.{IsPlaced, UnplacedBelow}
 use Rattle.mtn_history.specs.Revisions.{AreTexts}
@@ -71,3 +72,18 @@ module _ (f : List ℕ → List ℕ) (files t : Table) (log : List Logged) (h : 
       at_place : (o : Option ℕ) → place_of h id ≡ o → (q : ℕ) → (v : Revision) × (slice_get h q ≡ Some v) × (v.id ≡ id) → Some q ≡ o
       at_place None e q has = absurd (no_place h id e q has)
       at_place (Some p) e q has = ap Some ((history_is_grown f files log h spelled).differ id q p has (place_has h id p e))
+
+one_body : (x : Option (List ℕ)) (a b : List ℕ) → x ≡ Some a → x ≡ Some b → a ≡ b
+one_body x a b p q = cc
+
+pub never_unplaced : (log : List Logged) (t : Table) → AreTexts log t → (c : Contents) → c 3 ≡ t → (n : ℕ) (d : Damage) → n ≡ length log → UnplacedBelow n c d → ⊥
+never_unplaced log t texts c table n (Missing tab key) counted wrong = wrong
+never_unplaced log t texts c table n (Bad tab key body) counted wrong =
+    let found : get t key ≡ Some body = ap (λ (m : Table). get m key) (sym table) ∙ wrong.1 in
+    let o = texts.only key body found in
+    let is : body ≡ number_text o.0 ++ o.1.text = one_body (get t key) body (number_text o.0 ++ o.1.text) found (ap (get t) (sym o.3) ∙ texts.each o.0 o.1 o.2) in
+    wrong.2 o.0 o.1.text (subst (λ m. o.0 < m) (sym counted) (inside log o.0 o.1 o.2)) is
+
+pub shown_place : (c : Contents) (n : ℕ) (d : Damage) → UnplacedBelow n c d → IsShown c d
+shown_place c n (Missing tab key) wrong = absurd wrong
+shown_place c n (Bad tab key body) wrong = ap (λ t. body_at c t key) wrong.0 ∙ wrong.1

@@ -146,12 +146,14 @@ chain_whole_at : (c : Contents) (at next : ℕ) (rs : List RosterRecord) (x : Ro
 chain_whole_at c at next rs (Whole es) path here is = path_ends c at next es rs path here
 chain_whole_at c at next rs (Delta base d g ch) path here is = absurd cc
 
-pub chain_whole : (mid new : Option Contents) (ps : List Put) (at next : ℕ) (rs more turned : List RosterRecord) (x : RosterRecord) → Same mid new → IfSome mid (λ c. IsPathDown (with_all c ps) at rs next) →
-    IfSome new (λ c. IsRostered (with_all c ps) next x) → base_of x ≡ None → more ≡ rs ++ x ∷ [] → turned ≡ reverse more → IfSome new (λ c. IsChainOf (with_all c ps) at (Some turned))
-chain_whole mid None ps at next rs more turned x same path here is grown turns = tt
-chain_whole mid (Some c) ps at next rs more turned x same path here is grown turns =
-    subst (IsChainDown (with_all c ps) at) (sym (ap reverse (turns ∙ ap reverse grown) ∙ reverse-reverse (rs ++ x ∷ [])))
-    (chain_whole_at (with_all c ps) at next rs x (told_on mid (Some c) (λ d. IsPathDown (with_all d ps) at rs next) same path c refl) here is)
+pub chain_whole : (mid new : Option Contents) (ps : List Put) (at next : ℕ) (rs more turned : List RosterRecord) (x : RosterRecord) (depth : ℕ) → length rs ≡ depth → Same mid new → IfSome mid (λ c. IsPathDown (with_all c ps) at rs next) →
+    IfSome new (λ c. IsRostered (with_all c ps) next x) → base_of x ≡ None → more ≡ rs ++ x ∷ [] → turned ≡ reverse more → IfSome new (λ c. IsChainOf (with_all c ps) at (Some (turned, depth)))
+chain_whole mid None ps at next rs more turned x depth long same path here is grown turns = tt
+chain_whole mid (Some c) ps at next rs more turned x depth long same path here is grown turns = (
+      subst (IsChainDown (with_all c ps) at) (sym (ap reverse (turns ∙ ap reverse grown) ∙ reverse-reverse (rs ++ x ∷ [])))
+      (chain_whole_at (with_all c ps) at next rs x (told_on mid (Some c) (λ d. IsPathDown (with_all d ps) at rs next) same path c refl) here is),
+      ap length (turns ∙ ap reverse grown) ∙ length-reverse (rs ++ x ∷ []) ∙ omega (arith, length-append rs (x ∷ []), long),
+    )
 
 pub no_chain : (told : Option Contents) (ps : List Put) (at next : ℕ) (rs : List RosterRecord) → IfSome told (λ c. IsPathDown (with_all c ps) at rs next) → length rs ≡ 16 → IfSome told (λ c. IsChainOf (with_all c ps) at None)
 no_chain None ps at next rs path long = tt
@@ -171,19 +173,20 @@ unrebuilt_none mid (Some c) ps at e same none held =
     unrebuilt_at (with_all c ps) at e (λ chain es t down made spelled. told_on mid (Some c) (λ d. IsChainOf (with_all d ps) at None) same none c refl chain es down made) held
 
 -- the chain gives no tree
-pub unrebuilt_bad : (mid new : Option Contents) (ps : List Put) (at : ℕ) (e : StoreError) (chain : List RosterRecord) → Same mid new → IfSome mid (λ c. IsChainOf (with_all c ps) at (Some chain)) →
+pub unrebuilt_bad : (mid new : Option Contents) (ps : List Put) (at : ℕ) (e : StoreError) (chain : List RosterRecord) (depth : ℕ) → Same mid new → IfSome mid (λ c. IsChainOf (with_all c ps) at (Some (chain, depth))) →
     ((es : Entries) (t : MarkedTree) → rebuilt chain ≡ Some es → Spells es t → ⊥) →
     IfSome new (λ c. IfDamage e (IsRosterHeld (with_all c ps) at)) → IfSome new (λ c. IfDamage e (UnmadeBelow (at + 1) (with_all c ps)))
-unrebuilt_bad mid None ps at e chain same is bad held = tt
-unrebuilt_bad mid (Some c) ps at e chain same is bad held =
+unrebuilt_bad mid None ps at e chain depth same is bad held = tt
+unrebuilt_bad mid (Some c) ps at e chain depth same is bad held =
     unrebuilt_at (with_all c ps) at e (λ other es t down made spelled.
-    let one : other ≡ reverse chain = one_chain (with_all c ps) at other (reverse chain) down (told_on mid (Some c) (λ d. IsChainOf (with_all d ps) at (Some chain)) same is c refl) in
+    let one : other ≡ reverse chain = one_chain (with_all c ps) at other (reverse chain) down (told_on mid (Some c) (λ d. IsChainOf (with_all d ps) at (Some (chain, depth))) same is c refl).0 in
     bad es t (sym (ap rebuilt (ap reverse one ∙ reverse-reverse chain)) ∙ made) spelled) held
 
-pub is_rebuilt : (told : Option Contents) (ps : List Put) (at : ℕ) (chain : List RosterRecord) (es : Entries) (t : MarkedTree) → IfSome told (λ c. IsChainOf (with_all c ps) at (Some chain)) → rebuilt chain ≡ Some es → Spells es t →
-    IfSome told (λ c. IsRebuilt (with_all c ps) at es t)
-is_rebuilt None ps at chain es t is made spelled = tt
-is_rebuilt (Some c) ps at chain es t is made spelled = record { chain = reverse chain; down = is; entries = ap rebuilt (reverse-reverse chain) ∙ made; spelled = spelled }
+pub is_rebuilt : (told : Option Contents) (ps : List Put) (at : ℕ) (chain : List RosterRecord) (depth : ℕ) (es : Entries) (t : MarkedTree) → IfSome told (λ c. IsChainOf (with_all c ps) at (Some (chain, depth))) → rebuilt chain ≡ Some es → Spells es t →
+    IfSome told (λ c. IsRebuilt (with_all c ps) at es t depth)
+is_rebuilt None ps at chain depth es t is made spelled = tt
+is_rebuilt (Some c) ps at chain depth es t is made spelled =
+    record { chain = reverse chain; down = is.0; entries = ap rebuilt (reverse-reverse chain) ∙ made; spelled = spelled; deltas = length-reverse chain ∙ is.1 }
 
 pub one_more_record : (rs more : List RosterRecord) (x : RosterRecord) (n : ℕ) → length rs ≡ n → more ≡ rs ++ x ∷ [] → length more ≡ n + 1
 one_more_record rs more x n long is = ap length is ∙ omega (arith, length-append rs (x ∷ []), long)
@@ -257,14 +260,15 @@ module _ (c : Contents) (h : List Revision) (ks : List Kept) (kept : AreKept h k
       from (suc n) r v k hv hk e (λ p u below hu hb s. chained n p u below hu hb (omega (arith, s))) v.parents (kept.each r v k hv hk).depth b.0 b.1 b.2.roster b.2.is b.2.text
 
   -- what is rebuilt at a position are the entries that are kept there, and the tree with the marks of the whole history
-  pub rebuilt_is : (r : ℕ) (v : Revision) (k : Kept) (es : Entries) (t : MarkedTree) → slice_get h r ≡ Some v → slice_get ks r ≡ Some k → IsRebuilt c r es t → (es ≡ k.entries) × IsMarkedAt h r t
-  rebuilt_is r v k es t hv hk is =
+  pub rebuilt_is : (r : ℕ) (v : Revision) (k : Kept) (es : Entries) (t : MarkedTree) (depth : ℕ) → slice_get h r ≡ Some v → slice_get ks r ≡ Some k → IsRebuilt c r es t depth →
+      (es ≡ k.entries) × IsMarkedAt h r t × (depth ≡ k.depth)
+  rebuilt_is r v k es t depth hv hk is =
       let x = chained k.depth r v k hv hk refl in
       let one = one_chain c r is.chain x.chain is.down x.down in
       let same : es ≡ k.entries = let t = sym is.entries ∙ ap rebuilt (ap reverse one) ∙ x.made in cc in
       let known = kept.each r v k hv hk in
       let tree = one_tree k.entries t (record { tree = v.tree; marks = known.marks }) (subst (λ fs. Spells fs t) same is.spelled) known.numbered.spells in
-      (same, subst (IsMarkedAt h r) (sym tree) known.marked)
+      (same, subst (IsMarkedAt h r) (sym tree) known.marked, let long = ap length one ∙ x.long in omega (arith, is.deltas, long))
 
   never_unrostered : (r : ℕ) (d : Damage) → r < length h → UnrosteredAt c r d → ⊥
   never_unrostered r (Bad table key body) lt wrong =

@@ -5,13 +5,14 @@ use Rattle.mtn_history.specs.declared.errors.Damage.{Damage}
 use Rattle.mtn_history.specs.declared.errors.Damage.TheVariants.{Bad, Missing}
 use Rattle.mtn_history.specs.Logs.{LogDamage}
 use Rattle.mtn_history.specs.Meta.{MetaDamage}
+use Rattle.mtn_history.specs.Places.{PlaceDamage}
 use Rattle.mtn_history.specs.Rosters.{RosterDamage}
 use Rattle.mtn_history.specs.Texts.{TextDamage}
 
 -- A record that fails its reader or cannot stand beside the others, or a key that another record asks for: of table 1, 3, 4 or 5.
 -- A command that reads more records has its own cases beside these.
 abbrev pub IsDamage : Contents → Damage → Type 0
-IsDamage c d = MetaDamage c d ⊎ (TextDamage c d ⊎ (LogDamage c d ⊎ RosterDamage c d))
+IsDamage c d = MetaDamage c d ⊎ (TextDamage c d ⊎ (LogDamage c d ⊎ (RosterDamage c d ⊎ PlaceDamage c d)))
 
 -- a bad record is one of the contents, and a missing one is not
 abbrev pub IsShown : Contents → Damage → Type 0

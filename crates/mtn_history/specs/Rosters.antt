@@ -1,5 +1,5 @@
 -- Rosters: what is read of table 5, and what is damage.
-use Rattle.std.specs.Prelude.{◌≡◌, ◌<◌, ◌⊎◌, ℕ, List, [], ◌∷◌, reverse, Option, Some, None}
+use Rattle.std.specs.Prelude.{◌≡◌, ◌<◌, ◌+◌, ◌⊎◌, length, ℕ, List, [], ◌∷◌, reverse, Option, Some, None}
 use Rattle.mtn_chains.specs.Chain.{Entries, rebuilt}
 use Rattle.mtn_chains.specs.Spelled.{Spells}
 use Rattle.mtn_marking.specs.Marking.{MarkedTree}
@@ -49,9 +49,9 @@ abbrev pub base_of : RosterRecord → Option ℕ
 base_of (Whole entries) = None
 base_of (Delta base depth gone changed) = Some base
 
--- the chain of a position, its whole record first; none where no chain from there gives entries
-abbrev pub IsChainOf : Contents → ℕ → Option (List RosterRecord) → Type 0
-IsChainOf c r (Some chain) = IsChainDown c r (reverse chain)
+-- the chain of a position, its whole record first, and how many deltas it has; none where no chain from there gives entries
+abbrev pub IsChainOf : Contents → ℕ → Option (List RosterRecord × ℕ) → Type 0
+IsChainOf c r (Some (chain, depth)) = IsChainDown c r (reverse chain) × (length chain ≡ depth + 1)
 IsChainOf c r None = (chain : List RosterRecord) (es : Entries) → IsChainDown c r chain → rebuilt (reverse chain) ≡ Some es → ⊥
 
 -- a position below n whose record is none, is not there, or gives no tree with those below it
@@ -60,12 +60,13 @@ pub record UnmadeBelow (n : ℕ) (c : Contents) (d : Damage) : Type 0 where
   pub below : place < n
   pub wrong : UnrosteredAt c place d ⊎ UnrebuiltAt c place d
 
--- the entries of a chain and the marked tree that they spell
-pub record IsRebuilt (c : Contents) (r : ℕ) (es : Entries) (t : MarkedTree) : Type 0 where
+-- the entries of a chain, the marked tree that they spell, and how many deltas the chain has
+pub record IsRebuilt (c : Contents) (r : ℕ) (es : Entries) (t : MarkedTree) (depth : ℕ) : Type 0 where
   pub chain : List RosterRecord
   pub down : IsChainDown c r chain
   pub entries : rebuilt (reverse chain) ≡ Some es
   pub spelled : Spells es t
+  pub deltas : length chain ≡ depth + 1
 
 -- the same below `count`
 pub record RosterDamage (c : Contents) (d : Damage) : Type 0 where

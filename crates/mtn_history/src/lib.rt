@@ -26,4 +26,5 @@ pub use draft::{Draft, DraftOver};
 pub use errors::{Damage, HistoryError, StoreError};
 pub use meta::Meta;
 pub use pending::Pending;
+pub use rosters::Rebuilt;
 pub use tables::{FILES, LOG, META, ROSTERS, TEXTS};

@@ -14,6 +14,22 @@ use mtn_marking::MarkedRoster;
 use mtn_ports::Keeper;
 use mtn_records::{Numbered, RecordError, RosterRecord, read_roster};
 
+/// A roster as its records give it: its entries under their numbers, the roster with its marks, and how many deltas its
+/// record stands above a whole one.
+#[derive(Drop)]
+pub struct Rebuilt {
+    pub entries: Numbered,
+    pub roster: MarkedRoster,
+    pub depth: u8,
+}
+
+// A whole record and the deltas above it, and how many these are.
+#[derive(Drop)]
+struct Chain {
+    records: Vec<RosterRecord>,
+    depth: u8,
+}
+
 impl<'a, K: Keeper> DraftOver<'a, K, Pending> {
     // The roster's record at a position.
     fn rostered(&mut self, at: Pos) -> Result<RosterRecord, StoreError>
@@ -54,18 +70,18 @@ impl<'a, K: Keeper> DraftOver<'a, K, Pending> {
         }
     }
 
-    // The records from a position down to a whole one, the whole one first. None where there are more than a chain may have.
-    fn chain(&mut self, at: Pos) -> Result<Option<Vec<RosterRecord>>, StoreError>
+    // The records from a position down to a whole one. None where there are more than a chain may have.
+    fn chain(&mut self, at: Pos) -> Result<Option<Chain>, StoreError>
         ensures same_reference { self.new.keeper.ghost_name ≡ self.old.keeper.ghost_name }
         ensures stays { Stays K.contents K.leaves K.faults self.old.keeper.now self.new.keeper.now }
         ensures pending { self.new.pending ≡ self.old.pending }
-        ensures read { IfSome (K.contents self.new.keeper.now) (λ c. IfOk result (λ chain. IsChainOf (with_all c self.old.pending.batch) at (option_map (λ v. v.items) chain))) }
+        ensures read { IfSome (K.contents self.new.keeper.now) (λ c. IfOk result (λ chain. IsChainOf (with_all c self.old.pending.batch) at (option_map (λ x. (x.records.items, x.depth)) chain))) }
         ensures damaged { IfSome (K.contents self.new.keeper.now) (λ c. IfErr result (λ e. IfDamage e (UnmadeBelow (at + 1) (with_all c self.old.pending.batch)))) }
         ensures failed { result ≡ Err StoreError.Failed → Rose (K.faults self.old.keeper.now) (K.faults self.new.keeper.now) }
     {
         let mut chain = Vec::new(self.pending.alloc);
         let mut next = at;
-        for taken in 0..RECORDS {
+        for depth in 0..RECORDS {
             let record = self.rostered(next)?;
             let base = base_of(&record);
             chain.push(record)?;
@@ -73,28 +89,35 @@ impl<'a, K: Keeper> DraftOver<'a, K, Pending> {
                 Some(base) => next = base,
                 None => {
                     chain.reverse();
-                    return Ok(Some(chain));
+                    return Ok(Some(Chain {
+                        records: chain,
+                        depth,
+                    }));
                 }
             }
         }
         Ok(None)
     }
 
-    /// The entries of a revision's roster under their numbers, and the roster with its marks. It asks for at most sixteen
+    /// A revision's roster. It asks for at most sixteen
     /// records.
-    pub fn roster_at(&mut self, at: Pos) -> Result<(Numbered, MarkedRoster), StoreError>
+    pub fn roster_at(&mut self, at: Pos) -> Result<Rebuilt, StoreError>
         ensures same_reference { self.new.keeper.ghost_name ≡ self.old.keeper.ghost_name }
         ensures stays { Stays K.contents K.leaves K.faults self.old.keeper.now self.new.keeper.now }
         ensures pending { self.new.pending ≡ self.old.pending }
-        ensures rebuilt { IfSome (K.contents self.new.keeper.now) (λ c. IfOk result (λ r. IsRebuilt (with_all c self.old.pending.batch) at r.0 r.1)) }
+        ensures rebuilt { IfSome (K.contents self.new.keeper.now) (λ c. IfOk result (λ r. IsRebuilt (with_all c self.old.pending.batch) at r.entries r.roster r.depth)) }
         ensures damaged { IfSome (K.contents self.new.keeper.now) (λ c. IfErr result (λ e. IfDamage e (UnmadeBelow (at + 1) (with_all c self.old.pending.batch)))) }
         ensures failed { result ≡ Err StoreError.Failed → Rose (K.faults self.old.keeper.now) (K.faults self.new.keeper.now) }
     {
-        let Some(chain) = self.chain(at)? else {
+        let Some(Chain { records, depth }) = self.chain(at)? else {
             return Err(self.roster_held(at));
         };
-        match rebuild(self.pending.alloc, chain) {
-            Ok(made) => Ok(made),
+        match rebuild(self.pending.alloc, records) {
+            Ok((entries, roster)) => Ok(Rebuilt {
+                entries,
+                roster,
+                depth,
+            }),
             Err(RecordError::Bad) => Err(self.roster_held(at)),
             Err(RecordError::NoMemory) => Err(StoreError::NoMemory),
         }
@@ -102,7 +125,7 @@ impl<'a, K: Keeper> DraftOver<'a, K, Pending> {
 }
 
 // The most records of a chain: a whole one and the deltas above it.
-const RECORDS: usize = DEEPEST as usize + 1;
+const RECORDS: u8 = DEEPEST + 1;
 
 // What a record stands on; None for a whole one.
 fn base_of(record: &RosterRecord) -> Option<Pos>

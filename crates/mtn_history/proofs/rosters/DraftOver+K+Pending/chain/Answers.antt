@@ -10,40 +10,40 @@ use Rattle.mtn_history.proofs.RosterLemmas.{unmade, path_next, chain_whole, no_c
 use Rattle.mtn_history.proofs.rosters.DraftOver+K+Pending.chain.Goals as goal
 
 pub returns-in_err-record-clause-stays : goal.returns-in_err-record-clause-stays
-returns-in_err-record-clause-stays g c = stays_trans g.K.Keeper.contents g.K.Keeper.leaves g.K.Keeper.faults _ _ _ c.loop-taken.invariant.stays c.rostered.ensures.stays
+returns-in_err-record-clause-stays g c = stays_trans g.K.Keeper.contents g.K.Keeper.leaves g.K.Keeper.faults _ _ _ c.loop-depth.invariant.stays c.rostered.ensures.stays
 
 pub returns-in_err-record-clause-damaged : goal.returns-in_err-record-clause-damaged
 returns-in_err-record-clause-damaged g c =
     let p = err_from_is_err_and c.from_residual.result c.from_residual.ensures.1 in
-    rw (p.1, p.2) (unmade (g.K.Keeper.contents c.rostered.new.self.keeper.now) c.args.self.now.pending.batch c.args.at c.loop-taken.next c.in_err-record.field-0.0 c.loop-taken.invariant.low
-    (subst (λ (p : Pending). IfSome (g.K.Keeper.contents c.rostered.new.self.keeper.now) (λ d. IfDamage c.in_err-record.field-0.0 (UnrosteredAt (with_all d p.batch) c.loop-taken.next))) c.loop-taken.invariant.pending c.in_err-record.ensures.damaged))
+    rw (p.1, p.2) (unmade (g.K.Keeper.contents c.rostered.new.self.keeper.now) c.args.self.now.pending.batch c.args.at c.loop-depth.next c.in_err-record.field-0.0 c.loop-depth.invariant.low
+    (subst (λ (p : Pending). IfSome (g.K.Keeper.contents c.rostered.new.self.keeper.now) (λ d. IfDamage c.in_err-record.field-0.0 (UnrosteredAt (with_all d p.batch) c.loop-depth.next))) c.loop-depth.invariant.pending c.in_err-record.ensures.damaged))
 
 pub returns-in_err-push-clause-stays : goal.returns-in_err-push-clause-stays
-returns-in_err-push-clause-stays g c = stays_trans g.K.Keeper.contents g.K.Keeper.leaves g.K.Keeper.faults _ _ _ c.loop-taken.invariant.stays c.rostered.ensures.stays
+returns-in_err-push-clause-stays g c = stays_trans g.K.Keeper.contents g.K.Keeper.leaves g.K.Keeper.faults _ _ _ c.loop-depth.invariant.stays c.rostered.ensures.stays
 
 pub returns-in-None-clause-stays : goal.returns-in-None-clause-stays
-returns-in-None-clause-stays g c = stays_trans g.K.Keeper.contents g.K.Keeper.leaves g.K.Keeper.faults _ _ _ c.loop-taken.invariant.stays c.rostered.ensures.stays
+returns-in-None-clause-stays g c = stays_trans g.K.Keeper.contents g.K.Keeper.leaves g.K.Keeper.faults _ _ _ c.loop-depth.invariant.stays c.rostered.ensures.stays
 
 pub returns-in-None-clause-read : goal.returns-in-None-clause-read
 returns-in-None-clause-read g c =
-    chain_whole (g.K.Keeper.contents c.loop-taken.self.keeper.now) (g.K.Keeper.contents c.rostered.new.self.keeper.now) c.args.self.now.pending.batch c.args.at c.loop-taken.next c.loop-taken.chain.items c.push.new.self.items c.reverse.new.self.items c.in_ok-record.record
-    c.rostered.ensures.stays.same c.loop-taken.invariant.path
-    (subst (λ (p : Pending). IfSome (g.K.Keeper.contents c.rostered.new.self.keeper.now) (λ d. IsRostered (with_all d p.batch) c.loop-taken.next c.in_ok-record.record)) c.loop-taken.invariant.pending c.in_ok-record.ensures.read)
+    chain_whole (g.K.Keeper.contents c.loop-depth.self.keeper.now) (g.K.Keeper.contents c.rostered.new.self.keeper.now) c.args.self.now.pending.batch c.args.at c.loop-depth.next c.loop-depth.chain.items c.push.new.self.items c.reverse.new.self.items c.in_ok-record.record c.loop-depth.depth c.loop-depth.invariant.long
+    c.rostered.ensures.stays.same c.loop-depth.invariant.path
+    (subst (λ (p : Pending). IfSome (g.K.Keeper.contents c.rostered.new.self.keeper.now) (λ d. IsRostered (with_all d p.batch) c.loop-depth.next c.in_ok-record.record)) c.loop-depth.invariant.pending c.in_ok-record.ensures.read)
     (sym c.base_of-base.ensures ∙ c.in-None.is) c.in_ok-push.ensures.items c.reverse.ensures.items
 
-pub loop-taken-preserved : goal.loop-taken-preserved
-loop-taken-preserved g c = record {
-  same_reference = c.rostered.ensures.same_reference ∙ c.loop-taken.invariant.same_reference;
-  stays = stays_trans g.K.Keeper.contents g.K.Keeper.leaves g.K.Keeper.faults _ _ _ c.loop-taken.invariant.stays c.rostered.ensures.stays;
-  pending = c.rostered.ensures.pending ∙ c.loop-taken.invariant.pending;
-  long = one_more_record c.loop-taken.chain.items c.push.new.self.items c.in_ok-record.record c.loop-taken.taken c.loop-taken.invariant.long c.in_ok-push.ensures.items;
-  low = stays_low c.in_ok-record.record c.args.at c.loop-taken.next c.in-Some.base (sym c.base_of-base.ensures ∙ c.in-Some.is) c.in_ok-record.ensures.below c.loop-taken.invariant.low;
-  path = path_next (g.K.Keeper.contents c.loop-taken.self.keeper.now) (g.K.Keeper.contents c.rostered.new.self.keeper.now) c.args.self.now.pending.batch c.args.at c.loop-taken.next c.in-Some.base c.loop-taken.chain.items c.push.new.self.items c.in_ok-record.record
-      c.rostered.ensures.stays.same c.loop-taken.invariant.path
-      (subst (λ (p : Pending). IfSome (g.K.Keeper.contents c.rostered.new.self.keeper.now) (λ d. IsRostered (with_all d p.batch) c.loop-taken.next c.in_ok-record.record)) c.loop-taken.invariant.pending c.in_ok-record.ensures.read)
+pub loop-depth-preserved : goal.loop-depth-preserved
+loop-depth-preserved g c = record {
+  same_reference = c.rostered.ensures.same_reference ∙ c.loop-depth.invariant.same_reference;
+  stays = stays_trans g.K.Keeper.contents g.K.Keeper.leaves g.K.Keeper.faults _ _ _ c.loop-depth.invariant.stays c.rostered.ensures.stays;
+  pending = c.rostered.ensures.pending ∙ c.loop-depth.invariant.pending;
+  long = one_more_record c.loop-depth.chain.items c.push.new.self.items c.in_ok-record.record c.loop-depth.depth c.loop-depth.invariant.long c.in_ok-push.ensures.items;
+  low = stays_low c.in_ok-record.record c.args.at c.loop-depth.next c.in-Some.base (sym c.base_of-base.ensures ∙ c.in-Some.is) c.in_ok-record.ensures.below c.loop-depth.invariant.low;
+  path = path_next (g.K.Keeper.contents c.loop-depth.self.keeper.now) (g.K.Keeper.contents c.rostered.new.self.keeper.now) c.args.self.now.pending.batch c.args.at c.loop-depth.next c.in-Some.base c.loop-depth.chain.items c.push.new.self.items c.in_ok-record.record
+      c.rostered.ensures.stays.same c.loop-depth.invariant.path
+      (subst (λ (p : Pending). IfSome (g.K.Keeper.contents c.rostered.new.self.keeper.now) (λ d. IsRostered (with_all d p.batch) c.loop-depth.next c.in_ok-record.record)) c.loop-depth.invariant.pending c.in_ok-record.ensures.read)
       (sym c.base_of-base.ensures ∙ c.in-Some.is) c.in_ok-push.ensures.items;
 }
 
 pub returns-clause-read : goal.returns-clause-read
 returns-clause-read g c =
-    no_chain (g.K.Keeper.contents c.loop-taken.self.keeper.now) c.args.self.now.pending.batch c.args.at c.loop-taken.next c.loop-taken.chain.items c.loop-taken.invariant.path (omega (arith, c.loop-taken.invariant.long, c.loop-taken.auto, c.loop-taken-test.false))
+    no_chain (g.K.Keeper.contents c.loop-depth.self.keeper.now) c.args.self.now.pending.batch c.args.at c.loop-depth.next c.loop-depth.chain.items c.loop-depth.invariant.path (omega (arith, c.loop-depth.invariant.long, c.loop-depth.auto, c.loop-depth-test.false))
