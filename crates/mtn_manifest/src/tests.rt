@@ -1,6 +1,7 @@
 // The manifests of small trees, node by node.
 use super::*;
 use mtn_base::{Comp, Id, List, NodeName, Path};
+use mtn_roster::{Attr, Body};
 use std::test::Fail;
 
 fn name(alloc: Global, birth: u8) -> NodeName {
