@@ -4,3 +4,4 @@ pub mod Differing
 pub mod Walking
 pub mod ByNode
 pub mod Spelling
+pub mod Places

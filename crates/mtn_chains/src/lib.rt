@@ -18,6 +18,7 @@ mod copies;
 mod difference;
 pub mod laws;
 mod merge;
+mod noting;
 mod order;
 mod rebuilding;
 mod same;
