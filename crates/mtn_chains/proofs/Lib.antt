@@ -5,3 +5,4 @@ pub mod Walking
 pub mod ByNode
 pub mod Spelling
 pub mod Places
+pub mod Visiting

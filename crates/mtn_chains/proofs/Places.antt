@@ -39,7 +39,7 @@ marked_names ms = map (λ (m : NodeMarks). m.name) ms
 abbrev pub tree_names : List Entry → List NodeName
 tree_names t = map (λ (e : Entry). e.name) t
 
-some_is : {A : Type 0} {a b : A} → Some a ≡ Some b → a ≡ b
+pub some_is : {A : Type 0} {a b : A} → Some a ≡ Some b → a ≡ b
 some_is h = cc
 
 -- the number above 0 that stands at a place
@@ -75,7 +75,7 @@ among_was es n v h =
     ] refl h
 
 -- places of a list of names that ascend
-names_apart : (names : List NodeName) → rises name_cmp names ≡ true → (j k : ℕ) (n : NodeName) → slice_get names j ≡ Some n → slice_get names k ≡ Some n → j ≡ k
+pub names_apart : (names : List NodeName) → rises name_cmp names ≡ true → (j k : ℕ) (n : NodeName) → slice_get names j ≡ Some n → slice_get names k ≡ Some n → j ≡ k
 names_apart names up j k n at_j at_k =
     let gj = got_at names j n at_j in
     let gk = got_at names k n at_k in
@@ -136,7 +136,7 @@ map_was : {X Y : Type 0} (f : X → Y) (o : Option X) (y : Y) → option_map f o
 map_was f None y h = absurd cc
 map_was f (Some x) y h = (x, refl, some_is h)
 
-contains_got : {X : Type 0} (xs : List X) (k : ℕ) (x : X) → slice_get xs k ≡ Some x → Contains xs x
+pub contains_got : {X : Type 0} (xs : List X) (k : ℕ) (x : X) → slice_get xs k ≡ Some x → Contains xs x
 contains_got xs k x h = let g = got_at xs k x h in (k, g.0, sym g.1)
 
 pub place_is : (ms : List NodeMarks) (p : ℕ) (n : NodeName) → p < length ms → slice_get ms p ≡ find (λ (m : NodeMarks). same_name m.name n) ms → slice_get (marked_names ms) p ≡ Some n
@@ -204,7 +204,7 @@ pub back_is : (new whole : List ℕ) (n : ℕ) → length new ≡ n → take n (
 back_is new whole n h = ap (λ k. take k (new ++ drop (length new) whole)) (sym h) ∙ take-append_seam new (drop (length new) whole)
 
 -- one node more that is met
-contains_cons : {X : Type 0} (x : X) (xs : List X) (y : X) → Contains (x ∷ xs) y → (x ≡ y) ⊎ Contains xs y
+pub contains_cons : {X : Type 0} (x : X) (xs : List X) (y : X) → Contains (x ∷ xs) y → (x ≡ y) ⊎ Contains xs y
 contains_cons x xs y c = elim (split_cons x xs y (cut_of (x ∷ xs) y c)) [ inl e ↦ inl e | inr s ↦ inr (place_by xs y s) ]
 
 filtered_in : {X : Type 0} (test : X → Bool) (xs : List X) (x : X) → Contains (filter test xs) x → Contains xs x
@@ -215,7 +215,7 @@ filtered_in test (y ∷ xs) x c =
       | false ↦ λ d. Contains-append_right (y ∷ []) xs x (filtered_in test xs x d)
     ] c
 
-filter_keeps : {X : Type 0} (test : X → Bool) (xs : List X) (x : X) → Contains xs x → test x ≡ true → Contains (filter test xs) x
+pub filter_keeps : {X : Type 0} (test : X → Bool) (xs : List X) (x : X) → Contains xs x → test x ≡ true → Contains (filter test xs) x
 filter_keeps test [] x c h = c
 filter_keeps test (y ∷ xs) x c h =
     elim (test y) as (λ b. test y ≡ b → Contains (cond b (y ∷ filter test xs) (filter test xs)) x) [
@@ -223,7 +223,7 @@ filter_keeps test (y ∷ xs) x c h =
       | false ↦ λ g. elim (contains_cons y xs x c) [ inl e ↦ absurd (let q = ap test e in cc) | inr t ↦ filter_keeps test xs x t h ]
     ] refl
 
-abbrev is_name : NodeName → NodeName → Bool
+abbrev pub is_name : NodeName → NodeName → Bool
 is_name n m = same_name m n
 
 -- the place of a name
@@ -235,7 +235,7 @@ place_more n i (x ∷ ms) m =
       | false ↦ place_more n (i + 1) ms m ∙ ap (λ k. first_or (position_from (is_name n) (i + 1) ms) (cond (same_name m n) (Some k) None)) (let z : i + 1 + length ms ≡ i + suc (length ms) = omega arith in z)
     ]
 
-place_was : (n : NodeName) (i : ℕ) (ms : List NodeName) (k : ℕ) → position_from (is_name n) i ms ≡ Some k → Contains ms n
+pub place_was : (n : NodeName) (i : ℕ) (ms : List NodeName) (k : ℕ) → position_from (is_name n) i ms ≡ Some k → Contains ms n
 place_was n i [] k h = absurd cc
 place_was n i (x ∷ ms) k h =
     elim (same_name x n) as (λ b. same_name x n ≡ b → cond b (Some i) (position_from (is_name n) (i + 1) ms) ≡ Some k → Contains (x ∷ ms) n) [
@@ -243,7 +243,7 @@ place_was n i (x ∷ ms) k h =
       | false ↦ λ g q. Contains-append_right (x ∷ []) ms n (place_was n (i + 1) ms k q)
     ] refl h
 
-place_there : (n : NodeName) (i : ℕ) (ms : List NodeName) → Contains ms n → position_from (is_name n) i ms ≡ None → ⊥
+pub place_there : (n : NodeName) (i : ℕ) (ms : List NodeName) → Contains ms n → position_from (is_name n) i ms ≡ None → ⊥
 place_there n i [] c h = omega (arith, c.1)
 place_there n i (x ∷ ms) c h =
     elim (same_name x n) as (λ b. same_name x n ≡ b → cond b (Some i) (position_from (is_name n) (i + 1) ms) ≡ None → ⊥) [

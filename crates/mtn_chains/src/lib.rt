@@ -19,6 +19,7 @@ mod difference;
 pub mod laws;
 mod merge;
 mod noting;
+mod numbering;
 mod order;
 mod rebuilding;
 mod same;
@@ -28,4 +29,5 @@ mod spelled;
 
 pub use chain::DEEPEST;
 pub use difference::delta;
+pub use numbering::number;
 pub use rebuilding::rebuild;
