@@ -6,3 +6,4 @@ pub mod ByNode
 pub mod Spelling
 pub mod Places
 pub mod Visiting
+pub mod Assigning
