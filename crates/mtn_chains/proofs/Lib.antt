@@ -7,3 +7,4 @@ pub mod Spelling
 pub mod Places
 pub mod Visiting
 pub mod Assigning
+pub mod Attributes

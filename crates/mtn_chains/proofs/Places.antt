@@ -3,7 +3,7 @@ use Rattle.std.specs.Prelude.{map, find, filter, not, is_some, option_map, optio
 use Rattle.std.specs.List.{IsDistinct, position_from}
 use Rattle.std.specs.declared.cmp.Ordering.TheVariants.{Less, Equal}
 use Rattle.std.specs.Cmp.{first_so, tied_itself}
-use Rattle.std.proofs.Common.{◌≡◌, ℕ, zero, suc, ◌+◌, ◌<◌, ◌≤◌, Bool, true, false, cond, List, [], ◌∷◌, ◌++◌, length, take, drop, get_or, set, Option, Some, None, refl, sym, ◌∙◌, ap, subst, arith, inl, inr, append_assoc, append-nil, length-append, get_or-set_same, get_or-set_other}
+use Rattle.std.proofs.Common.{◌≡◌, ℕ, zero, suc, ◌+◌, ◌<◌, ◌≤◌, Bool, true, false, Bor, cond, List, [], ◌∷◌, ◌++◌, length, take, drop, get_or, set, Option, Some, None, refl, sym, ◌∙◌, ap, subst, arith, inl, inr, append_assoc, append-nil, length-append, get_or-set_same, get_or-set_other}
 use Rattle.std.proofs.lemmas.Bool.{cases_lt}
 use Rattle.std.proofs.lemmas.List.{take-append-drop, take_more}
 use Rattle.std.proofs.lemmas.List.Elements.{Contains-append_left, Contains-append_right, Contains-append_cases, filter-append}
@@ -12,6 +12,8 @@ use Rattle.std.proofs.lemmas.Grind.{flat_map-append}
 use Rattle.std.proofs.lemmas.Map.Keys.{IsDistinct-from_apart}
 use Rattle.mtn_base.specs.Names.{name_cmp, path_cmp, same_name, same_path}
 use Rattle.mtn_base.specs.declared.name.NodeName.{NodeName}
+use Rattle.std.specs.Option.{option_copied}
+use Rattle.mtn_marking.specs.Marking.{MarkedTree}
 use Rattle.mtn_marking.specs.declared.node.NodeMarks.{NodeMarks}
 use Rattle.mtn_marking.proofs.Zips.{got_at, take_past}
 use Rattle.mtn_records.specs.declared.entry.NumberedEntry.{NumberedEntry}
@@ -30,7 +32,7 @@ use Rattle.mtn_roster.proofs.Sorting.{less_at, ordered-rises, in_ordered, of_ord
 use Rattle.mtn_roster.proofs.Tests.{same_name-is, same_name-self, same_path-is, same_path-self}
 use Rattle.mtn_chains.specs.Chain.{Entries, number_of}
 use Rattle.mtn_chains.specs.Numbering.{all_of, fresh, number_among, unnumbered, or_next, number_by, number_in}
-use Rattle.mtn_chains.specs.Noting.{positive, AreOne, AreNoted, AreFilled, HaveNumbers}
+use Rattle.mtn_chains.specs.Noting.{positive, AreOne, AreNoted, AreFilled, HaveNumbers, AreNumbered, IsNumberedOf}
 use Rattle.mtn_chains.proofs.Ascending.{cut_of, place_by, map_same}
 
 abbrev pub marked_names : List NodeMarks → List NodeName
@@ -327,3 +329,27 @@ fills_begin es first names ns h = record {
     known_first : (o : Option ℕ) → or_next first o None ≡ o
     known_first None = refl
     known_first (Some v) = refl
+
+-- one element more behind a list
+pub got_snoc : {X : Type 0} (xs : List X) (z : X) (k : ℕ) (e : X) → slice_get (xs ++ z ∷ []) k ≡ Some e → (slice_get xs k ≡ Some e) ⊎ ((k ≡ length xs) × (z ≡ e))
+got_snoc [] z zero e h = inr (refl, some_is h)
+got_snoc [] z (suc k) e h = absurd cc
+got_snoc (x ∷ xs) z zero e h = inl h
+got_snoc (x ∷ xs) z (suc k) e h = elim (got_snoc xs z k e h) [ inl g ↦ inl g | inr g ↦ inr (ap suc g.0, g.1) ]
+
+pub numbered_more : (t : MarkedTree) (ns : List ℕ) (es es' : Entries) (place : ℕ) (n : Entry) (m : NodeMarks) (e : NumberedEntry) → length es ≡ place → AreNumbered t ns es → slice_get t.tree place ≡ Some n →
+    slice_get t.marks place ≡ Some m → IsNumberedOf t.tree ns (get_or ns place 0) n m e → es' ≡ es ++ e ∷ [] → AreNumbered t ns es'
+numbered_more t ns es es' place n m e long before at_n at_m told more = record { each = λ k x y z at_x at_y at_z.
+    elim (got_snoc es e k z (ap (λ l. slice_get l k) (sym more) ∙ at_z)) [
+      | inl old ↦ before.each k x y z at_x at_y old
+      | inr new ↦
+          let here : k ≡ place = new.0 ∙ long in
+          let sx : n ≡ x = some_is (sym at_n ∙ ap (slice_get t.tree) (sym here) ∙ at_x) in
+          let sy : m ≡ y = some_is (sym at_m ∙ ap (slice_get t.marks) (sym here) ∙ at_y) in
+          subst (λ i. IsNumberedOf t.tree ns (get_or ns i 0) x y z) (sym here)
+          (subst (λ w. IsNumberedOf t.tree ns (get_or ns place 0) w y z) sx (subst (λ w. IsNumberedOf t.tree ns (get_or ns place 0) n w z) sy (subst (IsNumberedOf t.tree ns (get_or ns place 0) n m) new.1 told)))
+    ] }
+
+pub some_lent : {X : Type 0} (o : Option (Bor X)) (x : X) → option_copied o ≡ Some x → is_some o ≡ true
+some_lent None x h = absurd cc
+some_lent (Some b) x h = refl

@@ -161,7 +161,7 @@ pub fn number(
     let numbers = numbers_of(alloc, roster, known, next)?;
     let _sane = roster.roster().len();
     let mut entries = numbered_entries(alloc, roster, &numbers)?;
-    entries.sort_by_key(|entry| entry.number)?;
+    entries.sort_by(|first, second| first.number.cmp(&second.number))?;
     Ok(Numbered {
         entries: List::from_vec(entries),
     })
