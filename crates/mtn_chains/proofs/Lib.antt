@@ -4,3 +4,7 @@ pub mod Differing
 pub mod Walking
 pub mod ByNode
 pub mod Spelling
+pub mod Places
+pub mod Visiting
+pub mod Assigning
+pub mod Attributes

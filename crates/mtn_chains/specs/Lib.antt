@@ -3,3 +3,4 @@ pub mod Spelled
 pub mod Difference
 pub mod Numbering
 pub mod Parts
+pub mod Noting

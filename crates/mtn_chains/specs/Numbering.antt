@@ -1,5 +1,5 @@
 -- The numbers that the nodes of a marked tree get.
-use Rattle.std.specs.Prelude.{◌≡◌, ℕ, ◌+◌, ◌<◌, not, Bool, List, map, find, filter, Option, Some, None, is_some, option_map, Contains}
+use Rattle.std.specs.Prelude.{◌≡◌, ℕ, ◌+◌, ◌<◌, not, List, map, find, filter, Option, Some, None, is_some, option_map, Contains}
 use Rattle.std.specs.List.{AllByRecursion, flat_map, position_from}
 use Rattle.mtn_base.specs.Names.{same_name}
 use Rattle.mtn_base.specs.declared.name.NodeName.{NodeName}
@@ -15,21 +15,30 @@ use Rattle.mtn_chains.specs.Spelled.{Spells}
 abbrev pub all_of : List Entries → Entries
 all_of known = flat_map (λ es. es) known
 
--- the number that a node has already
-abbrev pub known_number : List Entries → NodeName → Option ℕ
-known_number known n = option_map number_of (find (λ e. same_name e.node n) (all_of known))
+-- the number that a node has among some entries
+abbrev pub number_among : Entries → NodeName → Option ℕ
+number_among es n = option_map number_of (find (λ e. same_name e.node n) es)
 
--- the nodes without a number, as the walk meets them: depth first, parents first, children in byte order
+-- the nodes that have none there
+abbrev pub unnumbered : Entries → List NodeName → List NodeName
+unnumbered es ns = filter (λ n. not (is_some (number_among es n))) ns
+
+-- the nodes of a tree without a number, as the walk meets them: depth first, parents first, children in byte order
 abbrev pub fresh : List Entries → Tree → List NodeName
-fresh known t = filter (λ n. not (is_some (known_number known n))) (map (λ (e : Entry). e.name) (by_path t))
+fresh known t = unnumbered (all_of known) (map (λ (e : Entry). e.name) (by_path t))
 
--- the number of a node of the tree: its own, or the next ones as the walk meets them
+-- a number that is there, or that of a place among the next ones
 abbrev pub or_next : ℕ → Option ℕ → Option ℕ → Option ℕ
 or_next next (Some n) place = Some n
 or_next next None place = option_map (λ k. next + k) place
 
+-- the number of a node: its own among some entries, or the next by its place in a list
+abbrev pub number_by : ℕ → Entries → List NodeName → NodeName → Option ℕ
+number_by next es met n = or_next next (number_among es n) (position_from (λ m. same_name m n) 0 met)
+
+-- the number of a node of the tree
 abbrev pub number_in : List Entries → ℕ → Tree → NodeName → Option ℕ
-number_in known next t n = or_next next (known_number known n) (position_from (λ m. same_name m n) 0 (fresh known t))
+number_in known next t n = number_by next (all_of known) (fresh known t) n
 
 -- Known numbers are from 1 and below the next, one for each node, and no two nodes have one
 pub record AreKnown (known : List Entries) (next : ℕ) : Type 0 where

@@ -18,6 +18,8 @@ mod copies;
 mod difference;
 pub mod laws;
 mod merge;
+mod noting;
+mod numbering;
 mod order;
 mod rebuilding;
 mod same;
@@ -27,4 +29,5 @@ mod spelled;
 
 pub use chain::DEEPEST;
 pub use difference::delta;
+pub use numbering::number;
 pub use rebuilding::rebuild;
