@@ -8,3 +8,4 @@ pub mod Places
 pub mod Visiting
 pub mod Assigning
 pub mod Attributes
+pub mod Known
