@@ -10,3 +10,4 @@ pub mod Zips
 pub mod Historic
 pub mod Fitting
 pub mod Exact
+pub mod Staying
