@@ -47,7 +47,7 @@ IsBasis h _ _ = ⊥
 pub record Underlies (h : List Revision) (edges : List Edge) (basis : Basis) (new : Id) : Type 0 where
   pub grown : IsGrown h
   pub fresh : place_of h new ≡ None
-  pub basis : IsBasis h edges basis
+  pub parents : IsBasis h edges basis
 
 -- the first change that fails, and else the least path at which two trees can not be joined
 abbrev pub edges_refusal : List Revision → Id → List Edge → Option Cause

@@ -19,12 +19,12 @@ mod contents;
 mod edges;
 mod error;
 mod limits;
-mod make;
-mod mark;
+mod making;
+mod marked;
 
 pub use basis::{Basis, Uncommon};
 pub use contents::new_content;
 pub use error::MakeError;
 pub use limits::{MAX_NODES, MAX_PATH};
-pub use make::make;
-pub use mark::mark;
+pub use making::make;
+pub use marked::mark;

@@ -7,10 +7,9 @@ ghost use Rattle.mtn_making.specs.Basis.{Underlies, IsCauseOf, edges_refusal, ma
 
 use crate::edges::{edge_tree, joined_tree};
 use crate::limits::within_limits;
-use crate::{Basis, MakeError, Uncommon};
+use crate::{Basis, MakeError};
 use mtn_base::Id;
 use mtn_changes::Edge;
-use mtn_marking::MarkedRoster;
 use mtn_roster::Roster;
 use std::alloc::Global;
 
