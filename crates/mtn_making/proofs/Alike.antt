@@ -1,5 +1,5 @@
 -- The fault of joining by what the sets of uncommon ancestors tell is that by the ancestors of both parents.
-use Rattle.std.specs.Prelude.{IsTrue, Contains, ◌&&◌, ◌||◌, not, if◌then◌else◌, map, filter_map, reverse, option_map, option_and_then}
+use Rattle.std.specs.Prelude.{IsTrue, ◌&&◌, ◌||◌, not, if◌then◌else◌, map, filter_map, reverse, option_map, option_and_then}
 use Rattle.std.specs.BTreeSet.{contains}
 use Rattle.std.specs.Option.{option_map_or}
 use Rattle.std.specs.FinMap.Entries.{by_order}
@@ -10,9 +10,9 @@ use Rattle.mtn_base.specs.declared.name.NodeName.{NodeName}
 use Rattle.mtn_ancestry.specs.Ancestors.{IsAncestor}
 use Rattle.mtn_changes.specs.declared.change.Change.{Change}
 use Rattle.mtn_edits.specs.Changes.{first_fault, tree_after}
-use Rattle.mtn_edits.specs.Joining.{JoinWhy, is_old, disagree, is_revived, join_why, fault_at, least, join_fault}
+use Rattle.mtn_edits.specs.Joining.{JoinWhy, is_old, disagree, join_why, fault_at, least, join_fault}
 use Rattle.mtn_edits.specs.Joining.JoinWhy.{Disagree, Revived}
-use Rattle.mtn_edits.specs.Laws.{RenamesDiffer, NoneBornIn, Descends, CommonAreKnown}
+use Rattle.mtn_edits.specs.Laws.{RenamesDiffer, NoneBornIn}
 use Rattle.mtn_edits.proofs.AfterSane.{after_is_sane}
 use Rattle.mtn_edits.proofs.Stepping.{after_descends}
 use Rattle.mtn_growth.specs.History.{Revision, parents_at, tree_at, IsPlaceOf, IsGrown, TellsAncestors}

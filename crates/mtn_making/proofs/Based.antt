@@ -1,8 +1,8 @@
 -- What the steps answer, over the history below.
-use Rattle.std.specs.Prelude.{option_map, option_and_then, is_none, find, filter_map}
+use Rattle.std.specs.Prelude.{option_map, option_and_then, is_none, find}
 use Rattle.std.specs.Option.{option_map_or}
 use Rattle.std.specs.List.{cons_option}
-use Rattle.std.proofs.Common.{◌≡◌, ℕ, ◌<◌, Bool, List, [], ◌∷◌, ◌++◌, length, Option, Some, None, refl, sym, ◌∙◌, ap, subst, cond}
+use Rattle.std.proofs.Common.{◌≡◌, ℕ, List, [], ◌∷◌, length, Option, Some, None, refl, sym, ◌∙◌, ap, subst, cond}
 use Rattle.mtn_base.specs.declared.id.Id.{Id}
 use Rattle.mtn_base.specs.declared.refusal.Cause.{Cause}
 use Rattle.mtn_base.specs.declared.refusal.Cause.TheVariants.{UnknownParent}
@@ -16,21 +16,21 @@ use Rattle.mtn_edits.specs.Joining.{join_fault, joined}
 use Rattle.mtn_edits.specs.Laws.{RenamesDiffer, NoneBornIn, CommonAreKnown}
 use Rattle.mtn_edits.proofs.Renaming.{renames_differ}
 use Rattle.mtn_edits.proofs.Stepping.{unborn_at}
-use Rattle.mtn_growth.specs.History.{Revision, parents_at, tree_at, IsGrown, IsStep}
+use Rattle.mtn_growth.specs.History.{Revision, tree_at, IsGrown}
 use Rattle.mtn_growth.proofs.Growing.{grown_more}
 use Rattle.mtn_join.specs.Join.{is_outside}
-use Rattle.mtn_log.specs.Making.{place_of, is_above, parent_tree, edge_tree, made_tree, parents_of, made, unknown_parent, change_fault, bad_change, join_cause, bad_join, too_many, too_long}
-use Rattle.mtn_log.proofs.Places.{no_place, place_within}
+use Rattle.mtn_log.specs.Making.{place_of, is_above, parent_tree, edge_tree, made_tree, parents_of, made, unknown_parent, change_fault, bad_change, join_cause, bad_join}
+use Rattle.mtn_log.proofs.Places.{no_place}
 use Rattle.mtn_log.proofs.Steps.{both_none, accepted_steps}
-use Rattle.mtn_marking.specs.Graph.{IsMarkedAt, Extends}
+use Rattle.mtn_marking.specs.Graph.{Extends}
 use Rattle.mtn_marking.specs.Marking.{MarkedTree}
 use Rattle.mtn_roster.specs.Tree.{Tree, IsSane}
-use Rattle.mtn_making.specs.Basis.{IsParentAt, AreUncommonIn, AreTwoParents, IsBasis, Underlies, edges_refusal, made_refusal, IsCauseOf}
+use Rattle.mtn_making.specs.Basis.{IsParentAt, AreTwoParents, edges_refusal, made_refusal, IsCauseOf}
 use Rattle.mtn_making.specs.Steps.{IsEdgeError, IsJoinError}
 use Rattle.mtn_making.specs.declared.basis.Uncommon.{Uncommon}
 use Rattle.mtn_making.specs.declared.error.MakeError.{MakeError}
 use Rattle.mtn_making.specs.declared.error.MakeError.TheVariants.{Refused, Damaged, NoMemory}
-use Rattle.mtn_making.proofs.Alike.{faults_same, outside_own, test_same, made_sane, birth_above, birth_at}
+use Rattle.mtn_making.proofs.Alike.{faults_same, outside_own, test_same, birth_above, birth_at}
 
 -- changes that were read rename no path twice
 pub once : (all : List Change) → AreChanges all → RenamesDiffer all

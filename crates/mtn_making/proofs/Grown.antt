@@ -1,5 +1,5 @@
 -- The history grows by what edges make on a basis.
-use Rattle.std.proofs.Common.{◌≡◌, ℕ, List, [], ◌∷◌, length, Some, None, subst, Bor}
+use Rattle.std.proofs.Common.{◌≡◌, ℕ, List, [], ◌∷◌, length, None, subst, Bor}
 use Rattle.mtn_base.specs.declared.id.Id.{Id}
 use Rattle.mtn_changes.specs.declared.change.Edge.{Edge}
 use Rattle.mtn_changes.specs.RevisionText.{AreEdges}

@@ -1,13 +1,13 @@
 -- What the tree of the edges of a list answers, over the history below.
 use Rattle.std.specs.Prelude.{Result, Ok, Err, IfOk, IfErr, OnOk, option_and_then}
-use Rattle.std.proofs.Common.{◌≡◌, ℕ, zero, suc, ◌<◌, List, [], ◌∷◌, length, get_or, Option, Some, None, refl, sym, ◌∙◌, ap, subst, arith, Bor}
+use Rattle.std.proofs.Common.{◌≡◌, ℕ, ◌<◌, List, [], ◌∷◌, length, get_or, Option, Some, None, sym, ◌∙◌, ap, subst, arith, Bor}
 use Rattle.mtn_base.specs.declared.id.Id.{Id}
 use Rattle.mtn_changes.specs.declared.change.Edge.{Edge}
 use Rattle.mtn_changes.specs.RevisionText.{AreEdges}
 use Rattle.mtn_edits.specs.Changes.{first_fault, tree_after}
 use Rattle.mtn_edits.specs.Joining.{join_fault, joined}
 use Rattle.mtn_edits.specs.Laws.{RenamesDiffer}
-use Rattle.mtn_growth.specs.History.{Revision, tree_at}
+use Rattle.mtn_growth.specs.History.{Revision}
 use Rattle.mtn_join.specs.Join.{is_outside}
 use Rattle.mtn_log.specs.Making.{place_of, made_tree}
 use Rattle.mtn_log.proofs.Places.{place_within}

@@ -1,5 +1,5 @@
 -- Node by node: the bytes of each path from its parent's.
-use Rattle.std.proofs.Common.{◌≡◌, sym, ◌∙◌, ap, subst, arith, get_or}
+use Rattle.std.proofs.Common.{sym, ◌∙◌, ap, subst, arith, get_or}
 use Rattle.mtn_manifest.proofs.Prefixes.{copied_some}
 use Rattle.mtn_roster.specs.declared.entry.Entry.{Entry}
 use Rattle.mtn_roster.specs.declared.walk.Stop.{Stop}

@@ -1,8 +1,8 @@
 -- One edge over its parent's tree, and two edges with the joining of their trees.
-use Rattle.std.proofs.Common.{◌≡◌, List, [], ◌∷◌, sym, ◌∙◌, ap, subst, arith, refl}
+use Rattle.std.proofs.Common.{[], arith, refl}
 use Rattle.std.proofs.lemmas.Result.{err_from_is_err_and}
 use Rattle.mtn_changes.specs.declared.change.Edge.{Edge}
-use Rattle.mtn_making.proofs.Told.{ok_then, on_ok_then, err_then, one_is, two_are, once_one, once_two, root_old, parent_old, one_tree, one_none, one_cause, left_cause, right_cause, two_tree, join_cause_is, join_none_is}
+use Rattle.mtn_making.proofs.Told.{ok_then, on_ok_then, err_then, one_is, two_are, once_one, once_two, root_old, parent_old, one_tree, one_cause, left_cause, right_cause, two_tree, join_cause_is, join_none_is}
 use Rattle.mtn_making.proofs.making.tree_of_edges.Goals as goal
 
 pub edge_tree-requires : goal.edge_tree-requires
