@@ -154,8 +154,6 @@ module _ (h : List Revision) (grown : IsGrown h) (new : Id) (fresh : place_of h 
 
 -- no parent that the basis knows is unknown
 
-
-
 known : (h : List Revision) (parent : Option Id) (p : ℕ) (rest : List Id) → option_and_then (place_of h) parent ≡ Some p → find (λ id. is_none (place_of h id)) rest ≡ None → find (λ id. is_none (place_of h id)) (cons_option parent rest) ≡ None
 known h None p rest at none = none
 known h (Some id) p rest at none = ap (λ o. cond (is_none o) (Some id) (find (λ id. is_none (place_of h id)) rest)) at ∙ none

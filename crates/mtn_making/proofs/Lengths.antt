@@ -144,8 +144,7 @@ module _ (t : Tree) (sane : IsSane t) (stops : List Stop) (are : AreStops t stop
   summed_more e lengths lengths' length at sum is near more =
       let own : length ≡ slashed (path_of t e) = is ∙ at.has.bytes in
       let no_more : is_long (path_of t e) ≡ false = is_not_long (path_of t e) (subst (λ n. n ≤ 4097) own near) in
-      let next : suc i ≡ i + 1 = omega arith in
-      (
+      let next : suc i ≡ i + 1 = omega arith in (
         met_more t (λ (e : Entry). slashed (path_of t e)) i e lengths lengths' length at.node own sum.0 more,
         subst (λ n. find is_long (map (path_of t) (take n (by_path t))) ≡ None) next (none_more is_long (path_of t) (by_path t) i e at.node sum.1 no_more),
         subst AreShort (sym more) (short_more lengths length sum.2 near),

@@ -33,10 +33,12 @@ pub fn edge_tree(
     }
     match apply(alloc, old, &edge.changes, new) {
         Ok(roster) => Ok(roster),
-        Err(ApplyError::BadChange {
-            number: change,
-            why,
-        }) => Err(MakeError::Refused(Cause::BadChange {
+        Err(
+            ApplyError::BadChange {
+                number: change,
+                why,
+            },
+        ) => Err(MakeError::Refused(Cause::BadChange {
             edge: number,
             number: change,
             why,

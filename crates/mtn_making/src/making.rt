@@ -14,12 +14,7 @@ use mtn_roster::Roster;
 use std::alloc::Global;
 
 /// The tree of the edges, whatever it has.
-fn tree_of_edges(
-    alloc: Global,
-    edges: &[Edge],
-    basis: &Basis,
-    new: Id,
-) -> Result<Roster, MakeError>
+fn tree_of_edges(alloc: Global, edges: &[Edge], basis: &Basis, new: Id) -> Result<Roster, MakeError>
     requires { AreEdges edges.now }
     ensures tree { IfOk result (λ roster. (h : Seq Revision) → Underlies h edges.now basis.now new → roster ≡ made_tree h new edges.now) }
     ensures fine { OnOk result ((h : Seq Revision) → Underlies h edges.now basis.now new → edges_refusal h new edges.now ≡ None) }
@@ -52,12 +47,7 @@ fn tree_of_edges(
 
 /// The tree that the edges of a revision make, within its limits, or the first refusal. `new` is the revision's
 /// id. It costs the applying of each edge, the joining of two trees, and one walk.
-pub fn make(
-    alloc: Global,
-    edges: &[Edge],
-    basis: &Basis,
-    new: Id,
-) -> Result<Roster, MakeError>
+pub fn make(alloc: Global, edges: &[Edge], basis: &Basis, new: Id) -> Result<Roster, MakeError>
     requires { AreEdges edges.now }
     ensures tree { IfOk result (λ roster. (h : Seq Revision) → Underlies h edges.now basis.now new → roster ≡ made_tree h new edges.now) }
     ensures fine { OnOk result ((h : Seq Revision) → Underlies h edges.now basis.now new → made_refusal h new edges.now ≡ None) }

@@ -45,12 +45,7 @@ fn marks_of(alloc: Global, roster: &Roster, basis: &Basis, at: Pos) -> Result<Ma
 
 /// The tree that [`make`](crate::make) gave, with the marks of the whole history and the new revision, which
 /// stands at `at`. It costs one walk, with a search by halves in each parent for each node.
-pub fn mark(
-    alloc: Global,
-    roster: Roster,
-    basis: &Basis,
-    at: Pos,
-) -> Result<MarkedRoster, NoMemory>
+pub fn mark(alloc: Global, roster: Roster, basis: &Basis, at: Pos) -> Result<MarkedRoster, NoMemory>
     ensures tree { IfOk result (λ t. t.tree ≡ roster) }
     ensures marks { IfOk result (λ t. (h : Seq Revision) (edges : Seq Edge) (new : Id) → Underlies h edges basis.now new → AreEdges edges →
         made_refusal h new edges ≡ None → roster ≡ made_tree h new edges → at ≡ length h →

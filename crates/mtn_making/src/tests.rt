@@ -41,12 +41,7 @@ fn made(
     birth: u8,
 ) -> Result<Result<Roster, MakeError>, Fail> {
     let revision = read_revision(alloc, text)?;
-    Ok(make(
-        alloc,
-        revision.edges.as_slice(),
-        basis,
-        Id([birth; 20]),
-    ))
+    Ok(make(alloc, revision.edges.as_slice(), basis, Id([birth; 20])))
 }
 
 // The tree of a revision with its marks; it stands one place before its number.
@@ -114,8 +109,9 @@ fn has_marks(alloc: Global, tree: &MarkedRoster, want: &[u64]) -> Result<bool, F
     let marking = tree.marks().get(&entry.name).ok_or("no marks")?;
     match &marking.content {
         None => Ok(false),
-        Some(marks) => Ok(marks.as_slice().len() == want.len()
-            && want.iter().all(|at| marks.has(Pos(*at)))),
+        Some(marks) => Ok(
+            marks.as_slice().len() == want.len() && want.iter().all(|at| marks.has(Pos(*at))),
+        ),
     }
 }
 
@@ -153,7 +149,9 @@ fn trees_are_made_and_marked_or_refused(rt: HostRuntime) -> Result<(), Fail> {
 // the last path has 3,842 bytes and those.
 fn deep(alloc: Global, last: usize) -> Result<Vec<u8>, Fail> {
     let mut text = Vec::new(alloc);
-    text.extend_from_slice(b"format_version \"1\"\n\nnew_manifest [0000000000000000000000000000000000000000]\n\nold_revision []\n\nadd_dir \"\"\n")?;
+    text.extend_from_slice(
+        b"format_version \"1\"\n\nnew_manifest [0000000000000000000000000000000000000000]\n\nold_revision []\n\nadd_dir \"\"\n",
+    )?;
     let mut path: Vec<u8> = Vec::new(alloc);
     for level in 0..17_usize {
         let length = if level < 15 {
