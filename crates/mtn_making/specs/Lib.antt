@@ -1,0 +1,3 @@
+pub mod Basis
+pub mod Steps
+pub mod Limits
