@@ -1,5 +1,5 @@
 -- Lists by ascending numbers: what tests of neighbours tell, what is found, and when two are one.
-use Rattle.std.specs.Prelude.{◌↔◌, ◌⊎◌, map, find, filter, slice_get, option_and_then, Contains, IsTrue}
+use Rattle.std.specs.Prelude.{map, find, slice_get, option_and_then, Contains}
 use Rattle.std.specs.List.{list_any, IsAllAdjacentAnswer}
 use Rattle.std.specs.List.Sorted.{IsBinarySearchResult, IsSearchInRange}
 use Rattle.std.specs.Result.{result_ok, is_ok}
@@ -8,8 +8,8 @@ use Rattle.std.specs.declared.cmp.Ordering.{Ordering}
 use Rattle.std.specs.declared.cmp.Ordering.TheVariants.{Less, Equal, Greater}
 use Rattle.std.specs.Ordering.{is_lt, nat_cmp}
 use Rattle.std.specs.Cmp.{IsTotalOrder, nat_cmp_total}
-use Rattle.std.proofs.Common.{◌≡◌, ℕ, zero, suc, ◌+◌, ◌<◌, ◌==◌, Bool, true, false, cond, nat_eq, nat_lt, List, [], ◌∷◌, length, get_or, Option, Some, None, Result, Ok, Err, refl, sym, ◌∙◌, ap, subst, arith}
-use Rattle.std.proofs.lemmas.Bool.{eqb-true, eq-eqb, ltb-true, lt-ltb}
+use Rattle.std.proofs.Common.{◌≡◌, ℕ, ◌+◌, ◌<◌, ◌==◌, Bool, true, false, cond, nat_eq, nat_lt, List, [], ◌∷◌, length, get_or, Some, Result, Ok, Err, refl, sym, ◌∙◌, ap, subst, arith}
+use Rattle.std.proofs.lemmas.Bool.{eqb-true, eq-eqb}
 use Rattle.mtn_marking.proofs.Keyed.{found_there, halved}
 use Rattle.mtn_records.specs.declared.entry.NumberedEntry.{NumberedEntry}
 use Rattle.mtn_roster.specs.Tree.{rises}

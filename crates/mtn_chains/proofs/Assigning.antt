@@ -1,13 +1,12 @@
 -- Entries under numbers spell their marked tree.
-use Rattle.std.specs.Prelude.{map, find, option_map, slice_get, Contains, IsTrue}
-use Rattle.std.specs.List.{AllByRecursion, AllZip, AllAdjacentBelow, IsDistinct, position_from}
+use Rattle.std.specs.Prelude.{map, option_map, slice_get, Contains}
+use Rattle.std.specs.List.{AllByRecursion, AllZip, IsDistinct, position_from}
 use Rattle.std.specs.List.Sorted.{IsPermutation, IsSortedBy}
 use Rattle.std.specs.FinMap.{nat_cmp-IsAntisymmetric}
 use Rattle.std.specs.declared.cmp.Ordering.TheVariants.{Less, Equal, Greater}
 use Rattle.std.specs.Ordering.{is_lt, nat_cmp, ordering_reverse}
-use Rattle.std.specs.Cmp.{first_so, nat_cmp_total, tied_itself}
-use Rattle.std.proofs.Common.{◌≡◌, ℕ, zero, suc, ◌+◌, ◌<◌, ◌≤◌, Bool, true, false, cond, List, [], ◌∷◌, ◌++◌, length, get_or, Option, Some, None, refl, sym, ◌∙◌, ap, subst, arith, inl, inr}
-use Rattle.std.proofs.lemmas.Bool.{cases_lt}
+use Rattle.std.specs.Cmp.{first_so, nat_cmp_total}
+use Rattle.std.proofs.Common.{◌≡◌, ℕ, suc, ◌+◌, ◌<◌, ◌≤◌, Bool, true, false, cond, List, [], ◌∷◌, length, get_or, Option, Some, None, refl, sym, ◌∙◌, ap, subst, arith}
 use Rattle.std.proofs.lemmas.List.Elements.{Contains-append_right}
 use Rattle.std.proofs.lemmas.List.Sorted.{IsPermutation-sym, Contains-permutation}
 use Rattle.std.proofs.lemmas.Map.Keys.{apart_from_distinct, IsDistinct-IsPermutation}
@@ -21,21 +20,21 @@ use Rattle.mtn_records.specs.declared.entry.NumberedEntry.{NumberedEntry}
 use Rattle.mtn_roster.specs.declared.entry.Entry.{Entry}
 use Rattle.mtn_roster.specs.declared.entry.Slot.{Slot}
 use Rattle.mtn_roster.specs.declared.entry.Slot.TheVariants.{Root, Below}
-use Rattle.mtn_roster.specs.Tree.{Tree, rises, ordered, entry_of, IsSane}
+use Rattle.mtn_roster.specs.Tree.{Tree, rises, entry_of, IsSane}
 use Rattle.mtn_roster.proofs.Finding.{found}
 use Rattle.mtn_roster.proofs.Looking.{names_total, exact_names}
 use Rattle.mtn_roster.proofs.Members.{any_default, taken}
 use Rattle.mtn_roster.proofs.Ordered.{distinct_of}
-use Rattle.mtn_roster.proofs.Sorting.{less_at, rising_by, rising_differ, sorted_is}
+use Rattle.mtn_roster.proofs.Sorting.{rising_by, rising_differ, sorted_is}
 use Rattle.mtn_roster.proofs.Tests.{same_name-is, same_name-self}
 use Rattle.mtn_chains.specs.Chain.{Entries, ascend, entry_at, number_of}
-use Rattle.mtn_chains.specs.Spelled.{IsSlotOf, IsEntryOf, Spells, by_node, marks_of, node_of}
+use Rattle.mtn_chains.specs.Spelled.{IsSlotOf, IsEntryOf, by_node, marks_of, node_of}
 use Rattle.mtn_chains.specs.Numbering.{all_of, fresh, number_among, number_in, or_next, AreKnown, IsNumbering}
 use Rattle.mtn_chains.specs.Noting.{HaveNumbers, AreNumbered, IsNumberedOf, IsNumberedSlot}
 use Rattle.mtn_chains.proofs.Ascending.{cut_of, place_by}
 use Rattle.mtn_chains.proofs.ByNode.{one_node}
 use Rattle.mtn_chains.proofs.Differing.{entry_is}
-use Rattle.mtn_chains.proofs.Places.{among_was, contains_cons, contains_got, get_map, is_name, place_was, some_is, tree_names}
+use Rattle.mtn_chains.proofs.Places.{among_was, contains_got, is_name, some_is, tree_names}
 
 -- sorted numbers that differ ascend
 module _ {X : Type 0} (key : X → ℕ) where

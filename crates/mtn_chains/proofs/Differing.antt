@@ -1,9 +1,8 @@
 -- A chain with a difference behind it.
-use Rattle.std.specs.Prelude.{◌&&◌, ◌⊎◌, map, not, nat_lt, is_some, option_and_then, Contains}
+use Rattle.std.specs.Prelude.{◌&&◌, not, nat_lt, is_some, option_and_then, Contains}
 use Rattle.std.specs.List.{list_all, list_any}
 use Rattle.std.specs.Ordering.{nat_cmp}
-use Rattle.std.specs.Cmp.{first_so, second_so}
-use Rattle.std.proofs.Common.{◌≡◌, ℕ, zero, suc, ◌+◌, ◌≤◌, ◌==◌, Bool, true, false, cond, List, [], ◌∷◌, ◌++◌, length, Option, Some, None, refl, sym, ◌∙◌, ap, subst, arith, inl, inr}
+use Rattle.std.proofs.Common.{◌≡◌, ℕ, suc, ◌+◌, ◌≤◌, ◌==◌, Bool, true, false, cond, List, [], ◌∷◌, ◌++◌, length, Option, Some, None, refl, sym, ◌∙◌, ap, subst, arith, inl, inr}
 use Rattle.std.proofs.lemmas.Bool.{le-ltb}
 use Rattle.mtn_records.specs.declared.entry.NumberedEntry.{NumberedEntry}
 use Rattle.mtn_records.specs.declared.record.RosterRecord.{RosterRecord}
@@ -12,7 +11,7 @@ use Rattle.mtn_roster.specs.Tree.{rises}
 use Rattle.mtn_roster.proofs.Finding.{Split, found}
 use Rattle.mtn_roster.proofs.Members.{head}
 use Rattle.mtn_roster.proofs.Tests.{both_true}
-use Rattle.mtn_chains.specs.Chain.{Entries, ascend, entry_at, is_there, number_of, with_all, without, applied, deepest, after_record, after_all, rebuilt}
+use Rattle.mtn_chains.specs.Chain.{Entries, ascend, entry_at, is_there, with_all, without, applied, deepest, after_record, after_all, rebuilt}
 use Rattle.mtn_chains.specs.Difference.{IsDifference}
 use Rattle.mtn_chains.specs.Parts.{GoesOn}
 use Rattle.mtn_chains.proofs.Ascending.{same_number-is, same_number-self, own_number, one_by_number, is_one, one_is, cut_of, place_by}

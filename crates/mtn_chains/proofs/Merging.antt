@@ -1,9 +1,8 @@
 -- Two lists by ascending numbers put together, from their first entries on.
-use Rattle.std.specs.Prelude.{◌&&◌, map, find, filter, not}
+use Rattle.std.specs.Prelude.{map, filter, not}
 use Rattle.std.specs.List.{list_all, list_any}
 use Rattle.std.specs.FinMap.{nat_cmp-IsAntisymmetric}
 use Rattle.std.specs.FinMap.Entries.{by_order}
-use Rattle.std.specs.declared.cmp.Ordering.{Ordering}
 use Rattle.std.specs.declared.cmp.Ordering.TheVariants.{Less, Equal, Greater}
 use Rattle.std.specs.Ordering.{is_lt, nat_cmp, ordering_reverse}
 use Rattle.std.specs.Cmp.{first_so, second_so, nat_cmp_total}
@@ -11,13 +10,13 @@ use Rattle.std.specs.Option.{MatchOption, option_to_list}
 use Rattle.std.proofs.Common.{◌≡◌, ℕ, ◌==◌, Bool, true, false, cond, nat_eq, nat_lt, List, [], ◌∷◌, ◌++◌, length, drop, get_or, Option, Some, None, refl, sym, ◌∙◌, ap, subst, append_assoc, arith}
 use Rattle.std.proofs.lemmas.Bool.{ltb-false}
 use Rattle.mtn_records.specs.declared.entry.NumberedEntry.{NumberedEntry}
-use Rattle.mtn_roster.specs.Tree.{rises, placed}
+use Rattle.mtn_roster.specs.Tree.{placed}
 use Rattle.mtn_roster.proofs.Looking.{find-placed}
 use Rattle.mtn_roster.proofs.Sorting.{lt_was, rises_placed}
 use Rattle.mtn_roster.proofs.Tests.{both_true}
 use Rattle.mtn_chains.specs.Chain.{Entries, ascend, entry_at, number_of, with_all, without}
 use Rattle.mtn_chains.specs.Parts.{GivesNext, MergesTo}
-use Rattle.mtn_chains.proofs.Ascending.{same_number-is, same_number-self}
+use Rattle.mtn_chains.proofs.Ascending.{same_number-is}
 
 abbrev put : NumberedEntry → Entries → Entries
 put = placed nat_cmp number_of

@@ -1,16 +1,15 @@
 -- Numbers by places.
-use Rattle.std.specs.Prelude.{map, find, filter, not, is_some, option_map, option_and_then, slice_get, Contains, ◌⊎◌}
-use Rattle.std.specs.List.{IsDistinct, position_from}
-use Rattle.std.specs.declared.cmp.Ordering.TheVariants.{Less, Equal}
-use Rattle.std.specs.Cmp.{first_so, tied_itself}
+use Rattle.std.specs.Prelude.{map, find, filter, not, is_some, option_map, slice_get, Contains, ◌⊎◌}
+use Rattle.std.specs.List.{position_from}
+use Rattle.std.specs.declared.cmp.Ordering.TheVariants.{Less}
+use Rattle.std.specs.Cmp.{tied_itself}
 use Rattle.std.proofs.Common.{◌≡◌, ℕ, zero, suc, ◌+◌, ◌<◌, ◌≤◌, Bool, true, false, Bor, cond, List, [], ◌∷◌, ◌++◌, length, take, drop, get_or, set, Option, Some, None, refl, sym, ◌∙◌, ap, subst, arith, inl, inr, append_assoc, append-nil, length-append, get_or-set_same, get_or-set_other}
 use Rattle.std.proofs.lemmas.Bool.{cases_lt}
 use Rattle.std.proofs.lemmas.List.{take-append-drop, take_more}
 use Rattle.std.proofs.lemmas.List.Elements.{Contains-append_left, Contains-append_right, Contains-append_cases, filter-append}
 use Rattle.std.proofs.Math.Seq.{take-append_seam}
 use Rattle.std.proofs.lemmas.Grind.{flat_map-append}
-use Rattle.std.proofs.lemmas.Map.Keys.{IsDistinct-from_apart}
-use Rattle.mtn_base.specs.Names.{name_cmp, path_cmp, same_name, same_path}
+use Rattle.mtn_base.specs.Names.{name_cmp, same_name}
 use Rattle.mtn_base.specs.declared.name.NodeName.{NodeName}
 use Rattle.std.specs.Option.{option_copied}
 use Rattle.mtn_marking.specs.Marking.{MarkedTree}
@@ -18,21 +17,15 @@ use Rattle.mtn_marking.specs.declared.node.NodeMarks.{NodeMarks}
 use Rattle.mtn_marking.proofs.Zips.{got_at, take_past}
 use Rattle.mtn_records.specs.declared.entry.NumberedEntry.{NumberedEntry}
 use Rattle.mtn_roster.specs.declared.entry.Entry.{Entry}
-use Rattle.mtn_roster.specs.Tree.{Tree, rises, entry_of, node_at, path_of, IsSane}
-use Rattle.mtn_roster.specs.Walk.{by_path}
-use Rattle.mtn_roster.proofs.Finding.{Split, found, finds_some}
-use Rattle.mtn_roster.proofs.Forest.{same_some}
+use Rattle.mtn_roster.specs.Tree.{rises}
+use Rattle.mtn_roster.proofs.Finding.{found, finds_some}
 use Rattle.mtn_roster.proofs.Looking.{names_total}
 use Rattle.mtn_roster.proofs.Members.{taken, split_cons}
-use Rattle.mtn_roster.proofs.Ordered.{distinct_of, forest_of}
-use Rattle.mtn_roster.proofs.Pathing.{path_leads}
-use Rattle.mtn_roster.proofs.Paths.{exact_paths}
-use Rattle.mtn_roster.proofs.Looking.{paths_total}
-use Rattle.mtn_roster.proofs.Sorting.{less_at, ordered-rises, in_ordered, of_ordered}
-use Rattle.mtn_roster.proofs.Tests.{same_name-is, same_name-self, same_path-is, same_path-self}
+use Rattle.mtn_roster.proofs.Sorting.{less_at}
+use Rattle.mtn_roster.proofs.Tests.{same_name-is, same_name-self}
 use Rattle.mtn_chains.specs.Chain.{Entries, number_of}
-use Rattle.mtn_chains.specs.Numbering.{all_of, fresh, number_among, unnumbered, or_next, number_by, number_in}
-use Rattle.mtn_chains.specs.Noting.{positive, AreOne, AreNoted, AreFilled, HaveNumbers, AreNumbered, IsNumberedOf}
+use Rattle.mtn_chains.specs.Numbering.{all_of, number_among, unnumbered, or_next, number_by}
+use Rattle.mtn_chains.specs.Noting.{positive, AreOne, AreNoted, AreFilled, AreNumbered, IsNumberedOf}
 use Rattle.mtn_chains.proofs.Ascending.{cut_of, place_by, map_same}
 
 abbrev pub marked_names : List NodeMarks → List NodeName
@@ -95,18 +88,20 @@ names_apart names up j k n at_j at_k =
 module _ (names : List NodeName) (up : rises name_cmp names ≡ true) where
   -- an entry's number is noted at the place of its node
   pub notes_here : (seen : Entries) (ns : List ℕ) (p : ℕ) (e : NumberedEntry) → p < length ns → slice_get names p ≡ Some e.node → AreNoted seen names ns → AreOne (seen ++ e ∷ []) → AreNoted (seen ++ e ∷ []) names (set ns p e.number)
-  notes_here seen ns p e lt at h one = record { each = λ k n is.
-      among_more seen e n ∙ elim (same_name e.node n) as (λ b. same_name e.node n ≡ b → first_or (number_among seen n) (cond b (Some e.number) None) ≡ positive (get_or (set ns p e.number) k 0)) [
-        | true ↦ λ g.
-            let same : e.node ≡ n = same_name-is e.node n g in
-            let k_is : k ≡ p = names_apart names up k p n is (at ∙ ap Some same) in
-            let last = Contains-append_right seen (e ∷ []) e (0, omega arith, refl) in
-            first_is (number_among seen n) e.number (λ v w. let f = among_was seen n v w in
-                sym f.3 ∙ one.number f.0 e (Contains-append_left seen (e ∷ []) f.0 f.1) last (f.2 ∙ sym same))
-            ∙ sym (positive_is e.number (one.above e last))
-            ∙ ap positive (sym (ap (λ i. get_or (set ns p e.number) i 0) k_is ∙ get_or-set_same ns p e.number 0 lt))
-        | false ↦ λ g. none_more (number_among seen n) ∙ h.each k n is ∙ ap positive (sym (get_or-set_other ns p k e.number 0 (λ q. let a : e.node ≡ n = some_is (sym at ∙ ap (slice_get names) (sym q) ∙ is) in let b = ap (same_name e.node) (sym a) ∙ same_name-self e.node in cc)))
-      ] refl }
+  notes_here seen ns p e lt at h one = record {
+    each = λ k n is.
+        among_more seen e n ∙ elim (same_name e.node n) as (λ b. same_name e.node n ≡ b → first_or (number_among seen n) (cond b (Some e.number) None) ≡ positive (get_or (set ns p e.number) k 0)) [
+          | true ↦ λ g.
+              let same : e.node ≡ n = same_name-is e.node n g in
+              let k_is : k ≡ p = names_apart names up k p n is (at ∙ ap Some same) in
+              let last = Contains-append_right seen (e ∷ []) e (0, omega arith, refl) in
+              first_is (number_among seen n) e.number (λ v w. let f = among_was seen n v w in
+              sym f.3 ∙ one.number f.0 e (Contains-append_left seen (e ∷ []) f.0 f.1) last (f.2 ∙ sym same))
+              ∙ sym (positive_is e.number (one.above e last))
+              ∙ ap positive (sym (ap (λ i. get_or (set ns p e.number) i 0) k_is ∙ get_or-set_same ns p e.number 0 lt))
+          | false ↦ λ g. none_more (number_among seen n) ∙ h.each k n is ∙ ap positive (sym (get_or-set_other ns p k e.number 0 (λ q. let a : e.node ≡ n = some_is (sym at ∙ ap (slice_get names) (sym q) ∙ is) in let b = ap (same_name e.node) (sym a) ∙ same_name-self e.node in cc)))
+        ] refl;
+  }
     where
       first_is : (o : Option ℕ) (m : ℕ) → ((v : ℕ) → o ≡ Some v → v ≡ m) → first_or o (Some m) ≡ Some m
       first_is None m h = refl
@@ -118,11 +113,13 @@ module _ (names : List NodeName) (up : rises name_cmp names ≡ true) where
 
   -- an entry of another tree's node changes nothing
   pub notes_none : (seen : Entries) (ns : List ℕ) (e : NumberedEntry) → ((k : ℕ) (n : NodeName) → slice_get names k ≡ Some n → e.node ≡ n → ⊥) → AreNoted seen names ns → AreNoted (seen ++ e ∷ []) names ns
-  notes_none seen ns e apart h = record { each = λ k n is.
-      among_more seen e n ∙ elim (same_name e.node n) as (λ b. same_name e.node n ≡ b → first_or (number_among seen n) (cond b (Some e.number) None) ≡ positive (get_or ns k 0)) [
-        | true ↦ λ g. absurd (apart k n is (same_name-is e.node n g))
-        | false ↦ λ g. none_more (number_among seen n) ∙ h.each k n is
-      ] refl }
+  notes_none seen ns e apart h = record {
+    each = λ k n is.
+        among_more seen e n ∙ elim (same_name e.node n) as (λ b. same_name e.node n ≡ b → first_or (number_among seen n) (cond b (Some e.number) None) ≡ positive (get_or ns k 0)) [
+          | true ↦ λ g. absurd (apart k n is (same_name-is e.node n g))
+          | false ↦ λ g. none_more (number_among seen n) ∙ h.each k n is
+        ] refl;
+  }
     where
       none_more : (o : Option ℕ) → first_or o None ≡ o
       none_more None = refl
@@ -339,16 +336,18 @@ got_snoc (x ∷ xs) z (suc k) e h = elim (got_snoc xs z k e h) [ inl g ↦ inl g
 
 pub numbered_more : (t : MarkedTree) (ns : List ℕ) (es es' : Entries) (place : ℕ) (n : Entry) (m : NodeMarks) (e : NumberedEntry) → length es ≡ place → AreNumbered t ns es → slice_get t.tree place ≡ Some n →
     slice_get t.marks place ≡ Some m → IsNumberedOf t.tree ns (get_or ns place 0) n m e → es' ≡ es ++ e ∷ [] → AreNumbered t ns es'
-numbered_more t ns es es' place n m e long before at_n at_m told more = record { each = λ k x y z at_x at_y at_z.
-    elim (got_snoc es e k z (ap (λ l. slice_get l k) (sym more) ∙ at_z)) [
-      | inl old ↦ before.each k x y z at_x at_y old
-      | inr new ↦
-          let here : k ≡ place = new.0 ∙ long in
-          let sx : n ≡ x = some_is (sym at_n ∙ ap (slice_get t.tree) (sym here) ∙ at_x) in
-          let sy : m ≡ y = some_is (sym at_m ∙ ap (slice_get t.marks) (sym here) ∙ at_y) in
-          subst (λ i. IsNumberedOf t.tree ns (get_or ns i 0) x y z) (sym here)
-          (subst (λ w. IsNumberedOf t.tree ns (get_or ns place 0) w y z) sx (subst (λ w. IsNumberedOf t.tree ns (get_or ns place 0) n w z) sy (subst (IsNumberedOf t.tree ns (get_or ns place 0) n m) new.1 told)))
-    ] }
+numbered_more t ns es es' place n m e long before at_n at_m told more = record {
+  each = λ k x y z at_x at_y at_z.
+      elim (got_snoc es e k z (ap (λ l. slice_get l k) (sym more) ∙ at_z)) [
+        | inl old ↦ before.each k x y z at_x at_y old
+        | inr new ↦
+            let here : k ≡ place = new.0 ∙ long in
+            let sx : n ≡ x = some_is (sym at_n ∙ ap (slice_get t.tree) (sym here) ∙ at_x) in
+            let sy : m ≡ y = some_is (sym at_m ∙ ap (slice_get t.marks) (sym here) ∙ at_y) in
+            subst (λ i. IsNumberedOf t.tree ns (get_or ns i 0) x y z) (sym here)
+            (subst (λ w. IsNumberedOf t.tree ns (get_or ns place 0) w y z) sx (subst (λ w. IsNumberedOf t.tree ns (get_or ns place 0) n w z) sy (subst (IsNumberedOf t.tree ns (get_or ns place 0) n m) new.1 told)))
+      ];
+}
 
 pub some_lent : {X : Type 0} (o : Option (Bor X)) (x : X) → option_copied o ≡ Some x → is_some o ≡ true
 some_lent None x h = absurd cc

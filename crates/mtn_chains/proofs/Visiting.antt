@@ -3,9 +3,9 @@ use Rattle.std.specs.Prelude.{map, is_some, not, option_map, slice_get, Contains
 use Rattle.std.specs.List.{IsDistinct, position_from}
 use Rattle.std.specs.declared.cmp.Ordering.TheVariants.{Less, Equal}
 use Rattle.std.specs.Cmp.{first_so, tied_itself}
-use Rattle.std.proofs.Common.{◌≡◌, ℕ, zero, suc, ◌+◌, ◌<◌, ◌≤◌, ◌^◌, ◌-◌, Bool, true, false, List, [], ◌∷◌, ◌++◌, length, take, drop, get_or, Option, Some, None, refl, sym, ◌∙◌, ap, subst, arith, inl, inr, length-append}
+use Rattle.std.proofs.Common.{◌≡◌, ℕ, zero, suc, ◌+◌, ◌<◌, ◌≤◌, true, false, List, [], ◌∷◌, ◌++◌, length, take, drop, get_or, Option, Some, None, refl, sym, ◌∙◌, ap, subst, arith, inl, inr, length-append}
 use Rattle.std.proofs.lemmas.List.{take-append-drop, take_more}
-use Rattle.std.proofs.lemmas.List.Elements.{Contains-append_left, Contains-append_right, filter-append}
+use Rattle.std.proofs.lemmas.List.Elements.{Contains-append_right, filter-append}
 use Rattle.std.proofs.lemmas.Map.Keys.{IsDistinct-from_apart}
 use Rattle.std.proofs.lemmas.Option.{slice_get-get_or}
 use Rattle.mtn_base.specs.Names.{name_cmp, path_cmp, same_path}
@@ -13,7 +13,6 @@ use Rattle.mtn_base.specs.declared.name.NodeName.{NodeName}
 use Rattle.mtn_marking.specs.Marking.{AreFor}
 use Rattle.mtn_marking.specs.declared.node.NodeMarks.{NodeMarks}
 use Rattle.mtn_marking.proofs.Zips.{got_at, take_past}
-use Rattle.mtn_records.specs.declared.entry.NumberedEntry.{NumberedEntry}
 use Rattle.mtn_roster.specs.declared.entry.Entry.{Entry}
 use Rattle.mtn_roster.specs.declared.walk.Stop.{Stop}
 use Rattle.mtn_roster.specs.Tree.{Tree, rises, entry_of, node_at, path_of, IsSane}
@@ -31,7 +30,7 @@ use Rattle.mtn_chains.specs.Chain.{Entries}
 use Rattle.mtn_chains.specs.Numbering.{all_of, fresh, number_among, unnumbered, or_next, number_by, number_in}
 use Rattle.mtn_chains.specs.Noting.{positive, AreFilled, HaveNumbers}
 use Rattle.mtn_chains.proofs.Ascending.{cut_of, place_by}
-use Rattle.mtn_chains.proofs.Places.{marked_names, tree_names, get_map, some_is, contains_cons, contains_got, filter_keeps, is_name, place_there, was_positive}
+use Rattle.mtn_chains.proofs.Places.{marked_names, tree_names, get_map, some_is, contains_cons, contains_got, filter_keeps, is_name, place_there}
 
 pub same_names : (t : Tree) (ms : List NodeMarks) → AreFor t ms → marked_names ms ≡ tree_names t
 same_names [] [] h = refl

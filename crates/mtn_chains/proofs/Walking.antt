@@ -1,11 +1,11 @@
 -- What differs between two lists by ascending numbers, from their first entries on.
-use Rattle.std.specs.Prelude.{◌↔◌, ◌⊎◌, map, is_some, Contains}
+use Rattle.std.specs.Prelude.{◌⊎◌, map, is_some, Contains}
 use Rattle.std.specs.List.{list_all}
 use Rattle.std.specs.FinMap.{nat_cmp-IsAntisymmetric}
 use Rattle.std.specs.declared.cmp.Ordering.TheVariants.{Less, Equal, Greater}
 use Rattle.std.specs.Ordering.{is_lt, nat_cmp, ordering_reverse}
 use Rattle.std.specs.Cmp.{nat_cmp_total, tied_itself}
-use Rattle.std.proofs.Common.{◌≡◌, ℕ, zero, suc, ◌+◌, ◌<◌, ◌≤◌, Bool, true, false, List, [], ◌∷◌, ◌++◌, ◌-◌, length, take, drop, get_or, Option, Some, None, refl, sym, ◌∙◌, ap, subst, append_assoc, arith, inl, inr}
+use Rattle.std.proofs.Common.{◌≡◌, ℕ, suc, ◌+◌, ◌<◌, ◌≤◌, true, false, List, [], ◌∷◌, ◌++◌, ◌-◌, length, take, drop, get_or, Some, None, refl, sym, ◌∙◌, ap, subst, append_assoc, arith, inl, inr}
 use Rattle.std.proofs.Math.ListN.{drop_of_length-le}
 use Rattle.std.proofs.Math.Seq.{drop-cons}
 use Rattle.std.proofs.lemmas.List.{drop-drop, length-drop}
@@ -298,7 +298,7 @@ walks_on base new gone gone' changed changed' i j a b e n li lj at_i at_j step c
     let old : drop i base ≡ e ∷ drop (suc i) base = drop-cons base i e li ∙ ap (λ x. x ∷ drop (suc i) base) (sym at_i) in
     let fresh : drop j new ≡ n ∷ drop (suc j) new = drop-cons new j n lj ∙ ap (λ x. x ∷ drop (suc j) new) (sym at_j) in
     let s = step base new (drop (suc i) base) (drop (suc j) new)
-            (subst (λ l. Continues base new gone changed l (n ∷ drop (suc j) new)) old (subst (λ l. Continues base new gone changed (drop i base) l) fresh c)) in
+    (subst (λ l. Continues base new gone changed l (n ∷ drop (suc j) new)) old (subst (λ l. Continues base new gone changed (drop i base) l) fresh c)) in
     subst (λ l. Continues base new gone' changed' l (drop (j + b) new)) (ap (drop a) (sym old) ∙ drop-drop a i base)
     (subst (λ l. Continues base new gone' changed' (drop a (e ∷ drop (suc i) base)) l) (ap (drop b) (sym fresh) ∙ drop-drop b j new) s)
 

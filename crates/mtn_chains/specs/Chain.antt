@@ -1,5 +1,5 @@
 -- What a chain of records gives: a whole record, and then deltas, each on what those before it give.
-use Rattle.std.specs.Prelude.{◌≡◌, ℕ, ◌+◌, ◌==◌, ◌&&◌, nat_lt, not, Bool, List, [], ◌∷◌, map, find, filter, Option, Some, None, is_some, option_and_then, if◌then◌else◌}
+use Rattle.std.specs.Prelude.{ℕ, ◌+◌, ◌==◌, ◌&&◌, nat_lt, not, Bool, List, [], ◌∷◌, map, find, filter, Option, Some, None, is_some, option_and_then, if◌then◌else◌}
 use Rattle.std.specs.List.{list_any, list_all}
 use Rattle.std.specs.Ordering.{nat_cmp}
 use Rattle.mtn_roster.specs.Tree.{rises, placed}

@@ -1,5 +1,5 @@
 -- What differs between two lists of entries.
-use Rattle.std.specs.Prelude.{◌≡◌, ℕ, ◌↔◌, ◌⊎◌, List, Bool, true, false, IsTrue, Contains}
+use Rattle.std.specs.Prelude.{◌≡◌, ℕ, ◌↔◌, ◌⊎◌, List, true, false, IsTrue, Contains}
 use Rattle.std.specs.Ordering.{nat_cmp}
 use Rattle.mtn_roster.specs.Tree.{rises}
 use Rattle.mtn_records.specs.declared.entry.NumberedEntry.{NumberedEntry}

@@ -1,5 +1,5 @@
 -- What the steps of numbering hand on: the numbers of nodes by their places, where 0 is none yet.
-use Rattle.std.specs.Prelude.{◌≡◌, ℕ, zero, suc, ◌+◌, ◌<◌, not, List, [], map, length, slice_get, slice_index, Option, Some, None, Contains}
+use Rattle.std.specs.Prelude.{◌≡◌, ℕ, zero, suc, ◌+◌, ◌<◌, List, [], map, length, slice_get, slice_index, Option, Some, None, Contains}
 use Rattle.mtn_base.specs.Comps.{IsComp}
 use Rattle.mtn_base.specs.declared.name.NodeName.{NodeName}
 use Rattle.mtn_marking.specs.Marking.{MarkedTree}

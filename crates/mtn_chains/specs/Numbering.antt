@@ -1,5 +1,5 @@
 -- The numbers that the nodes of a marked tree get.
-use Rattle.std.specs.Prelude.{◌≡◌, ℕ, ◌+◌, ◌<◌, not, Bool, List, map, find, filter, Option, Some, None, is_some, option_map, Contains}
+use Rattle.std.specs.Prelude.{◌≡◌, ℕ, ◌+◌, ◌<◌, not, List, map, find, filter, Option, Some, None, is_some, option_map, Contains}
 use Rattle.std.specs.List.{AllByRecursion, flat_map, position_from}
 use Rattle.mtn_base.specs.Names.{same_name}
 use Rattle.mtn_base.specs.declared.name.NodeName.{NodeName}

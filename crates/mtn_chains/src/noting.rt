@@ -51,11 +51,7 @@ fn note(numbers: &mut [u64], marks: &MarkMap, entries: &[NumberedEntry])
 }
 
 /// The numbers that nodes have already.
-fn known_numbers(
-    alloc: Global,
-    marks: &MarkMap,
-    known: &[Numbered],
-) -> Result<Vec<u64>, NoMemory>
+fn known_numbers(alloc: Global, marks: &MarkMap, known: &[Numbered]) -> Result<Vec<u64>, NoMemory>
     requires { AreOne (all_of known.now) }
     ensures long { IfOk result (λ v. length v.items ≡ length marks.now) }
     ensures noted { IfOk result (λ v. AreNoted (all_of known.now) (map (λ (m : NodeMarks). m.name) marks.now) v.items) }

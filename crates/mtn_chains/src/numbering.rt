@@ -107,11 +107,7 @@ fn numbered_entry(
 {
     let (parent, name) = numbered_slot(alloc, roster, numbers, &entry.slot)?;
     let body = numbered_body(&entry.body, &node.marking.content)?;
-    let attrs = numbered_attrs(
-        alloc,
-        entry.attrs.as_slice(),
-        node.marking.attrs.as_slice(),
-    )?;
+    let attrs = numbered_attrs(alloc, entry.attrs.as_slice(), node.marking.attrs.as_slice())?;
     Ok(NumberedEntry {
         number: numbers[place],
         birth_at: node.marking.birth,

@@ -1,5 +1,5 @@
 -- By the order of the two numbers, and whether the entries are one.
-use Rattle.std.proofs.Common.{◌∙◌, [], ◌∷◌, ◌++◌, refl, sym, ap}
+use Rattle.std.proofs.Common.{◌∙◌, [], ◌∷◌, ◌++◌, sym, ap}
 use Rattle.mtn_chains.proofs.Walking.{steps_gone, steps_added, steps_kept, steps_changed}
 use Rattle.mtn_chains.proofs.difference.step.Goals as goal
 

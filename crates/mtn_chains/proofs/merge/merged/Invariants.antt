@@ -1,7 +1,6 @@
-use Rattle.std.proofs.Common.{◌≡◌, ◌+◌, ◌++◌}
-use Rattle.std.specs.Prelude.{IsTrue}
+use Rattle.std.proofs.Common.{◌+◌}
 use Rattle.std.specs.VecDeque.{deque_len}
-use Rattle.mtn_chains.specs.Chain.{ascend, with_all}
+use Rattle.mtn_chains.specs.Chain.{with_all}
 use Rattle.mtn_chains.specs.Parts.{MergesTo}
 use Rattle.mtn_chains.proofs.merge.merged.Given as goal
 

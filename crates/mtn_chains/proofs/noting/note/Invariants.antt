@@ -1,4 +1,4 @@
-use Rattle.std.proofs.Common.{◌≡◌, ◌++◌, take, map, length}
+use Rattle.std.proofs.Common.{◌++◌, take}
 use Rattle.mtn_chains.specs.Chain.{Entries}
 use Rattle.mtn_chains.specs.Noting.{AreNoted, AreOne}
 use Rattle.mtn_chains.proofs.Places.{marked_names}

@@ -1,5 +1,5 @@
 -- At the place of the node, if it has one.
-use Rattle.std.proofs.Common.{sym, subst, arith}
+use Rattle.std.proofs.Common.{arith}
 use Rattle.mtn_chains.proofs.Places.{marked_names, notes_here, notes_none, place_is, place_none}
 use Rattle.mtn_chains.proofs.noting.note_one.Goals as goal
 

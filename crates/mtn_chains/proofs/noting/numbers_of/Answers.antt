@@ -1,14 +1,13 @@
 -- Stop by stop.
-use Rattle.std.proofs.Common.{◌≡◌, ◌∙◌, ◌<◌, ◌≤◌, ◌^◌, ◌+◌, length, take, Some, List, ℕ, sym, ap, subst, arith}
-use Rattle.std.specs.Prelude.{slice_get, option_map}
+use Rattle.std.proofs.Common.{◌∙◌, ◌+◌, length, take, List, ℕ, sym, ap, subst, arith}
+use Rattle.std.specs.Prelude.{option_map}
 use Rattle.mtn_base.specs.declared.name.NodeName.{NodeName}
 use Rattle.mtn_roster.specs.declared.entry.Entry.{Entry}
-use Rattle.mtn_roster.specs.declared.walk.Stop.{Stop}
 use Rattle.mtn_roster.specs.Tree.{Tree, IsSane}
 use Rattle.mtn_roster.specs.Walk.{by_path, AreStops}
 use Rattle.mtn_marking.proofs.Fitting.{for_long}
 use Rattle.mtn_marking.proofs.Zips.{got_at}
-use Rattle.mtn_chains.specs.Numbering.{all_of, unnumbered, fresh}
+use Rattle.mtn_chains.specs.Numbering.{all_of}
 use Rattle.mtn_chains.specs.Noting.{AreNoted, AreFilled}
 use Rattle.mtn_chains.proofs.Places.{marked_names, tree_names, get_map, fills_begin, back_is}
 use Rattle.mtn_chains.proofs.Visiting.{same_names, names_up, stop_is, stops_long, once, fresh_grows, met_more, all_filled}
@@ -18,8 +17,8 @@ pub loop-stop-init : goal.loop-stop-init
 loop-stop-init c = (
   c.in_ok-numbers.ensures.long ∙ ap length c.marks.ensures ∙ sym (for_long c.args.roster.now.tree c.args.roster.now.marks c.roster-tree.ensures.fits),
   fills_begin (all_of c.args.known.now) c.args.next (tree_names c.args.roster.now.tree) c.in_ok-numbers.numbers.items
-  (subst (λ (l : List NodeName). AreNoted (all_of c.args.known.now) l c.in_ok-numbers.numbers.items) (ap marked_names c.marks.ensures ∙ same_names c.args.roster.now.tree c.args.roster.now.marks c.roster-tree.ensures.fits)
-  c.in_ok-numbers.ensures.noted),
+      (subst (λ (l : List NodeName). AreNoted (all_of c.args.known.now) l c.in_ok-numbers.numbers.items) (ap marked_names c.marks.ensures ∙ same_names c.args.roster.now.tree c.args.roster.now.marks c.roster-tree.ensures.fits)
+      c.in_ok-numbers.ensures.noted),
 )
 
 pub fill_one-free-requires-clause-within : goal.fill_one-free-requires-clause-within
@@ -42,14 +41,13 @@ loop-stop-preserved c =
     let are = subst (λ (u : Tree). AreStops u c.deref-stop-items.result.now) c.roster-tree.ensures.tree (subst (AreStops c.roster-tree.result.now) (sym c.deref-stop-items.ensures.value) c.in_ok-stops.ensures) in
     let s = stop_is t c.deref-stop-items.result.now are i (record { place = 0; above = 0 }) c.loop-stop-test.true in
     let sane = subst IsSane c.roster-tree.ensures.tree c.len-sane.ensures.sane in
-    let back = back_is c.fill_one-free.new.numbers c.loop-stop.numbers.items c.loop-stop.numbers.len (c.fill_one-free.auto.numbers ∙ c.deref_mut.ensures.len) in
-    (
+    let back = back_is c.fill_one-free.new.numbers c.loop-stop.numbers.items c.loop-stop.numbers.len (c.fill_one-free.auto.numbers ∙ c.deref_mut.ensures.len) in (
       ap length back ∙ c.fill_one-free.auto.numbers ∙ ap length c.deref_mut.ensures.value ∙ c.loop-stop.invariant.0,
       subst (λ (ns : List ℕ). AreFilled es c.args.next (tree_names t) (tree_names (take (i + 1) w)) ns c.fill_one-free.result) (sym back)
-      (subst (λ (met : List NodeName). AreFilled es c.args.next (tree_names t) met c.fill_one-free.new.numbers c.fill_one-free.result) (sym (met_more w i s.0 s.1))
-      (c.fill_one-free.ensures es c.args.next (tree_names t) (tree_names (take i w)) s.0.name c.requires.known.next_from_one (names_up t sane)
-      (get_map (λ (e : Entry). e.name) t _ ∙ ap (option_map (λ (e : Entry). e.name)) s.2) (once t sane i s.0 s.1)
-      (subst (λ (ns : List ℕ). AreFilled es c.args.next (tree_names t) (tree_names (take i w)) ns c.loop-stop.free) (sym c.deref_mut.ensures.value) c.loop-stop.invariant.1))),
+          (subst (λ (met : List NodeName). AreFilled es c.args.next (tree_names t) met c.fill_one-free.new.numbers c.fill_one-free.result) (sym (met_more w i s.0 s.1))
+          (c.fill_one-free.ensures es c.args.next (tree_names t) (tree_names (take i w)) s.0.name c.requires.known.next_from_one (names_up t sane)
+          (get_map (λ (e : Entry). e.name) t _ ∙ ap (option_map (λ (e : Entry). e.name)) s.2) (once t sane i s.0 s.1)
+          (subst (λ (ns : List ℕ). AreFilled es c.args.next (tree_names t) (tree_names (take i w)) ns c.loop-stop.free) (sym c.deref_mut.ensures.value) c.loop-stop.invariant.1))),
     )
 
 pub returns : goal.returns

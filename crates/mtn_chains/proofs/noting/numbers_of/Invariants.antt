@@ -1,5 +1,4 @@
-use Rattle.std.proofs.Common.{◌≡◌, take, map, length}
-use Rattle.mtn_roster.specs.declared.entry.Entry.{Entry}
+use Rattle.std.proofs.Common.{◌≡◌, take, length}
 use Rattle.mtn_roster.specs.Walk.{by_path}
 use Rattle.mtn_chains.specs.Numbering.{all_of}
 use Rattle.mtn_chains.specs.Noting.{AreFilled}

@@ -1,5 +1,5 @@
 -- The entries by ascending nodes, sorted by numbers.
-use Rattle.std.proofs.Common.{◌≡◌, is_lt, rules, sym, subst}
+use Rattle.std.proofs.Common.{is_lt, rules, sym, subst}
 use Rattle.std.specs.Cmp.{nat_cmp_total}
 use Rattle.std.specs.Ordering.{nat_cmp}
 use Rattle.std.proofs.lemmas.List.Sorted.{ranks_by, answers_always}

@@ -30,9 +30,8 @@ loop-place-preserved c =
     let ms = c.args.roster.now.marks in
     let k = c.loop-place.place in
     let at_n : slice_get t k ≡ Some c.unwrap-entry.result.now = ap (λ l. slice_get l k) (sym c.roster-tree.ensures.tree) ∙ sym c.at_place.ensures ∙ ap option_copied c.unwrap-entry.ensures in
-    let at_m : slice_get ms k ≡ Some c.unwrap-node.result.now = ap (λ l. slice_get l k) (sym c.marks-marks.ensures) ∙ sym c.at_place-in-loop-place.ensures ∙ ap option_copied c.unwrap-node.ensures in
-    (
+    let at_m : slice_get ms k ≡ Some c.unwrap-node.result.now = ap (λ l. slice_get l k) (sym c.marks-marks.ensures) ∙ sym c.at_place-in-loop-place.ensures ∙ ap option_copied c.unwrap-node.ensures in (
       ap length c.in_ok-push.ensures.items ∙ length-append c.loop-place.entries.items (c.in_ok-numbered_entry.field-0 ∷ []) ∙ ap (λ n. n + 1) c.loop-place.invariant.0,
       numbered_more c.args.roster.now c.args.numbers.now c.loop-place.entries.items c.push.new.self.items k c.unwrap-entry.result.now c.unwrap-node.result.now c.in_ok-numbered_entry.field-0
-      c.loop-place.invariant.0 c.loop-place.invariant.1 at_n at_m c.in_ok-numbered_entry.ensures c.in_ok-push.ensures.items,
+          c.loop-place.invariant.0 c.loop-place.invariant.1 at_n at_m c.in_ok-numbered_entry.ensures c.in_ok-push.ensures.items,
     )

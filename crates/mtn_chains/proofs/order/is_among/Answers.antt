@@ -1,6 +1,5 @@
 -- By halves, since the numbers ascend.
-use Rattle.std.proofs.Common.{◌∙◌, rules}
-use Rattle.std.specs.Ordering.{nat_cmp}
+use Rattle.std.proofs.Common.{◌∙◌}
 use Rattle.mtn_chains.proofs.Ascending.{among}
 use Rattle.mtn_chains.proofs.order.is_among.Goals as goal
 

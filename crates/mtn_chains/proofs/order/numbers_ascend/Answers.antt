@@ -1,5 +1,5 @@
 -- The closure compares the numbers.
-use Rattle.std.proofs.Common.{◌≡◌, ◌∙◌, ℕ, Bool, nat_lt, rules, ap}
+use Rattle.std.proofs.Common.{◌∙◌, ℕ, Bool, nat_lt, rules, ap}
 use Rattle.std.specs.Ordering.{nat_cmp}
 use Rattle.std.proofs.lemmas.Fn.{always_returns_same}
 use Rattle.mtn_roster.specs.Tree.{rises}

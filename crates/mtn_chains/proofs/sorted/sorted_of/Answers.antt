@@ -1,5 +1,5 @@
 -- The references are sorted, and the neighbours tell whether nodes are apart.
-use Rattle.std.proofs.Common.{◌≡◌, Bool, Bor, List, rules, sym, subst}
+use Rattle.std.proofs.Common.{◌≡◌, Bool, Bor, List, rules, subst}
 use Rattle.std.specs.List.{IsAllAdjacentAnswer}
 use Rattle.std.specs.Ordering.{is_lt}
 use Rattle.std.proofs.lemmas.Fn.{always_returns_same}
@@ -7,7 +7,7 @@ use Rattle.std.proofs.lemmas.List.Sorted.{ranks_by, answers_always}
 use Rattle.mtn_base.specs.Names.{name_cmp}
 use Rattle.mtn_records.specs.declared.entry.NumberedEntry.{NumberedEntry}
 use Rattle.mtn_roster.proofs.Looking.{names_total}
-use Rattle.mtn_chains.proofs.ByNode.{SortsNodes, sorts_nodes}
+use Rattle.mtn_chains.proofs.ByNode.{sorts_nodes}
 use Rattle.mtn_chains.proofs.sorted.sorted_of.Goals as goal
 
 abbrev lower : Bor NumberedEntry → Bor NumberedEntry → Bool
