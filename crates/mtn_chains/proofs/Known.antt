@@ -1,5 +1,5 @@
 -- Known numbers with those of one more tree, and numbers among more lists.
-use Rattle.std.specs.Prelude.{map, find, filter, not, is_some, option_map, Contains, IsSome}
+use Rattle.std.specs.Prelude.{map, filter, not, is_some, option_map, Contains, IsSome}
 use Rattle.std.specs.List.{AllZip, AllByRecursion, position_from}
 use Rattle.std.specs.FinMap.Entries.{by_order}
 use Rattle.std.specs.declared.cmp.Ordering.{Ordering}
@@ -20,7 +20,7 @@ use Rattle.mtn_roster.proofs.Sorting.{in_ordered, of_ordered, long_map}
 use Rattle.mtn_roster.proofs.Tests.{same_name-is, same_name-self}
 use Rattle.mtn_chains.specs.Chain.{Entries, number_of}
 use Rattle.mtn_chains.specs.Spelled.{IsEntryOf, Spells, by_node, node_of}
-use Rattle.mtn_chains.specs.Numbering.{all_of, fresh, number_among, number_in, or_next, unnumbered, AreKnown, IsNumbering}
+use Rattle.mtn_chains.specs.Numbering.{all_of, fresh, number_among, number_in, or_next, AreKnown, IsNumbering}
 use Rattle.mtn_chains.proofs.Ascending.{cut_of, place_by}
 use Rattle.mtn_chains.proofs.Assigning.{number_above, number_tells}
 use Rattle.mtn_chains.proofs.Places.{among_was, contains_cons, is_name, some_is, tree_names}
