@@ -65,7 +65,7 @@ fn uncommon(alloc: Global, number: u8) -> Result<Uncommon, Fail> {
 
 /// What an answer tells.
 #[derive(Clone, Copy, Debug, PartialEq, Eq)]
-enum Told {
+enum Answer {
     Made,
     WrongContent(u64, u64),
     Disagrees(u8),
@@ -84,21 +84,21 @@ fn first_byte(path: &Path) -> u8 {
     }
 }
 
-fn told(answer: &Result<Roster, MakeError>) -> Told {
+fn answer_of(answer: &Result<Roster, MakeError>) -> Answer {
     match answer {
-        Ok(_) => Told::Made,
+        Ok(_) => Answer::Made,
         Err(MakeError::Refused(cause)) => match cause {
             Cause::BadChange {
                 edge,
                 number,
                 why: Why::WrongContent,
-            } => Told::WrongContent(*edge, *number),
-            Cause::Disagree { path } => Told::Disagrees(first_byte(path)),
-            Cause::Revived { path } => Told::Revives(first_byte(path)),
-            _ => Told::Other,
+            } => Answer::WrongContent(*edge, *number),
+            Cause::Disagree { path } => Answer::Disagrees(first_byte(path)),
+            Cause::Revived { path } => Answer::Revives(first_byte(path)),
+            _ => Answer::Other,
         },
-        Err(MakeError::Damaged) => Told::Damaged,
-        Err(MakeError::NoMemory) => Told::Other,
+        Err(MakeError::Damaged) => Answer::Damaged,
+        Err(MakeError::NoMemory) => Answer::Other,
     }
 }
 
@@ -134,14 +134,17 @@ fn trees_are_made_and_marked_or_refused(rt: HostRuntime) -> Result<(), Fail> {
     assert!(rt; has_marks(alloc, &third, &[0])?);
     assert!(rt; has_marks(alloc, &marked(alloc, MERGE, &both, 4)?, &[1])?);
     for (text, want) in [
-        (WRONG, Told::WrongContent(2, 1)),
-        (UNLIKE, Told::Disagrees(b'f')),
-        (REVIVE, Told::Revives(b'g')),
-        (PATCH, Told::Damaged),
+        (WRONG, Answer::WrongContent(2, 1)),
+        (UNLIKE, Answer::Disagrees(b'f')),
+        (REVIVE, Answer::Revives(b'g')),
+        (PATCH, Answer::Damaged),
     ] {
-        assert!(rt; told(&made(alloc, text, &both, 4)?) == want, "{text:?}");
+        assert!(rt;
+            answer_of(&made(alloc, text, &both, 4)?) == want,
+            "{text:?}"
+        );
     }
-    assert!(rt; told(&made(alloc, PATCH, &Basis::One(&first), 1)?) == Told::Damaged);
+    assert!(rt; answer_of(&made(alloc, PATCH, &Basis::One(&first), 1)?) == Answer::Damaged);
     Ok(())
 }
 
