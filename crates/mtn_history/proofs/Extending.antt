@@ -68,9 +68,9 @@ turned false false x y z w never = refl
 recounted : (n : ℕ) → insert (meta_of n) count_key (to_be_bytes w64 (n + 1)) ≡ meta_of (n + 1)
 recounted n = same_map nat_list_cmp_total (slice_cmp-IsAntisymmetric nat_cmp-IsAntisymmetric) _ _
     (λ q. get_inserted (meta_of n) count_key (to_be_bytes w64 (n + 1)) q
-        ∙ ap (λ o. cond (bytes_eq q count_key) (Some (to_be_bytes w64 (n + 1))) o) (get_inserted (insert empty count_key (to_be_bytes w64 n)) version_key version q ∙ ap (λ o. cond (bytes_eq q version_key) (Some version) o) (get_inserted empty count_key (to_be_bytes w64 n) q))
-        ∙ turned (bytes_eq q count_key) (bytes_eq q version_key) (Some (to_be_bytes w64 (n + 1))) (Some version) (Some (to_be_bytes w64 n)) _ (two_keys q)
-        ∙ sym (get_inserted (insert empty count_key (to_be_bytes w64 (n + 1))) version_key version q ∙ ap (λ o. cond (bytes_eq q version_key) (Some version) o) (get_inserted empty count_key (to_be_bytes w64 (n + 1)) q)))
+    ∙ ap (λ o. cond (bytes_eq q count_key) (Some (to_be_bytes w64 (n + 1))) o) (get_inserted (insert empty count_key (to_be_bytes w64 n)) version_key version q ∙ ap (λ o. cond (bytes_eq q version_key) (Some version) o) (get_inserted empty count_key (to_be_bytes w64 n) q))
+    ∙ turned (bytes_eq q count_key) (bytes_eq q version_key) (Some (to_be_bytes w64 (n + 1))) (Some version) (Some (to_be_bytes w64 n)) _ (two_keys q)
+    ∙ sym (get_inserted (insert empty count_key (to_be_bytes w64 (n + 1))) version_key version q ∙ ap (λ o. cond (bytes_eq q version_key) (Some version) o) (get_inserted empty count_key (to_be_bytes w64 (n + 1)) q)))
 
 -- a place of one more element
 same_front : {X : Type 0} (xs : List X) (y : X) (r : ℕ) → r ≤ length xs → take r (xs ++ y ∷ []) ≡ take r xs
@@ -103,6 +103,7 @@ texts_more log l t texts fresh = record {
     each r m at at_back =
         let same : l ≡ m = let h = sym (last_at log l) ∙ at in cc in
         subst (λ (x : Logged). get (insert t l.id (number_text (length log) ++ l.text)) x.id ≡ Some (number_text (length log) ++ x.text)) same (get_itself t l.id (number_text (length log) ++ l.text))
+
     only : (id body : List ℕ) → (id ≡ l.id) ⊎ (get t id ≡ Some body) → (r : ℕ) × (m : Logged) × (slice_get (log ++ l ∷ []) r ≡ Some m) × (m.id ≡ id)
     only id body (inl same) = (length log, l, last_at log l, sym same)
     only id body (inr found) = let o = texts.only id body found in (o.0, o.1, stays_at log l o.1 o.0 o.2, o.3)
@@ -182,6 +183,7 @@ kept_more h ks v new grown kept adds = record {
   where
     parents_in : (r : ℕ) (w : Revision) → slice_get (h ++ v ∷ []) r ≡ Some w → r ≤ length ks → (p : ℕ) → Contains w.parents p → p < length ks
     parents_in r w at le p c = let lt = grown.earlier r p (subst (λ ps. Contains ps p) (sym (ap revision_parents at)) c) in omega (arith, lt, le)
+
     each : (r : ℕ) (w : Revision) (k : Kept) → slice_get (h ++ v ∷ []) r ≡ Some w → slice_get (ks ++ new ∷ []) r ≡ Some k → Place h r → IsKept (h ++ v ∷ []) (ks ++ new ∷ []) r w k
     each r w k hv hk (in_front lt) =
         let under : r < length ks = subst (λ n. r < n) (sym kept.long) lt in

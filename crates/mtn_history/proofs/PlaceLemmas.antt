@@ -69,6 +69,7 @@ module _ (f : List ℕ → List ℕ) (files t : Table) (log : List Logged) (h : 
     where
       one : (x : Option (List ℕ)) (a b : List ℕ) → x ≡ Some a → x ≡ Some b → a ≡ b
       one x a b p q = cc
+
       at_place : (o : Option ℕ) → place_of h id ≡ o → (q : ℕ) → (v : Revision) × (slice_get h q ≡ Some v) × (v.id ≡ id) → Some q ≡ o
       at_place None e q has = absurd (no_place h id e q has)
       at_place (Some p) e q has = ap Some ((history_is_grown f files log h spelled).differ id q p has (place_has h id p e))

@@ -150,10 +150,10 @@ pub chain_whole : (mid new : Option Contents) (ps : List Put) (at next : ℕ) (r
     IfSome new (λ c. IsRostered (with_all c ps) next x) → base_of x ≡ None → more ≡ rs ++ x ∷ [] → turned ≡ reverse more → IfSome new (λ c. IsChainOf (with_all c ps) at (Some (turned, depth)))
 chain_whole mid None ps at next rs more turned x depth long same path here is grown turns = tt
 chain_whole mid (Some c) ps at next rs more turned x depth long same path here is grown turns = (
-      subst (IsChainDown (with_all c ps) at) (sym (ap reverse (turns ∙ ap reverse grown) ∙ reverse-reverse (rs ++ x ∷ [])))
+  subst (IsChainDown (with_all c ps) at) (sym (ap reverse (turns ∙ ap reverse grown) ∙ reverse-reverse (rs ++ x ∷ [])))
       (chain_whole_at (with_all c ps) at next rs x (told_on mid (Some c) (λ d. IsPathDown (with_all d ps) at rs next) same path c refl) here is),
-      ap length (turns ∙ ap reverse grown) ∙ length-reverse (rs ++ x ∷ []) ∙ omega (arith, length-append rs (x ∷ []), long),
-    )
+  ap length (turns ∙ ap reverse grown) ∙ length-reverse (rs ++ x ∷ []) ∙ omega (arith, length-append rs (x ∷ []), long),
+)
 
 pub no_chain : (told : Option Contents) (ps : List Put) (at next : ℕ) (rs : List RosterRecord) → IfSome told (λ c. IsPathDown (with_all c ps) at rs next) → length rs ≡ 16 → IfSome told (λ c. IsChainOf (with_all c ps) at None)
 no_chain None ps at next rs path long = tt
