@@ -9,11 +9,12 @@ STORE is the file that holds the store, which is made where there is none, or
 output standard output. The word `--` ends the options of a command.
 
 Commands:
-  put_file       keeps the input as a file; prints its id
-  get_file FILE  prints the bytes of the file with this id
+  put_file          keeps the input as a file; prints its id
+  get_file FILE     prints the bytes of the file with this id
+  get_revision REV  prints the text of the revision with this id
 
-FILE is the id of a file: 40 lower-case hexadecimal digits, the SHA-1 of its
-bytes.
+FILE is the id of a file, REV that of a revision: 40 lower-case hexadecimal
+digits, the SHA-1 of its bytes, of its text.
 
   mtn --help     prints this
   mtn --version  prints the version
