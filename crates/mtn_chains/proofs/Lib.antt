@@ -9,3 +9,4 @@ pub mod Visiting
 pub mod Assigning
 pub mod Attributes
 pub mod Known
+pub mod Written

@@ -4,3 +4,4 @@ pub mod Difference
 pub mod Numbering
 pub mod Parts
 pub mod Noting
+pub mod Laws

@@ -5,7 +5,9 @@ ghost use Rattle.mtn_records.specs.declared.record.RosterRecord.{RosterRecord};
 ghost use Rattle.mtn_marking.specs.Marking.{MarkedTree};
 ghost use Rattle.mtn_chains.specs.Chain.{Entries, ascend, deepest, rebuilt};
 ghost use Rattle.mtn_chains.specs.Difference.{IsDifference};
+ghost use Rattle.mtn_chains.specs.Laws.{Gives};
 ghost use Rattle.mtn_chains.specs.Spelled.{Spells};
+ghost use Rattle.mtn_records.specs.Bounds.{IsRosterAt};
 ghost use Rattle.mtn_chains.specs.Numbering.{all_of, fresh, number_among, AreKnown, IsNumbering};
 ghost use Rattle.mtn_records.specs.declared.entry.NumberedEntry.{NumberedEntry};
 ghost use Rattle.mtn_roster.specs.Tree.{entry_of};
@@ -25,6 +27,16 @@ pub fn delta_rebuilds()
     ensures { (chain : List RosterRecord) (base new changed : Entries) (gone : List ℕ) (base_at : ℕ) →
         length chain ≤ deepest → rebuilt chain ≡ Some base → IsTrue (ascend new) → IsDifference base new gone changed →
         rebuilt (chain ++ RosterRecord.Delta base_at (length chain) gone changed ∷ []) ≡ Some new }
+{}
+
+/// What was written of numbered entries, whole or as a delta on a base, is read as one record under its key, and the chain
+/// with that record gives the entries and exactly the marked tree that was numbered.
+pub fn written_again()
+    ensures whole { (at : ℕ) (body : List ℕ) (known : List Entries) (next : ℕ) (t : MarkedTree) (es : Entries) (r : RosterRecord) → IsNumbering known next t es →
+        IsRosterAt at body (RosterRecord.Whole es) → IsRosterAt at body r → Gives (r ∷ []) es t }
+    ensures delta { (at : ℕ) (body : List ℕ) (known : List Entries) (next : ℕ) (t : MarkedTree) (es : Entries) (r : RosterRecord) (chain : List RosterRecord) (base changed : Entries)
+        (gone : List ℕ) (base_at : ℕ) → IsNumbering known next t es → length chain ≤ deepest → rebuilt chain ≡ Some base → IsDifference base es gone changed →
+        IsRosterAt at body (RosterRecord.Delta base_at (length chain) gone changed) → IsRosterAt at body r → Gives (chain ++ r ∷ []) es t }
 {}
 
 /// Without lists no numbers are known, and the next is 1.
