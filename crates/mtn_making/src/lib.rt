@@ -28,6 +28,3 @@ pub use error::MakeError;
 pub use limits::{MAX_NODES, MAX_PATH};
 pub use making::make;
 pub use marked::mark;
-
-#[cfg(test)]
-mod tests;
