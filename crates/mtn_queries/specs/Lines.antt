@@ -1,6 +1,5 @@
 -- The whole graph as lines: each revision with its parents (Monotone's manual: automate graph).
 use Rattle.std.specs.Prelude.{List, map, All}
-use Rattle.mtn_base.specs.declared.id.Id.{Id}
 use Rattle.mtn_growth.specs.History.{Revision}
 use Rattle.mtn_queries.specs.Queries.{IsHeld, IsParent, IsListOf, by_id}
 use Rattle.mtn_queries.specs.declared.query.Line.{Line}

@@ -1,20 +1,11 @@
 -- What stands between ids and the positions of the graph.
-use Rattle.std.specs.Prelude.{◌≡◌, ℕ, List, [], Option, Some, None, Contains, ⊤}
+use Rattle.std.specs.Prelude.{◌≡◌, ℕ, List, [], Contains, ⊤}
 use Rattle.std.specs.List.{filter_map}
 use Rattle.mtn_base.specs.declared.id.Id.{Id}
 use Rattle.mtn_ancestry.specs.declared.pos.LogEntry.{LogEntry}
 use Rattle.mtn_ancestry.specs.Log.{id_at}
-use Rattle.mtn_growth.specs.History.{Revision}
-use Rattle.mtn_queries.specs.Queries.{first_unknown}
-use Rattle.mtn_queries.specs.declared.query.QueryError.{QueryError}
-use Rattle.mtn_queries.specs.declared.query.QueryError.TheVariants.{Unknown, NoMemory}
 use Rattle.mtn_queries.specs.declared.sets.Wanted.{Wanted}
 use Rattle.mtn_queries.specs.declared.sets.Wanted.TheVariants.{Any, Roots, Children}
-
--- the error names the first of these that the history does not have
-abbrev pub NamesUnknown : List Revision → List Id → QueryError → Type 0
-NamesUnknown h ids (Unknown id) = first_unknown h ids ≡ Some id
-NamesUnknown h ids NoMemory = ⊤
 
 -- the ids of the revisions at these positions
 abbrev pub ids_at : List LogEntry → List ℕ → List Id

@@ -83,8 +83,12 @@ ids_of Roots = []
 abbrev pub first_unknown : List Revision → List Id → Option Id
 first_unknown h ids = find (λ id. is_none (place_of h id)) ids
 
--- the answer, or the first unknown id, which comes before all else
+-- the error names the first of these that the history does not have
+abbrev pub NamesUnknown : List Revision → List Id → QueryError → Type 0
+NamesUnknown h ids (Unknown id) = first_unknown h ids ≡ Some id
+NamesUnknown h ids NoMemory = ⊤
+
+-- the answer, where all ids are known, or the first that is not
 abbrev pub Answers : List Revision → Query → Result (List Id) QueryError → Type 0
 Answers h q (Ok ids) = (first_unknown h (ids_of q) ≡ None) × IsAnswer h q ids
-Answers h q (Err (Unknown id)) = first_unknown h (ids_of q) ≡ Some id
-Answers h q (Err NoMemory) = ⊤
+Answers h q (Err e) = NamesUnknown h (ids_of q) e

@@ -1,9 +1,8 @@
 // Each query over the graph.
 ghost use Rattle.std.specs.Prelude.{◌≡◌, ◌<◌, List as Seq, Some, length, IfOk};
 ghost use Rattle.mtn_base.specs.declared.id.Id.{Id};
-ghost use Rattle.mtn_growth.specs.History.{Revision};
+ghost use Rattle.mtn_growth.specs.History.{IsPlaceOf, Revision};
 ghost use Rattle.mtn_log.specs.Graphs.{Tells};
-ghost use Rattle.mtn_log.specs.Making.{place_of};
 ghost use Rattle.mtn_queries.specs.Queries.{Answers, IsAnswer, IsListOf, IsParent, by_id};
 
 use crate::ids::{ids_at, sorted_ids};
@@ -26,7 +25,12 @@ pub fn answer(alloc: Global, graph: &Graph, query: &Query) -> Result<List<Id>, Q
         Query::CommonAncestors { of, others } => common(alloc, graph, *of, others.as_slice()),
         Query::EraseAncestors { of } => erase_ancestors(alloc, graph, of.as_slice()),
         Query::Toposort { of } => toposort(alloc, graph, of.as_slice()),
-        Query::AncestryDifference { of, without } => difference(alloc, graph, *of, without.as_slice()),
+        Query::AncestryDifference { of, without } => difference(
+            alloc,
+            graph,
+            *of,
+            without.as_slice(),
+        ),
         Query::Leaves => Ok(leaves(alloc, graph)?),
         Query::Roots => Ok(roots(alloc, graph)?),
     }
@@ -35,7 +39,7 @@ pub fn answer(alloc: Global, graph: &Graph, query: &Query) -> Result<List<Id>, Q
 // The parents of the revision at a position, by ascending ids.
 pub fn parents_at(alloc: Global, graph: &Graph, at: Pos) -> Result<List<Id>, NoMemory>
     requires { at < length graph.now }
-    ensures { IfOk result (λ ids. (h : Seq Revision) → (id : Id) → Tells h graph.now → place_of h id ≡ Some at → IsListOf by_id (λ x. IsParent h x id) ids) }
+    ensures { IfOk result (λ ids. (h : Seq Revision) → (id : Id) → Tells h graph.now → IsPlaceOf h id at → IsListOf by_id (λ x. IsParent h x id) ids) }
 {
     match graph.entries()[at.0 as usize].parents {
         ParentList::Zero => sorted_ids(alloc, graph, &[]),
@@ -55,7 +59,7 @@ fn children(alloc: Global, graph: &Graph, of: Id) -> Result<List<Id>, QueryError
     ensures { (h : Seq Revision) → Tells h graph.now → Answers h (Query.Children of) result }
 {
     let at = place(graph, of)?;
-    let found = places_of(alloc, graph, Wanted::Children { of: at })?;
+    let found = places_of(alloc, graph, &Wanted::Children { of: at })?;
     Ok(sorted_ids(alloc, graph, &found)?)
 }
 
@@ -116,7 +120,7 @@ fn difference(alloc: Global, graph: &Graph, of: Id, others: &[Id]) -> Result<Lis
 fn leaves(alloc: Global, graph: &Graph) -> Result<List<Id>, NoMemory>
     ensures { IfOk result (λ ids. (h : Seq Revision) → Tells h graph.now → IsAnswer h Query.Leaves ids) }
 {
-    let all = places_of(alloc, graph, Wanted::Any)?;
+    let all = places_of(alloc, graph, &Wanted::Any)?;
     let found = graph.erase_ancestors(alloc, &all)?;
     sorted_ids(alloc, graph, found.as_slice())
 }
@@ -124,6 +128,6 @@ fn leaves(alloc: Global, graph: &Graph) -> Result<List<Id>, NoMemory>
 fn roots(alloc: Global, graph: &Graph) -> Result<List<Id>, NoMemory>
     ensures { IfOk result (λ ids. (h : Seq Revision) → Tells h graph.now → IsAnswer h Query.Roots ids) }
 {
-    let found = places_of(alloc, graph, Wanted::Roots)?;
+    let found = places_of(alloc, graph, &Wanted::Roots)?;
     sorted_ids(alloc, graph, &found)
 }

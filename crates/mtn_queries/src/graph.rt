@@ -7,7 +7,6 @@ ghost use Rattle.mtn_queries.specs.Lines.{HasParents, IsGraph};
 use crate::Line;
 use crate::answers::parents_at;
 use crate::ids::sorted_ids;
-use crate::places::place;
 use crate::sets::{Wanted, places_of};
 use mtn_ancestry::Graph;
 use mtn_base::{Id, List, NoMemory};
@@ -18,9 +17,9 @@ fn line(alloc: Global, graph: &Graph, id: Id) -> Result<Line, NoMemory>
     ensures id { IfOk result (λ line. line.id ≡ id) }
     ensures parents { IfOk result (λ line. (h : Seq Revision) → Tells h graph.now → HasParents h line) }
 {
-    let parents = match place(graph, id) {
-        Ok(at) => parents_at(alloc, graph, at)?,
-        Err(_) => List::new(alloc),
+    let parents = match graph.find(id) {
+        Some(at) => parents_at(alloc, graph, at)?,
+        None => List::new(alloc),
     };
     Ok(Line { id, parents })
 }
@@ -29,7 +28,7 @@ fn line(alloc: Global, graph: &Graph, id: Id) -> Result<Line, NoMemory>
 pub fn lines(alloc: Global, graph: &Graph) -> Result<List<Line>, NoMemory>
     ensures { IfOk result (λ lines. (h : Seq Revision) → Tells h graph.now → IsGraph h lines) }
 {
-    let all = places_of(alloc, graph, Wanted::Any)?;
+    let all = places_of(alloc, graph, &Wanted::Any)?;
     let ids = sorted_ids(alloc, graph, &all)?;
     let mut lines = List::new(alloc);
     for id in ids.as_slice() {

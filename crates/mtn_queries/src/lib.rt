@@ -22,4 +22,3 @@ pub use answers::answer;
 pub use graph::lines;
 pub use laws::one_answer;
 pub use query::{Line, Query, QueryError};
-

@@ -9,29 +9,36 @@ use mtn_base::NoMemory;
 use std::alloc::Global;
 
 // Which revisions are wanted, by their parents.
-#[derive(Clone, Copy, Debug, Drop)]
+#[derive(Clone, Copy)]
 pub enum Wanted {
     Any,
     Roots,
     Children { of: Pos },
 }
 
-fn is_wanted(wanted: Wanted, parents: &ParentList) -> bool
-    ensures { IsTrue result ↔ IsWanted wanted (list_of parents.now) }
+fn has_parent(parents: &ParentList, of: Pos) -> bool
+    ensures { IsTrue result ↔ Contains (list_of parents.now) of }
 {
-    match (wanted, parents) {
-        (Wanted::Any, _) => true,
-        (Wanted::Roots, ParentList::Zero) => true,
-        (Wanted::Roots, _) => false,
-        (Wanted::Children { of }, ParentList::Zero) => false,
-        (Wanted::Children { of }, ParentList::One(p)) => *p == of,
-        (Wanted::Children { of }, ParentList::Two(p, q)) => *p == of || *q == of,
+    match parents {
+        ParentList::Zero => false,
+        ParentList::One(p) => p.0 == of.0,
+        ParentList::Two(p, q) => p.0 == of.0 || q.0 == of.0,
     }
 }
 
-// The positions of the wanted revisions, ascending.
-pub fn places_of(alloc: Global, graph: &Graph, wanted: Wanted) -> Result<Vec<Pos>, NoMemory>
-    ensures { IfOk result (λ v. (x : ℕ) → Contains v.items x ↔ ((x < length graph.now) × IsWanted wanted (parents_of graph.now x))) }
+fn is_wanted(wanted: &Wanted, parents: &ParentList) -> bool
+    ensures { IsTrue result ↔ IsWanted wanted.now (list_of parents.now) }
+{
+    match wanted {
+        Wanted::Any => true,
+        Wanted::Roots => matches!(parents, ParentList::Zero),
+        Wanted::Children { of } => has_parent(parents, *of),
+    }
+}
+
+// The positions of the wanted revisions.
+pub fn places_of(alloc: Global, graph: &Graph, wanted: &Wanted) -> Result<Vec<Pos>, NoMemory>
+    ensures { IfOk result (λ v. (x : ℕ) → Contains v.items x ↔ ((x < length graph.now) × IsWanted wanted.now (parents_of graph.now x))) }
 {
     let log = graph.entries();
     let mut found = Vec::new(alloc);
@@ -43,13 +50,24 @@ pub fn places_of(alloc: Global, graph: &Graph, wanted: Wanted) -> Result<Vec<Pos
     Ok(found)
 }
 
+fn is_in_neither(at: Pos, some: &PosSet, others: &PosSet) -> bool
+    ensures { IsTrue result ↔ (¬ Contains some.now at × ¬ Contains others.now at) }
+{
+    !some.has(at) && !others.has(at)
+}
+
 // The positions of a set that are in neither of two others.
-pub fn without(alloc: Global, all: &PosSet, some: &PosSet, others: &PosSet) -> Result<Vec<Pos>, NoMemory>
+pub fn without(
+    alloc: Global,
+    all: &PosSet,
+    some: &PosSet,
+    others: &PosSet,
+) -> Result<Vec<Pos>, NoMemory>
     ensures { IfOk result (λ v. IsAscendingListOf (λ x. Contains all.now x × ¬ Contains some.now x × ¬ Contains others.now x) v.items) }
 {
     let mut found = Vec::new(alloc);
     for at in all.as_slice() {
-        if !some.has(*at) && !others.has(*at) {
+        if is_in_neither(*at, some, others) {
             found.push(*at)?;
         }
     }
