@@ -22,3 +22,6 @@ pub use answers::answer;
 pub use graph::lines;
 pub use laws::one_answer;
 pub use query::{Line, Query, QueryError};
+
+#[cfg(test)]
+mod tests;
