@@ -1,6 +1,6 @@
 -- The graph that a draft tells is that of the history which its log spells.
-use Rattle.std.specs.Prelude.{IfSome, MatchBool, slice_get}
-use Rattle.std.proofs.Common.{◌≡◌, ◌<◌, ◌⊎◌, inl, inr, ℕ, Bool, true, false, List, [], length, Option, Some, None, Result, Ok, Err, refl, sym, ap, ◌∙◌, subst, arith}
+use Rattle.std.specs.Prelude.{IfSome, MatchBool}
+use Rattle.std.proofs.Common.{◌≡◌, inl, inr, ℕ, Bool, true, false, List, [], length, Option, Some, None, Result, Ok, Err, refl, sym, ap, ◌∙◌, subst, arith}
 use Rattle.mtn_ancestry.specs.declared.pos.LogEntry.{LogEntry}
 use Rattle.mtn_growth.specs.History.{Revision}
 use Rattle.mtn_log.specs.Graphs.{Tells}
@@ -21,7 +21,7 @@ use Rattle.mtn_history.specs.declared.errors.Damage.{Damage}
 use Rattle.mtn_history.specs.declared.errors.StoreError.{StoreError}
 use Rattle.mtn_history.specs.declared.errors.StoreError.TheVariants.{Failed, Damaged, NoMemory}
 use Rattle.mtn_history.specs.declared.errors.HistoryError.{HistoryError}
-use Rattle.mtn_history.specs.declared.errors.HistoryError.TheVariants.{Refused, Store}
+use Rattle.mtn_history.specs.declared.errors.HistoryError.TheVariants.{Store}
 use Rattle.mtn_history.specs.declared.pending.Pending.{Pending}
 use Rattle.mtn_history.proofs.LogLemmas.{read_tells, never_wrong}
 use Rattle.mtn_cli.specs.Performs.{Counts, Drafts, drafted, query_refusal, replied}
@@ -48,7 +48,8 @@ module _ (f : List ℕ → List ℕ) (c : Contents) (p : Pending) (s : State) wh
   )
   told_by false same stands entries read =
       let long : p.count ≡ length stands.history = same ∙ sym stands.spelled.long in (
-        stands.history, stands.spelled,
+        stands.history,
+        stands.spelled,
         read_tells (with_all c p.batch) stands.history stands.kept (history_is_grown f s.files s.log stands.history stands.spelled) stands.revisions.long stands.log entries (subst (λ n. IsReadTo (with_all c p.batch) n entries) long read),
       )
 

@@ -123,7 +123,10 @@ fn the_graph_has_a_line_for_each_revision(rt: HostRuntime) -> Result<(), Fail> {
     assert_eq!(rt; all.len(), 5);
     if let [first, _, _, _, last] = all {
         assert_eq!(rt; first.id, id_of(4));
-        assert_eq!(rt; first.parents.as_slice(), ids_of(alloc, &[3, 2])?.as_slice());
+        assert_eq!(rt;
+            first.parents.as_slice(),
+            ids_of(alloc, &[3, 2])?.as_slice()
+        );
         assert_eq!(rt; last.id, id_of(0));
         assert!(rt; last.parents.as_slice().is_empty());
     }

@@ -1,10 +1,8 @@
-use Rattle.std.proofs.Common.{Err, None, sym, ap, ◌∙◌, subst}
+use Rattle.std.proofs.Common.{Err, sym, ap, ◌∙◌, subst}
 use Rattle.std.proofs.lemmas.Result.{err_from_is_err_and}
-use Rattle.mtn_cli.specs.Step.{Asked, Graphed, Steps, done, id_lines, line_text, refused}
-use Rattle.mtn_cli.specs.declared.command.Call.TheVariants.{Ask, Graph}
-use Rattle.mtn_cli.specs.Performs.{replied}
+use Rattle.mtn_cli.specs.Step.{Asked, Steps, done, id_lines}
+use Rattle.mtn_cli.specs.declared.command.Call.TheVariants.{Ask}
 use Rattle.mtn_cli.proofs.QueryLemmas.{graph_failed, graph_answered, graph_unanswered}
-use Rattle.mtn_queries.specs.Queries.{first_unknown, ids_of}
 use Rattle.mtn_cli.proofs.ask.ask.Goals as goal
 
 pub returns-in_err-graph-clause-drafts : goal.returns-in_err-graph-clause-drafts
@@ -20,8 +18,8 @@ returns-in-Ok-clause-drafts g c =
     graph_answered (g.I.Ident.meaning c.args.ident.now) g.K.Keeper.contents g.K.Keeper.leaves g.K.Keeper.faults c.args.draft.now.keeper.now c.graph.new.self.keeper.now c.args.draft.now.pending c.graph.new.self.pending
     (Steps (g.I.Ident.meaning c.args.ident.now) (Ask q) c.args.payload.now) c.in_ok-graph.ensures.stays c.in_ok-graph.graph c.in_ok-graph.ensures.read _ c.in_ok-graph.ensures.pending
     (λ s h spelled tells.
-      let a = c.in-Ok.ensures h tells in
-      (h, spelled, subst (λ u. Asked h q s u (done s c.in_ok-id_lines-in-Ok.field-0)) (sym a.0) (c.in-Ok.ids, a.1, ap (done s) (c.in_ok-id_lines-in-Ok.ensures ∙ ap id_lines c.as_slice.ensures))))
+    let a = c.in-Ok.ensures h tells in
+    (h, spelled, subst (λ u. Asked h q s u (done s c.in_ok-id_lines-in-Ok.field-0)) (sym a.0) (c.in-Ok.ids, a.1, ap (done s) (c.in_ok-id_lines-in-Ok.ensures ∙ ap id_lines c.as_slice.ensures))))
 
 pub returns-clause-drafts : goal.returns-clause-drafts
 returns-clause-drafts g c =

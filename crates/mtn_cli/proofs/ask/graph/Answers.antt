@@ -1,8 +1,7 @@
-use Rattle.std.proofs.Common.{Err, None, sym, ap, ◌∙◌, subst}
+use Rattle.std.proofs.Common.{Err, ap, ◌∙◌}
 use Rattle.std.proofs.lemmas.Result.{err_from_is_err_and}
-use Rattle.mtn_cli.specs.Step.{Asked, Graphed, Steps, done, id_lines, line_text, refused}
-use Rattle.mtn_cli.specs.declared.command.Call.TheVariants.{Ask, Graph}
-use Rattle.mtn_cli.specs.Performs.{replied}
+use Rattle.mtn_cli.specs.Step.{Steps, done, line_text}
+use Rattle.mtn_cli.specs.declared.command.Call.TheVariants.{Graph}
 use Rattle.mtn_cli.proofs.QueryLemmas.{graph_failed, graph_answered}
 use Rattle.std.specs.List.{flat_map}
 use Rattle.mtn_cli.proofs.ask.graph.Goals as goal

@@ -1,4 +1,3 @@
-use Rattle.std.specs.List.{flat_map}
 use Rattle.std.proofs.Common.{◌≡◌, take}
 use Rattle.mtn_cli.specs.Step.{id_lines}
 use Rattle.mtn_cli.proofs.ask.id_lines.Given as goal
