@@ -9,6 +9,7 @@ ghost use Rattle.mtn_ports.specs.Causes.{Rose};
 ghost use Rattle.mtn_cli.specs.Performs.{Drafts, Performs};
 
 use crate::answer::{Answer, Reply};
+use crate::ask::{ask, graph};
 use crate::command::{Call, read_words};
 use crate::deliver::deliver;
 use crate::get_file::get_file;
@@ -41,6 +42,8 @@ fn on_draft<R: Threads + Sync, I: Ident, K: Keeper>(
         Call::PutFile => put_file(alloc, ident, payload, draft),
         Call::GetFile { id } => get_file(alloc, ident, *id, payload, draft),
         Call::GetRevision { id } => get_revision(alloc, ident, *id, payload, draft),
+        Call::Ask { query } => ask(alloc, ident, query, payload, draft),
+        Call::Graph => graph(alloc, ident, payload, draft),
     }
 }
 

@@ -9,3 +9,9 @@ returns-in-GetFile-clause-drafts g c = rw c.in-GetFile.is c.get_file.ensures.dra
 
 pub returns-in-GetRevision-clause-drafts : goal.returns-in-GetRevision-clause-drafts
 returns-in-GetRevision-clause-drafts g c = rw c.in-GetRevision.is c.get_revision.ensures.drafts
+
+pub returns-in-Ask-clause-drafts : goal.returns-in-Ask-clause-drafts
+returns-in-Ask-clause-drafts g c = rw c.in-Ask.is c.ask.ensures.drafts
+
+pub returns-in-Graph-clause-drafts : goal.returns-in-Graph-clause-drafts
+returns-in-Graph-clause-drafts g c = rw c.in-Graph.is c.graph.ensures.drafts
