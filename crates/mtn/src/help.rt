@@ -10,6 +10,7 @@ output standard output. The word `--` ends the options of a command.
 
 Commands:
   put_file          keeps the input as a file; prints its id
+  put_revision      accepts the input as the text of a revision; prints its id
   get_file FILE     prints the bytes of the file with this id
   get_revision REV  prints the text of the revision with this id
 

@@ -3,12 +3,13 @@ use Rattle.std.proofs.Common.{◌≡◌, ℕ, List, Option, Some, None, sym, ap,
 use Rattle.mtn_model.specs.State.{State}
 use Rattle.mtn_log.specs.Lawful.{IsLawful}
 use Rattle.mtn_cli.specs.declared.command.Call.{Call}
-use Rattle.mtn_cli.specs.declared.command.Call.TheVariants.{PutFile, GetFile, GetRevision, Ask, Graph}
+use Rattle.mtn_cli.specs.declared.command.Call.TheVariants.{PutFile, PutRevision, GetFile, GetRevision, Ask, Graph}
 use Rattle.mtn_cli.specs.Step.{Asked, Graphed, OfHistory, Outcome, Steps, SessionOf, done, id_lines, line_text, takes_payload, fed}
 use Rattle.std.specs.List.{flat_map}
 use Rattle.mtn_base.specs.declared.id.Id.{Id}
 use Rattle.mtn_growth.specs.History.{Revision}
 use Rattle.mtn_log.proofs.Histories.{one_history}
+use Rattle.mtn_cli.proofs.Decided.{one_decided}
 use Rattle.mtn_queries.proofs.Orders.{one_answer, one_graph}
 use Rattle.mtn_queries.specs.declared.query.Query.{Query}
 use Rattle.mtn_queries.specs.Queries.{first_unknown, ids_of}
@@ -28,6 +29,7 @@ of_one f s P Q is also = (is.0, is.2, subst Q (sym (one_history f s.files s.log 
 -- one line a command
 pub one_of_step : (f : List ℕ → List ℕ) (s : State) (call : Call) (payload : List ℕ) (o p : Outcome) → IsLawful f s → Steps f call payload s o → Steps f call payload s p → o ≡ p
 one_of_step f s PutFile payload o p lawful is also = is ∙ sym also
+one_of_step f s PutRevision payload o p lawful is also = is.is ∙ one_decided f s payload is.refusal also.refusal is.after also.after is.decides also.decides ∙ sym also.is
 one_of_step f s (GetFile id) payload o p lawful is also = is ∙ sym also
 one_of_step f s (GetRevision id) payload o p lawful is also = is ∙ sym also
 one_of_step f s (Ask query) payload o p lawful is also =

@@ -4,7 +4,7 @@ use Rattle.std.specs.Option.{option_and_then}
 use Rattle.mtn_base.specs.Hex.{read_id}
 use Rattle.mtn_base.specs.declared.id.Id.{Id}
 use Rattle.mtn_cli.specs.declared.command.Call.{Call}
-use Rattle.mtn_cli.specs.declared.command.Call.TheVariants.{PutFile, GetFile, GetRevision, Ask, Graph}
+use Rattle.mtn_cli.specs.declared.command.Call.TheVariants.{PutFile, PutRevision, GetFile, GetRevision, Ask, Graph}
 use Rattle.mtn_queries.specs.declared.query.Query.{Query}
 use Rattle.mtn_queries.specs.declared.query.Query.TheVariants.{Parents, Children, Ancestors, Descendents, CommonAncestors, EraseAncestors, Toposort, AncestryDifference, Leaves, Roots}
 use Rattle.mtn_cli.specs.declared.words.Command.{Command}
@@ -55,6 +55,7 @@ query_named name words =
 abbrev pub call_named : List ℕ → List (List ℕ) → Option Call
 call_named name words =
     if bytes_eq name (codes "put_file") then option_map (λ _. PutFile) (no_words words)
+    else if bytes_eq name (codes "put_revision") then option_map (λ _. PutRevision) (no_words words)
     else if bytes_eq name (codes "get_file") then option_map GetFile (one_id words)
     else if bytes_eq name (codes "get_revision") then option_map GetRevision (one_id words)
     else if bytes_eq name (codes "graph") then option_map (λ _. Graph) (no_words words)

@@ -8,11 +8,12 @@ use Rattle.std.specs.FinMap.{get}
 use Rattle.mtn_base.specs.declared.id.Id.{Id}
 use Rattle.mtn_base.specs.declared.refusal.Cause.TheVariants.{UnknownFile, UnknownRevision}
 use Rattle.mtn_base.specs.Refusals.{line_of}
+use Rattle.mtn_accept.specs.Accepting.{Decides}
 use Rattle.mtn_history.specs.Files.{file_refusal, with_file}
 use Rattle.mtn_history.specs.Texts.{text_under}
 use Rattle.mtn_cli.specs.Calls.{call_of}
 use Rattle.mtn_cli.specs.declared.command.Call.{Call}
-use Rattle.mtn_cli.specs.declared.command.Call.TheVariants.{PutFile, GetFile, GetRevision, Ask, Graph}
+use Rattle.mtn_cli.specs.declared.command.Call.TheVariants.{PutFile, PutRevision, GetFile, GetRevision, Ask, Graph}
 use Rattle.mtn_growth.specs.History.{Revision}
 use Rattle.mtn_log.specs.Lawful.{IsHistory}
 use Rattle.mtn_queries.specs.Lines.{IsGraph}
@@ -58,6 +59,13 @@ abbrev pub found : Cause → State → Option (List ℕ) → Outcome
 found cause s None = refused cause s
 found cause s (Some bytes) = done s bytes
 
+-- what a revision's text comes to: its first refusal, or the state with it and its id
+pub record PutsRevision (f : List ℕ → List ℕ) (text : List ℕ) (s : State) (o : Outcome) : Type 0 where
+  pub refusal : Option Cause
+  pub after : State
+  pub decides : Decides f s text refusal after
+  pub is : o ≡ unless refusal s after (id_line (f text))
+
 -- ids, one a line
 abbrev pub id_lines : List Id → List ℕ
 id_lines ids = flat_map (λ (id : Id). id_line id.0) ids
@@ -83,6 +91,7 @@ OfHistory f s P = (h : List Revision) × IsHistory f s.files s.log h × P h
 -- (`one_outcome`).
 abbrev pub Steps : (List ℕ → List ℕ) → Call → List ℕ → State → Outcome → Type 0
 Steps f PutFile payload s o = o ≡ unless (file_refusal f s payload) s (with_file f s payload) (id_line (f payload))
+Steps f PutRevision payload s o = PutsRevision f payload s o
 Steps f (GetFile id) payload s o = o ≡ found (UnknownFile id) s (get s.files id.0)
 Steps f (GetRevision id) payload s o = o ≡ found (UnknownRevision id) s (text_under s.log id.0)
 Steps f (Ask query) payload s o = OfHistory f s (λ h. Asked h query s (first_unknown h (ids_of query)) o)
@@ -94,6 +103,7 @@ usage_line = codes "usage" ++ 10 ∷ []
 -- one line a command
 abbrev pub takes_payload : Call → Bool
 takes_payload PutFile = true
+takes_payload PutRevision = true
 takes_payload (GetFile id) = false
 takes_payload (GetRevision id) = false
 takes_payload (Ask query) = false

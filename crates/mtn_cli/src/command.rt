@@ -14,6 +14,8 @@ use std::alloc::Global;
 pub enum Call {
     /// `put_file`: keeps the payload, and answers its id.
     PutFile,
+    /// `put_revision`: accepts the payload as a revision's text, and answers its id.
+    PutRevision,
     /// `get_file ID`: answers the bytes of a file.
     GetFile { id: Id },
     /// `get_revision ID`: answers the text of a revision.
@@ -32,7 +34,7 @@ impl Call {
         ensures { result ≡ takes_payload self.now }
     {
         match self {
-            Call::PutFile => true,
+            Call::PutFile | Call::PutRevision => true,
             Call::GetFile { .. } | Call::GetRevision { .. } => false,
             Call::Ask { .. } | Call::Graph => false,
         }
@@ -70,6 +72,7 @@ fn call_named(alloc: Global, name: &str, words: &[Bytes]) -> Result<Call, WordsE
 {
     match name {
         "put_file" => no_words(words).map(|()| Call::PutFile),
+        "put_revision" => no_words(words).map(|()| Call::PutRevision),
         "get_file" => one_id(words).map(|id| Call::GetFile { id }),
         "get_revision" => one_id(words).map(|id| Call::GetRevision { id }),
         "graph" => no_words(words).map(|()| Call::Graph),

@@ -19,6 +19,7 @@ mod get_revision;
 mod laws;
 mod payload;
 mod put_file;
+mod put_revision;
 mod settle;
 mod status;
 mod top;

@@ -16,6 +16,7 @@ use crate::get_file::get_file;
 use crate::get_revision::get_revision;
 use crate::payload::{ReadStop, read_payload};
 use crate::put_file::put_file;
+use crate::put_revision::put_revision;
 use crate::settle::{bare, settle, usage};
 use crate::status::Status;
 use crate::words::WordsError;
@@ -40,6 +41,7 @@ fn on_draft<R: Threads + Sync, I: Ident, K: Keeper>(
 {
     match call {
         Call::PutFile => put_file(alloc, ident, payload, draft),
+        Call::PutRevision => put_revision(alloc, ident, payload, draft),
         Call::GetFile { id } => get_file(alloc, ident, *id, payload, draft),
         Call::GetRevision { id } => get_revision(alloc, ident, *id, payload, draft),
         Call::Ask { query } => ask(alloc, ident, query, payload, draft),
