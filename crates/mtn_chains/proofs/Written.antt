@@ -1,5 +1,5 @@
 -- What was written is read and rebuilt.
-use Rattle.std.proofs.Common.{◌≡◌, ◌≤◌, ℕ, cond, None, List, [], ◌∷◌, ◌++◌, length, Some, sym, ap, ◌∙◌, subst}
+use Rattle.std.proofs.Common.{◌≡◌, ◌≤◌, ℕ, cond, None, List, [], ◌∷◌, ◌++◌, length, Some, sym, ap, ◌∙◌}
 use Rattle.std.proofs.lemmas.List.{append-nil}
 use Rattle.mtn_marking.specs.Marking.{MarkedTree}
 use Rattle.mtn_records.specs.Bounds.{IsRosterAt}
@@ -7,7 +7,7 @@ use Rattle.mtn_records.specs.Records.{roster_text}
 use Rattle.mtn_records.specs.RecordsApart.{roster_apart}
 use Rattle.mtn_records.specs.declared.record.RosterRecord.{RosterRecord}
 use Rattle.mtn_records.specs.declared.record.RosterRecord.TheVariants.{Whole, Delta}
-use Rattle.mtn_chains.specs.Chain.{Entries, deepest, rebuilt, ascend}
+use Rattle.mtn_chains.specs.Chain.{Entries, deepest, rebuilt}
 use Rattle.mtn_chains.specs.Difference.{IsDifference}
 use Rattle.mtn_chains.specs.Spelled.{Spells}
 use Rattle.mtn_chains.specs.Laws.{Gives}

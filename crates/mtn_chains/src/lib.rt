@@ -31,3 +31,6 @@ pub use chain::DEEPEST;
 pub use difference::delta;
 pub use numbering::number;
 pub use rebuilding::rebuild;
+
+#[cfg(test)]
+mod tests;

@@ -28,3 +28,6 @@ pub use error::MakeError;
 pub use limits::{MAX_NODES, MAX_PATH};
 pub use making::make;
 pub use marked::mark;
+
+#[cfg(test)]
+mod tests;
