@@ -4,7 +4,7 @@ use Rattle.std.specs.Option.{option_and_then}
 use Rattle.mtn_base.specs.Hex.{read_id}
 use Rattle.mtn_base.specs.declared.id.Id.{Id}
 use Rattle.mtn_cli.specs.declared.command.Call.{Call}
-use Rattle.mtn_cli.specs.declared.command.Call.TheVariants.{PutFile, GetFile, GetRevision}
+use Rattle.mtn_cli.specs.declared.command.Call.TheVariants.{PutFile, GetFile, GetRevision, GetManifestOf}
 use Rattle.mtn_cli.specs.declared.words.Command.{Command}
 use Rattle.mtn_cli.specs.declared.words.OptionWord.{OptionWord}
 use Rattle.mtn_cli.specs.Words.{command_of}
@@ -26,6 +26,7 @@ call_named name words =
     if bytes_eq name (codes "put_file") then option_map (λ _. PutFile) (no_words words)
     else if bytes_eq name (codes "get_file") then option_map GetFile (one_id words)
     else if bytes_eq name (codes "get_revision") then option_map GetRevision (one_id words)
+    else if bytes_eq name (codes "get_manifest_of") then option_map GetManifestOf (one_id words)
     else None
 
 -- no command has an option yet

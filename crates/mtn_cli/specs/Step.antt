@@ -1,5 +1,5 @@
 -- What a command does to a state, and what it answers.
-use Rattle.std.specs.Prelude.{◌≡◌, List, [], ◌∷◌, ◌++◌, Option, Some, None, ℕ, codes, Bool, true, false, if◌then◌else◌}
+use Rattle.std.specs.Prelude.{◌≡◌, List, [], ◌∷◌, ◌++◌, Option, Some, None, Result, Ok, Err, ℕ, codes, Bool, true, false, if◌then◌else◌}
 use Rattle.mtn_cli.specs.declared.answer.Reply.{Reply}
 use Rattle.hex.specs.Hex.{encode_lower}
 use Rattle.mtn_model.specs.State.{State}
@@ -10,9 +10,13 @@ use Rattle.mtn_base.specs.declared.refusal.Cause.TheVariants.{UnknownFile, Unkno
 use Rattle.mtn_base.specs.Refusals.{line_of}
 use Rattle.mtn_history.specs.Files.{file_refusal, with_file}
 use Rattle.mtn_history.specs.Texts.{text_under}
+use Rattle.mtn_growth.specs.History.{Revision}
+use Rattle.mtn_log.specs.Lawful.{IsHistory}
+use Rattle.mtn_views.specs.Answers.{Answer}
+use Rattle.mtn_views.specs.Views.{manifest_at}
 use Rattle.mtn_cli.specs.Calls.{call_of}
 use Rattle.mtn_cli.specs.declared.command.Call.{Call}
-use Rattle.mtn_cli.specs.declared.command.Call.TheVariants.{PutFile, GetFile, GetRevision}
+use Rattle.mtn_cli.specs.declared.command.Call.TheVariants.{PutFile, GetFile, GetRevision, GetManifestOf}
 use Rattle.mtn_cli.specs.declared.status.Status.{Status}
 use Rattle.mtn_cli.specs.declared.status.Status.TheVariants as status
 
@@ -51,12 +55,26 @@ abbrev pub found : Cause → State → Option (List ℕ) → Outcome
 found cause s None = refused cause s
 found cause s (Some bytes) = done s bytes
 
+-- an answer, which leaves the state
+abbrev pub told : State → Answer → Outcome
+told s (Ok text) = done s text
+told s (Err cause) = refused cause s
+
+-- the outcome of a question about the history that the log spells
+pub record Tells (f : List ℕ → List ℕ) (s : State) (Is : List Revision → Answer → Type 0) (o : Outcome) : Type 0 where
+  pub history : List Revision
+  pub spelled : IsHistory f s.files s.log history
+  pub answer : Answer
+  pub is : Is history answer
+  pub outcome : o ≡ told s answer
+
 -- The outcome of a command over a state, one line a command; f is what the ident makes of a text. A lawful state has one
 -- (`one_outcome`).
 abbrev pub Steps : (List ℕ → List ℕ) → Call → List ℕ → State → Outcome → Type 0
 Steps f PutFile payload s o = o ≡ unless (file_refusal f s payload) s (with_file f s payload) (id_line (f payload))
 Steps f (GetFile id) payload s o = o ≡ found (UnknownFile id) s (get s.files id.0)
 Steps f (GetRevision id) payload s o = o ≡ found (UnknownRevision id) s (text_under s.log id.0)
+Steps f (GetManifestOf id) payload s o = Tells f s (λ h answer. answer ≡ manifest_at h id) o
 
 abbrev pub usage_line : List ℕ
 usage_line = codes "usage" ++ 10 ∷ []
@@ -66,6 +84,7 @@ abbrev pub takes_payload : Call → Bool
 takes_payload PutFile = true
 takes_payload (GetFile id) = false
 takes_payload (GetRevision id) = false
+takes_payload (GetManifestOf id) = false
 
 -- whether the source is read
 abbrev pub reads : Option Call → Bool

@@ -16,6 +16,8 @@ pub enum Call {
     GetFile { id: Id },
     /// `get_revision ID`: answers the text of a revision.
     GetRevision { id: Id },
+    /// `get_manifest_of ID`: answers the manifest of a revision's tree.
+    GetManifestOf { id: Id },
 }
 
 impl Call {
@@ -28,6 +30,7 @@ impl Call {
         match self {
             Call::PutFile => true,
             Call::GetFile { .. } | Call::GetRevision { .. } => false,
+            Call::GetManifestOf { .. } => false,
         }
     }
 }
@@ -65,6 +68,7 @@ fn call_named(name: &str, words: &[Bytes]) -> Result<Call, WordsError>
         "put_file" => no_words(words).map(|()| Call::PutFile),
         "get_file" => one_id(words).map(|id| Call::GetFile { id }),
         "get_revision" => one_id(words).map(|id| Call::GetRevision { id }),
+        "get_manifest_of" => one_id(words).map(|id| Call::GetManifestOf { id }),
         _ => Err(WordsError::Usage),
     }
 }

@@ -14,6 +14,7 @@ mod answer;
 mod command;
 mod deliver;
 mod get_file;
+mod get_manifest_of;
 mod get_revision;
 mod laws;
 mod payload;

@@ -12,6 +12,7 @@ use crate::answer::{Answer, Reply};
 use crate::command::{Call, read_words};
 use crate::deliver::deliver;
 use crate::get_file::get_file;
+use crate::get_manifest_of::get_manifest_of;
 use crate::get_revision::get_revision;
 use crate::payload::{ReadStop, read_payload};
 use crate::put_file::put_file;
@@ -41,6 +42,7 @@ fn on_draft<R: Threads + Sync, I: Ident, K: Keeper>(
         Call::PutFile => put_file(alloc, ident, payload, draft),
         Call::GetFile { id } => get_file(alloc, ident, *id, payload, draft),
         Call::GetRevision { id } => get_revision(alloc, ident, *id, payload, draft),
+        Call::GetManifestOf { id } => get_manifest_of(ident, *id, payload, draft),
     }
 }
 

@@ -9,3 +9,6 @@ returns-in-GetFile-clause-drafts g c = rw c.in-GetFile.is c.get_file.ensures.dra
 
 pub returns-in-GetRevision-clause-drafts : goal.returns-in-GetRevision-clause-drafts
 returns-in-GetRevision-clause-drafts g c = rw c.in-GetRevision.is c.get_revision.ensures.drafts
+
+pub returns-in-GetManifestOf-clause-drafts : goal.returns-in-GetManifestOf-clause-drafts
+returns-in-GetManifestOf-clause-drafts g c = rw c.in-GetManifestOf.is c.get_manifest_of.ensures.drafts
