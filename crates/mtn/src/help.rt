@@ -9,9 +9,10 @@ STORE is the file that holds the store, which is made where there is none, or
 output standard output. The word `--` ends the options of a command.
 
 Commands:
-  put_file          keeps the input as a file; prints its id
-  get_file FILE     prints the bytes of the file with this id
-  get_revision REV  prints the text of the revision with this id
+  put_file             keeps the input as a file; prints its id
+  get_file FILE        prints the bytes of the file with this id
+  get_revision REV     prints the text of the revision with this id
+  get_manifest_of REV  prints the manifest of its tree
 
 FILE is the id of a file, REV that of a revision: 40 lower-case hexadecimal
 digits, the SHA-1 of its bytes, of its text.

@@ -61,7 +61,7 @@ module _ (f : List ℕ → List ℕ) (told : Option Contents) (p : Pending) (s :
       let low : r < length d.stands.history = subst (λ n. r < n) (counted f told p s d) lt in
       let t = there (own f told p s d) d.stands.history d.stands.kept (grown f told p s d) d.stands.revisions.long (log_of f told p s d) r low in
       let is = read_is (own f told p s d) d.stands.history d.stands.kept (grown f told p s d) d.stands.revisions.long (log_of f told p s d) r log
-          (told_of told d.records (λ c. IsLogged (with_all c p.batch) r log) d.tells found) low in
+      (told_of told d.records (λ c. IsLogged (with_all c p.batch) r log) d.tells found) low in
       (t.0, t.3, sym is.0)
 
 -- the place of a revision is below the count

@@ -27,10 +27,7 @@ fn text_of(alloc: Global, roster: &Roster) -> Result<Bytes, NoMemory>
 }
 
 /// The manifest of a revision's tree; UnknownRevision where the log has no such id.
-pub fn get_manifest_of<K: Keeper>(
-    draft: &mut Draft<'_, K>,
-    id: Id,
-) -> Result<Bytes, HistoryError>
+pub fn get_manifest_of<K: Keeper>(draft: &mut Draft<'_, K>, id: Id) -> Result<Bytes, HistoryError>
     ensures same_reference { draft.new.keeper.ghost_name ≡ draft.old.keeper.ghost_name }
     ensures stays { Stays K.contents K.leaves K.faults draft.old.keeper.now draft.new.keeper.now }
     ensures pending { draft.new.pending ≡ draft.old.pending }
