@@ -13,9 +13,16 @@ Commands:
   get_file FILE        prints the bytes of the file with this id
   get_revision REV     prints the text of the revision with this id
   get_manifest_of REV  prints the manifest of its tree
+  get_content_changed REV PATH
+                       prints the ids of the revisions that last changed the
+                       content of the file at PATH
+  get_corresponding_path REV PATH REV
+                       prints where the node at PATH of the first revision
+                       stands in the second, or nothing where it is not there
 
 FILE is the id of a file, REV that of a revision: 40 lower-case hexadecimal
-digits, the SHA-1 of its bytes, of its text.
+digits, the SHA-1 of its bytes, of its text. PATH is components joined by `/`,
+the root the empty word.
 
   mtn --help     prints this
   mtn --version  prints the version

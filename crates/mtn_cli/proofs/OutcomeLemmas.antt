@@ -3,10 +3,12 @@ use Rattle.std.proofs.Common.{◌≡◌, ℕ, List, Option, Some, None, sym, ap,
 use Rattle.mtn_model.specs.State.{State}
 use Rattle.mtn_log.specs.Lawful.{IsLawful}
 use Rattle.mtn_cli.specs.declared.command.Call.{Call}
-use Rattle.mtn_cli.specs.declared.command.Call.TheVariants.{PutFile, GetFile, GetRevision, GetManifestOf}
+use Rattle.mtn_cli.specs.declared.command.Call.TheVariants.{PutFile, GetFile, GetRevision, GetManifestOf, GetContentChanged, GetCorrespondingPath}
 use Rattle.mtn_growth.specs.History.{Revision}
 use Rattle.mtn_log.proofs.Histories.{one_history}
 use Rattle.mtn_views.specs.Answers.{Answer}
+use Rattle.mtn_views.specs.Views.{IsContentChanged, corresponding_at}
+use Rattle.mtn_views.proofs.Unique.{one_content}
 use Rattle.mtn_cli.specs.Step.{Outcome, Steps, Tells, SessionOf, takes_payload, fed, told}
 
 -- a question has one outcome, where it has one answer over a history
@@ -21,6 +23,8 @@ one_of_step f s PutFile payload o p lawful is also = is ∙ sym also
 one_of_step f s (GetFile id) payload o p lawful is also = is ∙ sym also
 one_of_step f s (GetRevision id) payload o p lawful is also = is ∙ sym also
 one_of_step f s (GetManifestOf id) payload o p lawful is also = one_told f s _ o p (λ h a b x y. x ∙ sym y) is also
+one_of_step f s (GetContentChanged id path) payload o p lawful is also = one_told f s (λ h answer. IsContentChanged h id path answer) o p (λ h a b x y. one_content h id path a b x y) is also
+one_of_step f s (GetCorrespondingPath id path other) payload o p lawful is also = one_told f s (λ h answer. answer ≡ corresponding_at h id path other) o p (λ h a b x y. x ∙ sym y) is also
 
 pub one_of_session : (f : List ℕ → List ℕ) (s : State) (call : Option Call) (input : List ℕ) (o p : Outcome) → IsLawful f s → SessionOf f call input s o → SessionOf f call input s p → o ≡ p
 one_of_session f s None input o p lawful is also = is ∙ sym also

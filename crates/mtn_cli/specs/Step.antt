@@ -13,10 +13,10 @@ use Rattle.mtn_history.specs.Texts.{text_under}
 use Rattle.mtn_growth.specs.History.{Revision}
 use Rattle.mtn_log.specs.Lawful.{IsHistory}
 use Rattle.mtn_views.specs.Answers.{Answer}
-use Rattle.mtn_views.specs.Views.{manifest_at}
+use Rattle.mtn_views.specs.Views.{manifest_at, corresponding_at, IsContentChanged}
 use Rattle.mtn_cli.specs.Calls.{call_of}
 use Rattle.mtn_cli.specs.declared.command.Call.{Call}
-use Rattle.mtn_cli.specs.declared.command.Call.TheVariants.{PutFile, GetFile, GetRevision, GetManifestOf}
+use Rattle.mtn_cli.specs.declared.command.Call.TheVariants.{PutFile, GetFile, GetRevision, GetManifestOf, GetContentChanged, GetCorrespondingPath}
 use Rattle.mtn_cli.specs.declared.status.Status.{Status}
 use Rattle.mtn_cli.specs.declared.status.Status.TheVariants as status
 
@@ -75,6 +75,8 @@ Steps f PutFile payload s o = o ≡ unless (file_refusal f s payload) s (with_fi
 Steps f (GetFile id) payload s o = o ≡ found (UnknownFile id) s (get s.files id.0)
 Steps f (GetRevision id) payload s o = o ≡ found (UnknownRevision id) s (text_under s.log id.0)
 Steps f (GetManifestOf id) payload s o = Tells f s (λ h answer. answer ≡ manifest_at h id) o
+Steps f (GetContentChanged id path) payload s o = Tells f s (λ h answer. IsContentChanged h id path answer) o
+Steps f (GetCorrespondingPath id path other) payload s o = Tells f s (λ h answer. answer ≡ corresponding_at h id path other) o
 
 abbrev pub usage_line : List ℕ
 usage_line = codes "usage" ++ 10 ∷ []
@@ -85,6 +87,8 @@ takes_payload PutFile = true
 takes_payload (GetFile id) = false
 takes_payload (GetRevision id) = false
 takes_payload (GetManifestOf id) = false
+takes_payload (GetContentChanged id path) = false
+takes_payload (GetCorrespondingPath id path other) = false
 
 -- whether the source is read
 abbrev pub reads : Option Call → Bool

@@ -1,10 +1,11 @@
 // The commands, and the words of each.
 ghost use Rattle.std.specs.Prelude.{◌≡◌, IfOk, is_some};
-ghost use Rattle.mtn_cli.specs.Calls.{call_named as call_by_name, call_of, no_words as nothing, one_id as id_of};
+ghost use Rattle.mtn_base.specs.Hex.{read_id};
+ghost use Rattle.mtn_cli.specs.Calls.{call_named as call_by_name, call_of, content_changed as content_call, corresponding_path as corresponding_call, no_words as nothing, one_id as id_of, read_path as path_of};
 ghost use Rattle.mtn_cli.specs.Words.{Reads};
 
 use crate::words::{WordsError, step_words};
-use mtn_base::{Bytes, Id, NoMemory};
+use mtn_base::{Bytes, Id, NoMemory, Path, PathError};
 use std::alloc::Global;
 
 /// A command with its words read.
@@ -18,6 +19,10 @@ pub enum Call {
     GetRevision { id: Id },
     /// `get_manifest_of ID`: answers the manifest of a revision's tree.
     GetManifestOf { id: Id },
+    /// `get_content_changed ID PATH`: answers the marks of a file's content.
+    GetContentChanged { id: Id, path: Path },
+    /// `get_corresponding_path ID PATH ID`: answers where the node at a path stands in another revision.
+    GetCorrespondingPath { id: Id, path: Path, other: Id },
 }
 
 impl Call {
@@ -31,6 +36,8 @@ impl Call {
             Call::PutFile => true,
             Call::GetFile { .. } | Call::GetRevision { .. } => false,
             Call::GetManifestOf { .. } => false,
+            Call::GetContentChanged { .. } => false,
+            Call::GetCorrespondingPath { .. } => false,
         }
     }
 }
@@ -44,7 +51,7 @@ pub fn read_words(alloc: Global, words: &[Bytes]) -> Result<Call, WordsError>
         return Err(WordsError::Usage);
     }
     match std::str::from_utf8(command.name.as_slice()) {
-        Ok(name) => call_named(name, command.positionals.as_slice()),
+        Ok(name) => call_named(alloc, name, command.positionals.as_slice()),
         Err(_) => Err(WordsError::Usage),
     }
 }
@@ -61,7 +68,7 @@ pub fn are_words(alloc: Global, words: &[Bytes]) -> Result<bool, NoMemory>
 }
 
 // A command that takes no option.
-fn call_named(name: &str, words: &[Bytes]) -> Result<Call, WordsError>
+fn call_named(alloc: Global, name: &str, words: &[Bytes]) -> Result<Call, WordsError>
     ensures { Reads (call_by_name name.now words.now) result }
 {
     match name {
@@ -69,6 +76,8 @@ fn call_named(name: &str, words: &[Bytes]) -> Result<Call, WordsError>
         "get_file" => one_id(words).map(|id| Call::GetFile { id }),
         "get_revision" => one_id(words).map(|id| Call::GetRevision { id }),
         "get_manifest_of" => one_id(words).map(|id| Call::GetManifestOf { id }),
+        "get_content_changed" => content_changed(alloc, words),
+        "get_corresponding_path" => corresponding_path(alloc, words),
         _ => Err(WordsError::Usage),
     }
 }
@@ -87,6 +96,52 @@ fn one_id(words: &[Bytes]) -> Result<Id, WordsError>
 {
     match words {
         [word] => Id::read_hex(word.as_slice()).ok_or(WordsError::Usage),
+        _ => Err(WordsError::Usage),
+    }
+}
+
+fn id_word(word: &Bytes) -> Result<Id, WordsError>
+    ensures { Reads (read_id word.now) result }
+{
+    Id::read_hex(word.as_slice()).ok_or(WordsError::Usage)
+}
+
+fn path_word(alloc: Global, word: &Bytes) -> Result<Path, WordsError>
+    ensures { Reads (path_of word.now) result }
+{
+    match Path::read(alloc, word.as_slice()) {
+        Ok(path) => Ok(path),
+        Err(PathError::Empty) => Err(WordsError::Usage),
+        Err(PathError::Dots) => Err(WordsError::Usage),
+        Err(PathError::TooLong) => Err(WordsError::Usage),
+        Err(PathError::BadByte) => Err(WordsError::Usage),
+        Err(PathError::NoMemory) => Err(WordsError::NoMemory),
+    }
+}
+
+fn content_changed(alloc: Global, words: &[Bytes]) -> Result<Call, WordsError>
+    ensures { Reads (content_call words.now) result }
+{
+    match words {
+        [id, path] => {
+            let id = id_word(id)?;
+            let path = path_word(alloc, path)?;
+            Ok(Call::GetContentChanged { id, path })
+        }
+        _ => Err(WordsError::Usage),
+    }
+}
+
+fn corresponding_path(alloc: Global, words: &[Bytes]) -> Result<Call, WordsError>
+    ensures { Reads (corresponding_call words.now) result }
+{
+    match words {
+        [id, path, other] => {
+            let id = id_word(id)?;
+            let path = path_word(alloc, path)?;
+            let other = id_word(other)?;
+            Ok(Call::GetCorrespondingPath { id, path, other })
+        }
         _ => Err(WordsError::Usage),
     }
 }

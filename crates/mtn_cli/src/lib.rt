@@ -13,6 +13,8 @@
 mod answer;
 mod command;
 mod deliver;
+mod get_content_changed;
+mod get_corresponding_path;
 mod get_file;
 mod get_manifest_of;
 mod get_revision;

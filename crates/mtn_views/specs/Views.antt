@@ -63,13 +63,13 @@ abbrev pub kind_word : Body → List ℕ
 kind_word Dir = codes "dir"
 kind_word (File content) = codes "file"
 
--- `dir` or `file` with the path of a node
-abbrev pub path_stanza : Tree → Entry → List LineText
-path_stanza t e = line_of (kind_word e.body) (Text (path_text (path_of t e)) ∷ []) ∷ []
+-- `dir` or `file` with a path
+abbrev pub path_stanza : Body → List ℕ → List LineText
+path_stanza body path = line_of (kind_word body) (Text path ∷ []) ∷ []
 
 -- nothing where the tree has no such node
 abbrev pub node_text : Tree → NodeName → List ℕ
-node_text t n = option_map_or (λ e. spelling (path_stanza t e ∷ [])) (entry_of t n) []
+node_text t n = option_map_or (λ e. spelling (path_stanza e.body (path_text (path_of t e)) ∷ [])) (entry_of t n) []
 
 -- where the node at a path of one revision stands in another
 abbrev pub corresponding_at : List Revision → Id → List (List ℕ) → Id → Answer

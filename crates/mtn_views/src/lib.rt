@@ -10,6 +10,13 @@
 //! printed.
 #![tactic(auto)]
 
+mod content;
+mod corresponding;
 mod manifest;
 
+pub use content::get_content_changed;
+pub use corresponding::get_corresponding_path;
 pub use manifest::get_manifest_of;
+
+#[cfg(test)]
+mod tests;
