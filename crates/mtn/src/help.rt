@@ -20,6 +20,21 @@ Commands:
                        prints where the node at PATH of the first revision
                        stands in the second, or nothing where it is not there
 
+Queries of the graph; each prints ids, one a line, in ascending order unless it
+says log order, which is that of acceptance:
+  parents REV                     its parents
+  children REV                    the revisions that have it as a parent
+  ancestors REV..                 the proper ancestors of at least one
+  descendents REV..               the proper descendents of at least one
+  common_ancestors REV..          what is each of these or an ancestor of it
+  erase_ancestors [REV..]         those that are proper ancestors of no other
+  toposort [REV..]                these in log order
+  ancestry_difference REV [REV..] the first and its ancestors, without the others
+                                  and theirs, in log order
+  leaves                          the revisions without children
+  roots                           the revisions without parents
+  graph                           a line for each revision: its id, its parents
+
 FILE is the id of a file, REV that of a revision: 40 lower-case hexadecimal
 digits, the SHA-1 of its bytes, of its text. PATH is components joined by `/`,
 the root the empty word.

@@ -16,7 +16,12 @@ use Rattle.mtn_views.specs.Answers.{Answer}
 use Rattle.mtn_views.specs.Views.{manifest_at, corresponding_at, IsContentChanged}
 use Rattle.mtn_cli.specs.Calls.{call_of}
 use Rattle.mtn_cli.specs.declared.command.Call.{Call}
-use Rattle.mtn_cli.specs.declared.command.Call.TheVariants.{PutFile, GetFile, GetRevision, GetManifestOf, GetContentChanged, GetCorrespondingPath}
+use Rattle.mtn_cli.specs.declared.command.Call.TheVariants.{PutFile, GetFile, GetRevision, GetManifestOf, GetContentChanged, GetCorrespondingPath, Ask, Graph}
+use Rattle.mtn_queries.specs.Lines.{IsGraph}
+use Rattle.mtn_queries.specs.Queries.{IsAnswer, first_unknown, ids_of}
+use Rattle.mtn_queries.specs.declared.query.Line.{Line}
+use Rattle.mtn_queries.specs.declared.query.Query.{Query}
+use Rattle.std.specs.List.{flat_map}
 use Rattle.mtn_cli.specs.declared.status.Status.{Status}
 use Rattle.mtn_cli.specs.declared.status.Status.TheVariants as status
 
@@ -68,6 +73,27 @@ pub record Tells (f : List ℕ → List ℕ) (s : State) (Is : List Revision →
   pub is : Is history answer
   pub outcome : o ≡ told s answer
 
+-- ids, one a line
+abbrev pub id_lines : List Id → List ℕ
+id_lines ids = flat_map (λ (id : Id). id_line id.0) ids
+
+-- what a query of a history is answered with: the refusal of an unknown id, if there is one, and else its ids
+abbrev pub Asked : List Revision → Query → State → Option Id → Outcome → Type 0
+Asked h query s (Some id) o = o ≡ refused (UnknownRevision id) s
+Asked h query s None o = (ids : List Id) × IsAnswer h query ids × (o ≡ done s (id_lines ids))
+
+-- a revision's id and its parents', with one space before each, and LF
+abbrev pub line_text : Line → List ℕ
+line_text line = encode_lower line.id.0 ++ flat_map (λ (parent : Id). 32 ∷ encode_lower parent.0) line.parents ++ 10 ∷ []
+
+-- what the graph of a history is answered with
+abbrev pub Graphed : List Revision → State → Outcome → Type 0
+Graphed h s o = (lines : List Line) × IsGraph h lines × (o ≡ done s (flat_map line_text lines))
+
+-- a fact of the history that the log of a state spells
+abbrev pub OfHistory : (List ℕ → List ℕ) → State → (List Revision → Type 0) → Type 0
+OfHistory f s P = (h : List Revision) × IsHistory f s.files s.log h × P h
+
 -- The outcome of a command over a state, one line a command; f is what the ident makes of a text. A lawful state has one
 -- (`one_outcome`).
 abbrev pub Steps : (List ℕ → List ℕ) → Call → List ℕ → State → Outcome → Type 0
@@ -77,6 +103,8 @@ Steps f (GetRevision id) payload s o = o ≡ found (UnknownRevision id) s (text_
 Steps f (GetManifestOf id) payload s o = Tells f s (λ h answer. answer ≡ manifest_at h id) o
 Steps f (GetContentChanged id path) payload s o = Tells f s (λ h answer. IsContentChanged h id path answer) o
 Steps f (GetCorrespondingPath id path other) payload s o = Tells f s (λ h answer. answer ≡ corresponding_at h id path other) o
+Steps f (Ask query) payload s o = OfHistory f s (λ h. Asked h query s (first_unknown h (ids_of query)) o)
+Steps f Graph payload s o = OfHistory f s (λ h. Graphed h s o)
 
 abbrev pub usage_line : List ℕ
 usage_line = codes "usage" ++ 10 ∷ []
@@ -89,6 +117,8 @@ takes_payload (GetRevision id) = false
 takes_payload (GetManifestOf id) = false
 takes_payload (GetContentChanged id path) = false
 takes_payload (GetCorrespondingPath id path other) = false
+takes_payload (Ask query) = false
+takes_payload Graph = false
 
 -- whether the source is read
 abbrev pub reads : Option Call → Bool

@@ -1,11 +1,12 @@
 // The commands, and the words of each.
 ghost use Rattle.std.specs.Prelude.{◌≡◌, IfOk, is_some};
+ghost use Rattle.mtn_cli.specs.Calls.{call_named as call_by_name, call_of, content_changed as content_call, corresponding_path as corresponding_call, id_and_ids, ids as ids_of, no_words as nothing, one_id as id_of, query_named as query_by_name, read_path as path_of, some_ids as some_of};
 ghost use Rattle.mtn_base.specs.Hex.{read_id};
-ghost use Rattle.mtn_cli.specs.Calls.{call_named as call_by_name, call_of, content_changed as content_call, corresponding_path as corresponding_call, no_words as nothing, one_id as id_of, read_path as path_of};
 ghost use Rattle.mtn_cli.specs.Words.{Reads};
 
 use crate::words::{WordsError, step_words};
-use mtn_base::{Bytes, Id, NoMemory, Path, PathError};
+use mtn_base::{Bytes, Id, List, NoMemory, Path, PathError};
+use mtn_queries::Query;
 use std::alloc::Global;
 
 /// A command with its words read.
@@ -23,6 +24,10 @@ pub enum Call {
     GetContentChanged { id: Id, path: Path },
     /// `get_corresponding_path ID PATH ID`: answers where the node at a path stands in another revision.
     GetCorrespondingPath { id: Id, path: Path, other: Id },
+    /// A query of the graph: answers ids.
+    Ask { query: Query },
+    /// `graph`: answers each revision with its parents.
+    Graph,
 }
 
 impl Call {
@@ -38,6 +43,7 @@ impl Call {
             Call::GetManifestOf { .. } => false,
             Call::GetContentChanged { .. } => false,
             Call::GetCorrespondingPath { .. } => false,
+            Call::Ask { .. } | Call::Graph => false,
         }
     }
 }
@@ -78,6 +84,25 @@ fn call_named(alloc: Global, name: &str, words: &[Bytes]) -> Result<Call, WordsE
         "get_manifest_of" => one_id(words).map(|id| Call::GetManifestOf { id }),
         "get_content_changed" => content_changed(alloc, words),
         "get_corresponding_path" => corresponding_path(alloc, words),
+        "graph" => no_words(words).map(|()| Call::Graph),
+        _ => query_named(alloc, name, words).map(|query| Call::Ask { query }),
+    }
+}
+
+fn query_named(alloc: Global, name: &str, words: &[Bytes]) -> Result<Query, WordsError>
+    ensures { Reads (query_by_name name.now words.now) result }
+{
+    match name {
+        "parents" => one_id(words).map(|of| Query::Parents { of }),
+        "children" => one_id(words).map(|of| Query::Children { of }),
+        "ancestors" => some_ids(alloc, words).map(|of| Query::Ancestors { of }),
+        "descendents" => some_ids(alloc, words).map(|of| Query::Descendents { of }),
+        "common_ancestors" => common_ancestors(alloc, words),
+        "erase_ancestors" => ids(alloc, words).map(|of| Query::EraseAncestors { of }),
+        "toposort" => ids(alloc, words).map(|of| Query::Toposort { of }),
+        "ancestry_difference" => ancestry_difference(alloc, words),
+        "leaves" => no_words(words).map(|()| Query::Leaves),
+        "roots" => no_words(words).map(|()| Query::Roots),
         _ => Err(WordsError::Usage),
     }
 }
@@ -100,7 +125,7 @@ fn one_id(words: &[Bytes]) -> Result<Id, WordsError>
     }
 }
 
-fn id_word(word: &Bytes) -> Result<Id, WordsError>
+fn id_of_word(word: &Bytes) -> Result<Id, WordsError>
     ensures { Reads (read_id word.now) result }
 {
     Id::read_hex(word.as_slice()).ok_or(WordsError::Usage)
@@ -124,7 +149,7 @@ fn content_changed(alloc: Global, words: &[Bytes]) -> Result<Call, WordsError>
 {
     match words {
         [id, path] => {
-            let id = id_word(id)?;
+            let id = id_of_word(id)?;
             let path = path_word(alloc, path)?;
             Ok(Call::GetContentChanged { id, path })
         }
@@ -137,11 +162,52 @@ fn corresponding_path(alloc: Global, words: &[Bytes]) -> Result<Call, WordsError
 {
     match words {
         [id, path, other] => {
-            let id = id_word(id)?;
+            let id = id_of_word(id)?;
             let path = path_word(alloc, path)?;
-            let other = id_word(other)?;
+            let other = id_of_word(other)?;
             Ok(Call::GetCorrespondingPath { id, path, other })
         }
         _ => Err(WordsError::Usage),
     }
+}
+
+fn ids(alloc: Global, words: &[Bytes]) -> Result<List<Id>, WordsError>
+    ensures { Reads (ids_of words.now) result }
+{
+    let mut ids = List::new(alloc);
+    for word in words {
+        ids.push(id_of_word(word)?)?;
+    }
+    Ok(ids)
+}
+
+fn some_ids(alloc: Global, words: &[Bytes]) -> Result<List<Id>, WordsError>
+    ensures { Reads (some_of words.now) result }
+{
+    match words {
+        [] => Err(WordsError::Usage),
+        _ => ids(alloc, words),
+    }
+}
+
+fn common_ancestors(alloc: Global, words: &[Bytes]) -> Result<Query, WordsError>
+    ensures { Reads (id_and_ids Query.CommonAncestors words.now) result }
+{
+    let [word, rest @ ..] = words else {
+        return Err(WordsError::Usage);
+    };
+    let of = id_of_word(word)?;
+    let others = ids(alloc, rest)?;
+    Ok(Query::CommonAncestors { of, others })
+}
+
+fn ancestry_difference(alloc: Global, words: &[Bytes]) -> Result<Query, WordsError>
+    ensures { Reads (id_and_ids Query.AncestryDifference words.now) result }
+{
+    let [word, rest @ ..] = words else {
+        return Err(WordsError::Usage);
+    };
+    let of = id_of_word(word)?;
+    let without = ids(alloc, rest)?;
+    Ok(Query::AncestryDifference { of, without })
 }

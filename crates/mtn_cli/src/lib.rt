@@ -11,6 +11,7 @@
 #![tactic(auto)]
 
 mod answer;
+mod ask;
 mod command;
 mod deliver;
 mod get_content_changed;

@@ -9,6 +9,7 @@ ghost use Rattle.mtn_ports.specs.Causes.{Rose};
 ghost use Rattle.mtn_cli.specs.Performs.{Drafts, Performs};
 
 use crate::answer::{Answer, Reply};
+use crate::ask::{ask, graph};
 use crate::command::{Call, read_words};
 use crate::deliver::deliver;
 use crate::get_content_changed::get_content_changed;
@@ -51,6 +52,8 @@ fn on_draft<R: Threads + Sync, I: Ident, K: Keeper>(
         Call::GetCorrespondingPath { id, path, other } => {
             get_corresponding_path(ident, *id, path, *other, payload, draft)
         }
+        Call::Ask { query } => ask(alloc, ident, query, payload, draft),
+        Call::Graph => graph(alloc, ident, payload, draft),
     }
 }
 

@@ -14,7 +14,8 @@ use Rattle.mtn_history.specs.declared.errors.StoreError.{StoreError}
 use Rattle.mtn_history.specs.declared.errors.StoreError.TheVariants.{Failed, Damaged, NoMemory}
 use Rattle.mtn_history.specs.declared.errors.Damage.TheVariants.{Bad, Missing}
 use Rattle.mtn_history.specs.Errors.{IfDamage}
-use Rattle.mtn_history.specs.Logs.{IsLogged, UnloggedAt, RepeatedAt, IsHeldAt, WrongBelow, IsReadTo, Tells}
+use Rattle.mtn_history.specs.Logs.{IsLogged, UnloggedAt, RepeatedAt, IsHeldAt, WrongBelow, IsReadTo}
+use Rattle.mtn_log.specs.Graphs.{Tells}
 use Rattle.mtn_log.proofs.Histories.{Place, in_front, at_back, place, kept_at, last_at}
 use Rattle.mtn_log.proofs.Places.{inside, within}
 use Rattle.mtn_growth.specs.History.{Revision, IsGrown}
@@ -110,6 +111,10 @@ module _ (c : Contents) (h : List Revision) (ks : List Kept) (grown : IsGrown h)
       let k = within ks r (subst (λ n. r < n) (sym long) lt) in
       let b = logged.each r v.0 k.0 v.1 k.1 in
       (v.0, k.0, b.0, v.1, b.1, b.2)
+
+  pub there_kept : (r : ℕ) (lt : r < length h) → slice_get ks r ≡ Some (there r lt).1
+  unfolding there
+  there_kept r lt = (within ks r (subst (λ n. r < n) (sym long) lt)).1
 
   never_unlogged : (r : ℕ) (d : Damage) → r < length h → UnloggedAt c r d → ⊥
   never_unlogged r (Bad table key body) lt wrong =

@@ -81,7 +81,7 @@ unplaced_damage None p e some wrong = tt
 unplaced_damage (Some c) p Failed some wrong = λ counts. tt
 unplaced_damage (Some c) p NoMemory some wrong = λ counts. tt
 unplaced_damage (Some c) p (Damaged d) some wrong = λ counts.
-    inr (inr (inr (inr (inl (record { count = p.count; counted = counted_some p.is_new (with_all c p.batch) p.count counts some; wrong = wrong })))))
+    inr (inr (inr (inr (inl (record { meta = record { count = p.count; is_new = p.is_new }; read = counts; wrong = wrong })))))
 
 -- a fact of told records, after calls that only read
 on_same : (mid new : Option Contents) (P : Contents → Type 0) → Same mid new → IfSome mid P → (c : Contents) → new ≡ Some c → P c

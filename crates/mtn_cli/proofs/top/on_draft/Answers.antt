@@ -18,3 +18,9 @@ returns-in-GetContentChanged-clause-drafts g c = rw c.in-GetContentChanged.is c.
 
 pub returns-in-GetCorrespondingPath-clause-drafts : goal.returns-in-GetCorrespondingPath-clause-drafts
 returns-in-GetCorrespondingPath-clause-drafts g c = rw c.in-GetCorrespondingPath.is c.get_corresponding_path.ensures.drafts
+
+pub returns-in-Ask-clause-drafts : goal.returns-in-Ask-clause-drafts
+returns-in-Ask-clause-drafts g c = rw c.in-Ask.is c.ask.ensures.drafts
+
+pub returns-in-Graph-clause-drafts : goal.returns-in-Graph-clause-drafts
+returns-in-Graph-clause-drafts g c = rw c.in-Graph.is c.graph.ensures.drafts
