@@ -8,6 +8,7 @@ ghost use Rattle.mtn_base.specs.Names.{same_bytes, bytes_cmp, name_cmp};
 ghost use Rattle.mtn_roster.specs.Tree.{ordered, in_order};
 ghost use Rattle.mtn_roster.specs.Building.{NamesDiffer, KeysDiffer, with_keys_in_order};
 
+use crate::keys::arrange;
 use crate::{Attr, Entry};
 use mtn_base::{List, NoMemory};
 use std::alloc::{AllocError, AllocFailed, Global};
@@ -117,12 +118,30 @@ fn names_ascend(entries: &[Entry]) -> bool
     entries.is_sorted_by(|first, second| first.name.compare(&second.name).is_lt())
 }
 
+/// Whether the names of the first half ascend.
+fn first_half_ascends(entries: &[Entry]) -> bool {
+    names_ascend(&entries[..entries.len() / 2])
+}
+
+/// Puts entries in the order of their keys, unless the first half ascends: that sorts faster by runs.
+fn arrange_unless_half(alloc: Global, entries: &mut Vec<Entry>)
+    ensures { IsPermutation entries.old.items entries.new.items }
+{
+    if !first_half_ascends(entries) {
+        arrange(alloc, entries);
+    }
+}
+
 /// Puts entries in order by their names, and says whether these are apart. Where they ascend, as those of
-/// an earlier tree, one look tells it.
-pub fn sort_names(entries: &mut Vec<Entry>) -> bool
+/// an earlier tree, one look tells it; so it does once they stand by their keys.
+pub fn sort_names(alloc: Global, entries: &mut Vec<Entry>) -> bool
     ensures apart { IsTrue result ↔ NamesDiffer entries.old.items }
     ensures order { IsTrue result → entries.new.items ≡ in_order entries.old.items }
 {
+    if names_ascend(entries) {
+        return true;
+    }
+    arrange_unless_half(alloc, entries);
     if names_ascend(entries) {
         return true;
     }

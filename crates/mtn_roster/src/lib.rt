@@ -18,6 +18,7 @@ pub mod attrs;
 mod build;
 mod entry;
 mod index;
+mod keys;
 pub mod laws;
 mod roster;
 mod sane;
