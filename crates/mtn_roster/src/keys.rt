@@ -87,3 +87,6 @@ pub fn arrange(alloc: Global, entries: &mut [Entry])
     };
     bring(entries, &mut sources);
 }
+
+#[cfg(test)]
+mod tests;

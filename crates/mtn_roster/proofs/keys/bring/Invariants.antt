@@ -1,5 +1,4 @@
 -- The entries are those of the start in some order.
-use Rattle.std.proofs.Common.{◌≡◌}
 use Rattle.std.specs.List.Sorted.{IsPermutation}
 use Rattle.mtn_roster.proofs.keys.bring.Given as goal
 
