@@ -1,6 +1,6 @@
 -- A walk over a graph that is asked, from question to question.
 use Rattle.std.specs.Prelude.{max}
-use Rattle.std.proofs.Common.{◌↔◌, ℕ, suc, ◌+◌, ◌-◌, ◌<◌, ◌≤◌, List, Option, Some, None, sym, arith, subst}
+use Rattle.std.proofs.Common.{ℕ, suc, ◌+◌, ◌-◌, ◌<◌, ◌≤◌, List, Option, Some, None, sym, arith, subst}
 use Rattle.mtn_ancestry.specs.Ancestors.{ParentsAreEarlier, ReachesFrom}
 use Rattle.mtn_ancestry.specs.declared.frontier.Reach.{Reach}
 use Rattle.mtn_ancestry.specs.declared.frontier.Reach.TheVariants.{Left, Right, Both}
@@ -20,11 +20,11 @@ IsSpent spent bound low (Some next) = spent + suc next.0 ≤ bound
 pub record IsAsking (S : Type 0) (tells : S → ℕ → (ℕ → List ℕ) → Type 0) (asked : S → ℕ) (stays : S → S → Type 0)
     (start now : S) (left right : ℕ) (next : Option (ℕ × Reach)) (f : Pending) (found_left found_right : List ℕ) : Type 0 where
   pub order : IsOrderly next f found_left found_right
-  pub same : (count : ℕ) (parents : ℕ → List ℕ) → tells start count parents ↔ tells now count parents
+  pub same : (count : ℕ) (parents : ℕ → List ℕ) → tells now count parents → tells start count parents
   pub stayed : stays start now
-  pub walked : (count : ℕ) (parents : ℕ → List ℕ) (low : ℕ) → tells start count parents → ReachesFrom parents left right low →
+  pub walked : (count : ℕ) (parents : ℕ → List ℕ) (low : ℕ) → tells now count parents → ReachesFrom parents left right low →
       IsUnderWay parents left right low next f found_left found_right
-  pub spent : (count : ℕ) (parents : ℕ → List ℕ) (low : ℕ) → tells start count parents → ReachesFrom parents left right low →
+  pub spent : (count : ℕ) (parents : ℕ → List ℕ) (low : ℕ) → tells now count parents → ReachesFrom parents left right low →
       IsSpent (asked now - asked start) (max left right + 1) low next
 
 pub anywhere : (parents : ℕ → List ℕ) (a b : ℕ) → ReachesFrom parents a b 0

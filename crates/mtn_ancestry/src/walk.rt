@@ -49,14 +49,15 @@ pub trait Parents {
     // between this at a start and this now lies what this error was answered for
     ghost caused: { Self → Self → Self.Error → Type 0 };
 
-    /// The parents of a position, which must be in the graph where one is told.
+    /// The parents of a position, which must be in the graph where one is told. Whoever is asked may stop
+    /// telling, as after a failed read: what is told at the end was told at the start.
     fn parents(&mut self, at: Pos) -> Result<ParentList, Self::Error>
         requires { (count : ℕ) (graph : ℕ → List ℕ) → tells self.old count graph → at < count }
         ensures below { IfOk result (λ ps. (p : ℕ) → Contains (list_of ps) p → p < at) }
         ensures told { IfOk result (λ ps. (count : ℕ) (graph : ℕ → List ℕ) →
-            tells self.old count graph → list_of ps ≡ graph at) }
+            tells self.new count graph → list_of ps ≡ graph at) }
         ensures same_graph { (count : ℕ) (graph : ℕ → List ℕ) →
-            tells self.old count graph ↔ tells self.new count graph }
+            tells self.new count graph → tells self.old count graph }
         ensures count { asked self.new ≤ asked self.old + 1 }
         ensures stays { stays self.old self.new }
         ensures caused { IfErr result (caused self.old self.new) };
@@ -156,8 +157,9 @@ fn ascending(alloc: Global, mut items: Vec<Pos>) -> Result<PosSet, NoMemory>
 
 /// The uncommon positions of two: the ancestors of `left` that are none of `right`, and the reverse.
 ///
-/// Where a graph is told, no position below the least of the uncommon ones and their parents is asked for,
-/// and none twice. So for W positions from there up to the greater of the two, this takes W log W steps.
+/// What is told at the end was told at the start, and the answer is about the graph that is told at the end.
+/// Where one is, no position below the least of the uncommon ones and their parents is asked for, and none
+/// twice. So for W positions from there up to the greater of the two, this takes W log W steps.
 /// It answers `Asked` only with an error that the graph answered in this call.
 pub fn uncommon<P: Parents>(
     alloc: Global,
@@ -168,13 +170,13 @@ pub fn uncommon<P: Parents>(
     requires { (count : ℕ) (parents : ℕ → List ℕ) →
         P.tells graph.old count parents → (left < count) × (right < count) }
     ensures left { IfOk result (λ sets. (count : ℕ) (parents : ℕ → List ℕ) →
-        P.tells graph.old count parents → IsAscendingListOf (IsUncommon parents left right) sets.0) }
+        P.tells graph.new count parents → IsAscendingListOf (IsUncommon parents left right) sets.0) }
     ensures right { IfOk result (λ sets. (count : ℕ) (parents : ℕ → List ℕ) →
-        P.tells graph.old count parents → IsAscendingListOf (IsUncommon parents right left) sets.1) }
+        P.tells graph.new count parents → IsAscendingListOf (IsUncommon parents right left) sets.1) }
     ensures same_graph { (count : ℕ) (parents : ℕ → List ℕ) →
-        P.tells graph.old count parents ↔ P.tells graph.new count parents }
+        P.tells graph.new count parents → P.tells graph.old count parents }
     ensures count { (count : ℕ) (parents : ℕ → List ℕ) (low : ℕ) →
-        P.tells graph.old count parents → ReachesFrom parents left right low →
+        P.tells graph.new count parents → ReachesFrom parents left right low →
         P.asked graph.new ≤ P.asked graph.old + (max left right + 1 - low) }
     ensures stays { P.stays graph.old graph.new }
     ensures caused { IfErr result (λ e. IfAsked e (P.caused graph.old graph.new)) }

@@ -186,6 +186,9 @@ module _ {X K : Type 0} (cmp : K → K → Ordering) (key : X → K) where
   ordered_long [] = omega arith
   ordered_long (x ∷ xs) = omega (arith, placed_long x (ordered cmp key xs), ordered_long xs)
 
+pub walk_long : (t : Tree) → length (by_path t) ≤ length t
+walk_long t = ordered_long path_cmp (path_of t) t
+
 pub fresh_long : (known : List Entries) (t : Tree) → length (fresh known t) ≤ length t
 fresh_long known t =
     omega (arith, filter_long (λ n. not (is_some (number_among (all_of known) n))) (tree_names (by_path t)), long_map (λ (e : Entry). e.name) (by_path t), ordered_long path_cmp (path_of t) t)

@@ -127,6 +127,11 @@ met_more w i e at =
     let g = got_at w i e at in
     ap tree_names (take_more w i e g.0 ∙ ap (λ z. take i w ++ z ∷ []) (sym g.1)) ∙ map-snoc (λ (x : Entry). x.name) (take i w) e
 
+-- the next number at the end of the walk
+pub all_met : (known : List Entries) (next : ℕ) (t : Tree) (ns : List ℕ) (free i : ℕ) → length (by_path t) ≤ i →
+    AreFilled (all_of known) next (tree_names t) (tree_names (take i (by_path t))) ns free → free ≡ next + length (fresh known t)
+all_met known next t ns free i le h = h.next_is ∙ ap (λ l. next + length (unnumbered (all_of known) (tree_names l))) (take_past (by_path t) i le)
+
 -- all nodes have their numbers at the end of the walk
 pub all_filled : (known : List Entries) (next : ℕ) (t : Tree) (ns : List ℕ) (free i : ℕ) → IsSane t → length (by_path t) ≤ i → length ns ≡ length t →
     AreFilled (all_of known) next (tree_names t) (tree_names (take i (by_path t))) ns free → HaveNumbers known next t ns

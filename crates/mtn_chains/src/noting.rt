@@ -1,5 +1,5 @@
 // The numbers of a tree's nodes, by their places.
-ghost use Rattle.std.specs.Prelude.{◌≡◌, ◌<◌, ◌+◌, ◌-◌, ◌^◌, ◌++◌, ◌∷◌, [], ℕ, List, map, length, slice_get, slice_index, Some, Contains, IfOk, IsTrue};
+ghost use Rattle.std.specs.Prelude.{◌≡◌, ◌<◌, ◌≤◌, ◌+◌, ◌-◌, ◌^◌, ◌++◌, ◌∷◌, [], ℕ, List, map, length, slice_get, slice_index, Some, Contains, IfOk, IsTrue};
 ghost use Rattle.mtn_base.specs.Names.{name_cmp};
 ghost use Rattle.mtn_base.specs.declared.name.NodeName.{NodeName};
 ghost use Rattle.mtn_marking.specs.declared.node.NodeMarks.{NodeMarks};
@@ -52,9 +52,8 @@ fn note(numbers: &mut [u64], marks: &MarkMap, entries: &[NumberedEntry])
 
 /// The numbers that nodes have already.
 fn known_numbers(alloc: Global, marks: &MarkMap, known: &[Numbered]) -> Result<Vec<u64>, NoMemory>
-    requires { AreOne (all_of known.now) }
     ensures long { IfOk result (λ v. length v.items ≡ length marks.now) }
-    ensures noted { IfOk result (λ v. AreNoted (all_of known.now) (map (λ (m : NodeMarks). m.name) marks.now) v.items) }
+    ensures noted { AreOne (all_of known.now) → IfOk result (λ v. AreNoted (all_of known.now) (map (λ (m : NodeMarks). m.name) marks.now) v.items) }
 {
     let mut numbers = zeros(alloc, marks.len() as usize)?;
     for list in known {
@@ -67,7 +66,8 @@ fn known_numbers(alloc: Global, marks: &MarkMap, known: &[Numbered]) -> Result<V
 fn fill_one(numbers: &mut [u64], place: usize, next: u64) -> u64
     requires within { place < length numbers.old }
     requires room { next < 2 ^ 64 - 1 }
-    ensures { (es : Entries) (first : ℕ) (names met : List NodeName) (n : NodeName) → 0 < first → IsTrue (rises name_cmp names) → slice_get names place ≡ Some n →
+    ensures most { result ≤ next + 1 }
+    ensures filled { (es : Entries) (first : ℕ) (names met : List NodeName) (n : NodeName) → 0 < first → IsTrue (rises name_cmp names) → slice_get names place ≡ Some n →
         (Contains met n → ⊥) → AreFilled es first names met numbers.old next → AreFilled es first names (met ++ n ∷ []) numbers.new result }
 {
     if numbers[place] != 0 {
@@ -77,16 +77,17 @@ fn fill_one(numbers: &mut [u64], place: usize, next: u64) -> u64
     next + 1
 }
 
-/// The number of each node: its own, or the next ones as the walk meets them.
+/// The number of each node: its own, or the next ones as the walk meets them; and the next after these.
 pub fn numbers_of(
     alloc: Global,
     roster: &MarkedRoster,
     known: &[Numbered],
     next: u64,
-) -> Result<Vec<u64>, NoMemory>
-    requires known { AreKnown known.now next }
-    requires room { next + length (fresh known.now roster.now.tree) < 2 ^ 63 }
-    ensures { IfOk result (λ v. HaveNumbers known.now next roster.now.tree v.items) }
+) -> Result<(Vec<u64>, u64), NoMemory>
+    requires room { next + length roster.now.tree < 2 ^ 63 }
+    ensures long { IfOk result (λ r. length r.0.items ≡ length roster.now.tree) }
+    ensures numbers { AreKnown known.now next → IfOk result (λ r. HaveNumbers known.now next roster.now.tree r.0.items) }
+    ensures next { AreKnown known.now next → IfOk result (λ r. r.1 ≡ next + length (fresh known.now roster.now.tree)) }
 {
     let mut numbers = known_numbers(alloc, roster.marks(), known)?;
     let tree = roster.roster();
@@ -96,5 +97,5 @@ pub fn numbers_of(
     for stop in &stops {
         free = fill_one(&mut numbers, stop.place, free);
     }
-    Ok(numbers)
+    Ok((numbers, free))
 }

@@ -142,23 +142,22 @@ fn numbered_entries(
 }
 
 /// The entries of a marked tree, by ascending numbers: known nodes keep their numbers, and new ones get `next`, `next + 1`
-/// and so on, as the walk meets them. Known numbers are to be from 1 and below `next`, one for each node, and the last new
-/// number below 2^63.
+/// and so on, as the walk meets them; and the least number that is free then. This is so where the known numbers are from 1 and below `next`, one for each node; the
+/// numbers of other lists are no one's promise.
 pub fn number(
     alloc: Global,
     roster: &MarkedRoster,
     known: &[Numbered],
     next: u64,
-) -> Result<Numbered, NoMemory>
-    requires known { AreKnown known.now next }
-    requires room { next + length (fresh known.now roster.now.tree) < 2 ^ 63 }
-    ensures { IfOk result (IsNumbering known.now next roster.now) }
+) -> Result<(Numbered, u64), NoMemory>
+    requires room { next + length roster.now.tree < 2 ^ 63 }
+    ensures numbers { AreKnown known.now next → IfOk result (λ r. IsNumbering known.now next roster.now r.0) }
+    ensures next { AreKnown known.now next → IfOk result (λ r. r.1 ≡ next + length (fresh known.now roster.now.tree)) }
 {
-    let numbers = numbers_of(alloc, roster, known, next)?;
+    let (numbers, free) = numbers_of(alloc, roster, known, next)?;
     let _sane = roster.roster().len();
     let mut entries = numbered_entries(alloc, roster, &numbers)?;
     entries.sort_by(|first, second| first.number.cmp(&second.number))?;
-    Ok(Numbered {
-        entries: List::from_vec(entries),
-    })
+    let entries = List::from_vec(entries);
+    Ok((Numbered { entries }, free))
 }

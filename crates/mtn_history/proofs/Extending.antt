@@ -2,15 +2,15 @@
 use Rattle.std.specs.Prelude.{slice_get, Contains}
 use Rattle.std.specs.Option.{option_map_or}
 use Rattle.std.specs.Int.{w64, to_be_bytes}
-use Rattle.std.proofs.Common.{◌≡◌, ◌≢◌, ◌≤◌, ◌<◌, ◌+◌, ◌^◌, ℕ, zero, suc, Bool, true, false, cond, List, [], ◌∷◌, ◌++◌, length, take, Option, Some, None, refl, sym, ap, ◌∙◌, subst, ◌⊎◌, ⊎_elim, inl, inr, arith}
-use Rattle.std.proofs.lemmas.List.{length-append, take_all, take-append-le, append-nil}
+use Rattle.std.proofs.Common.{◌≡◌, ◌≤◌, ◌<◌, ◌+◌, ◌^◌, ℕ, Bool, true, false, cond, List, [], ◌∷◌, ◌++◌, length, take, Option, Some, None, refl, sym, ap, ◌∙◌, subst, ◌⊎◌, inl, inr, arith}
+use Rattle.std.proofs.lemmas.List.{length-append, take_all, take-append-le, append_assoc}
 use Rattle.std.specs.FinMap.{get, insert, empty, same_map, slice_cmp-IsAntisymmetric, nat_cmp-IsAntisymmetric}
 use Rattle.std.proofs.lemmas.Cmp.{nat_list_cmp_total}
 use Rattle.std.specs.Prelude.{bytes_eq}
 use Rattle.std.proofs.lemmas.Slice.Eq.{bytes_eq-Decides}
 use Rattle.mtn_base.specs.Hex.{id_of}
-use Rattle.mtn_growth.specs.History.{Revision, parents_at, revision_parents, IsGrown}
-use Rattle.mtn_log.specs.Lawful.{IsNext, IsHistory, IsLawful}
+use Rattle.mtn_growth.specs.History.{Revision, revision_parents, IsGrown}
+use Rattle.mtn_log.specs.Lawful.{IsNext, IsHistory}
 use Rattle.mtn_log.specs.Making.{place_of}
 use Rattle.mtn_log.proofs.Histories.{Place, in_front, at_back, place, kept_at, last_at, history_more, history_is_grown}
 use Rattle.mtn_log.proofs.Places.{within, inside, no_place}
@@ -19,17 +19,19 @@ use Rattle.mtn_marking.specs.Marking.{Marks}
 use Rattle.mtn_marking.proofs.Staying.{marked_kept}
 use Rattle.mtn_chains.specs.Numbering.{fresh, IsNumbering}
 use Rattle.mtn_model.specs.State.{Logged, State}
-use Rattle.mtn_model.specs.Table.{Table, Contents, with_record}
+use Rattle.mtn_model.specs.Table.{Table, Contents}
 use Rattle.mtn_records.specs.Fields.{number_text}
 use Rattle.mtn_records.specs.Apart.{number_apart}
 use Rattle.mtn_records.specs.declared.record.RosterRecord.{RosterRecord}
 use Rattle.mtn_records.specs.declared.record.RosterRecord.TheVariants.{Whole, Delta}
 use Rattle.mtn_ports.specs.Kept.{with_all}
 use Rattle.mtn_ports.specs.declared.batch.Put.{Put}
-use Rattle.mtn_history.specs.Records.{put_of}
+use Rattle.mtn_history.specs.declared.pending.Pending.{Pending}
+use Rattle.mtn_history.specs.Records.{put_of, meta_puts, revision_puts, with_revision}
 use Rattle.mtn_history.specs.Meta.{meta_of, count_key, version_key, version}
 use Rattle.mtn_history.specs.Revisions.{Kept, next_of, all_entries, depth_on, deeper, IsKept, AreKept, AreTexts, OnlyBelow, IsLogBody, AreLogged, IsRosterOf, IsRosterBody, AreRosters}
-use Rattle.mtn_history.specs.Stands.{StandsFor, IsOther}
+use Rattle.mtn_ports.proofs.KeptLemmas.{with_all-append}
+use Rattle.mtn_history.specs.Stands.{StandsFor, IsDraft, IsFounded, based}
 use Rattle.mtn_history.proofs.FileLemmas.{get_inserted, other_table}
 
 -- what is found under another key, and under the key itself
@@ -219,10 +221,22 @@ new_id f files log h l is none r m at same =
     let v = id_at f files log h is r m at in
     no_place h (id_of l.id) none r (v.0, v.1, v.2 ∙ ap id_of same)
 
--- the records of one more revision
-abbrev pub revision_puts : ℕ → Logged → List ℕ → List ℕ → List Put
-revision_puts n l log roster =
-    put_of 3 l.id (number_text n ++ l.text) ∷ put_of 4 (number_text n) log ∷ put_of 5 (number_text n) roster ∷ put_of 1 count_key (to_be_bytes w64 (n + 1)) ∷ []
+five : (b metas : List Put) (p q r t : Put) → ((((b ++ metas) ++ p ∷ []) ++ q ∷ []) ++ r ∷ []) ++ t ∷ [] ≡ b ++ (metas ++ p ∷ q ∷ r ∷ t ∷ [])
+five b metas p q r t = ap (λ (x : List Put). ((x ++ q ∷ []) ++ r ∷ []) ++ t ∷ []) (append_assoc b metas (p ∷ [])) ∙ ap (λ (x : List Put). (x ++ r ∷ []) ++ t ∷ []) (append_assoc b (metas ++ p ∷ []) (q ∷ []) ∙ ap (λ (x : List Put). b ++ x) (append_assoc metas (p ∷ []) (q ∷ []))) ∙ ap (λ (x : List Put). x ++ t ∷ []) (append_assoc b (metas ++ p ∷ q ∷ []) (r ∷ []) ∙ ap (λ (x : List Put). b ++ x) (append_assoc metas (p ∷ q ∷ []) (r ∷ []))) ∙ append_assoc b (metas ++ p ∷ q ∷ r ∷ []) (t ∷ []) ∙ ap (λ (x : List Put). b ++ x) (append_assoc metas (p ∷ q ∷ r ∷ []) (t ∷ []))
+
+-- the records of one more revision, put one behind the other
+pub all_put : (p : Pending) (l : Logged) (log roster : List ℕ) (b1 b2 b3 b4 b5 : List Put) (id text key next : List ℕ) →
+    b1 ≡ p.batch ++ meta_puts p.is_new p.count → b2 ≡ b1 ++ put_of 3 id text ∷ [] → b3 ≡ b2 ++ put_of 4 key log ∷ [] → b4 ≡ b3 ++ put_of 5 key roster ∷ [] → b5 ≡ b4 ++ put_of 1 count_key next ∷ [] →
+    id ≡ l.id → text ≡ number_text p.count ++ l.text → key ≡ number_text p.count → next ≡ to_be_bytes w64 (p.count + 1) →
+    record p { batch = b5 } ≡ record p { batch = p.batch ++ (meta_puts p.is_new p.count ++ revision_puts p.count l log roster) }
+all_put p l log roster b1 b2 b3 b4 b5 id text key next e1 e2 e3 e4 e5 is_id is_text is_key is_next =
+    ap (λ (b : List Put). record p { batch = b }) (e5 ∙ ap (λ (b : List Put). b ++ put_of 1 count_key next ∷ []) (e4 ∙ ap (λ (b : List Put). b ++ put_of 5 key roster ∷ []) (e3 ∙ ap (λ (b : List Put). b ++ put_of 4 key log ∷ []) (e2 ∙ ap (λ (b : List Put). b ++ put_of 3 id text ∷ []) e1)))
+    ∙ five p.batch (meta_puts p.is_new p.count) (put_of 3 id text) (put_of 4 key log) (put_of 5 key roster) (put_of 1 count_key next)
+    ∙ ap (λ (ps : List Put). p.batch ++ (meta_puts p.is_new p.count ++ ps))
+    (ap (λ (i : List ℕ). put_of 3 i text ∷ put_of 4 key log ∷ put_of 5 key roster ∷ put_of 1 count_key next ∷ []) is_id
+    ∙ ap (λ (x : List ℕ). put_of 3 l.id x ∷ put_of 4 key log ∷ put_of 5 key roster ∷ put_of 1 count_key next ∷ []) is_text
+    ∙ ap (λ (k : List ℕ). put_of 3 l.id (number_text p.count ++ l.text) ∷ put_of 4 k log ∷ put_of 5 k roster ∷ put_of 1 count_key next ∷ []) is_key
+    ∙ ap (λ (n : List ℕ). put_of 3 l.id (number_text p.count ++ l.text) ∷ put_of 4 (number_text p.count) log ∷ put_of 5 (number_text p.count) roster ∷ put_of 1 count_key n ∷ []) is_next))
 
 -- the state with its text
 abbrev pub with_text : State → Logged → State
@@ -252,3 +266,15 @@ more_stands f c s l v new log roster stands fits next adds log_is roster_is =
           (rosters_more h ks v new stands.revisions.long fits_h (c 5) roster stands.rosters (subst (λ m. IsRosterBody ks m v new roster) (sym n) roster_is));
       others = λ t other. other_table 1 t _ _ other.meta ∙ other_table 5 t _ _ other.rosters ∙ other_table 4 t _ _ other.log ∙ other_table 3 t _ _ other.texts ∙ stands.others t other;
     }
+
+-- so does a draft with its pending records
+pub draft_more : (f : List ℕ → List ℕ) (told : Option Contents) (p : Pending) (s : State) (l : Logged) (v : Revision) (new : Kept) (log roster : List ℕ) (d : IsFounded f told p s) → length s.log < 2 ^ 64 →
+    IsNext f s.files d.stands.history l v → Adds d.stands.history d.stands.kept v new → IsLogBody (length s.log) v new log → IsRosterBody d.stands.kept (length s.log) v new roster →
+    IsDraft f d.records (with_revision p l log roster) (with_text s l)
+draft_more f told p s l v new log roster d fits next adds log_is roster_is = record {
+  count = ap (λ n. n + 1) d.count ∙ sym (length-append s.log (l ∷ []));
+  stands =
+      let more = more_stands f (based p d.records) s l v new log roster d.stands fits next adds log_is roster_is in
+      let counted : StandsFor f (with_all (based p d.records) (revision_puts p.count l log roster)) (with_text s l) = subst (λ n. StandsFor f (with_all (based p d.records) (revision_puts n l log roster)) (with_text s l)) (sym d.count) more in
+      subst (λ (c : Contents). StandsFor f c (with_text s l)) (sym (with_all-append d.records p.batch (meta_puts p.is_new p.count ++ revision_puts p.count l log roster) ∙ with_all-append (with_all d.records p.batch) (meta_puts p.is_new p.count) (revision_puts p.count l log roster))) counted;
+}

@@ -132,7 +132,7 @@ files_of : (b : Bool) (f : List ℕ → List ℕ) (c : Contents) (s : State) →
 files_of true f c s new = ap (λ (d : Contents). d 2) new.records ∙ ap (λ (x : State). x.files) (sym new.state)
 files_of false f c s stands = stands.files
 
-behind_meta : (b : Bool) (f : List ℕ → List ℕ) (c : Contents) (count : ℕ) (s : State) → count ≡ length s.log → StandsIn b f c s → StandsFor f (with_all c (meta_puts b count)) s
+pub behind_meta : (b : Bool) (f : List ℕ → List ℕ) (c : Contents) (count : ℕ) (s : State) → count ≡ length s.log → StandsIn b f c s → StandsFor f (with_all c (meta_puts b count)) s
 behind_meta true f c count s counted new =
     let at_zero : count ≡ 0 = counted ∙ ap (λ (x : State). length x.log) new.state in
     subst (λ (d : Contents). StandsFor f (with_all d (meta_puts true count)) s) (sym new.records)

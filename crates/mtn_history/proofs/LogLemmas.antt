@@ -119,12 +119,12 @@ module _ (c : Contents) (h : List Revision) (ks : List Kept) (grown : IsGrown h)
   never_unlogged r (Missing table key) lt wrong = let t = there r lt in absurd (let both : None ≡ Some t.2 = sym wrong.2 ∙ ap (body_at c 4) wrong.1 ∙ t.4 in cc)
 
   -- a record that was read is that of the revision
-  pub read_is : (r : ℕ) (log : LogRecord) → IsLogged c r log → (lt : r < length h) → (log.id ≡ (there r lt).0.id) × (list_of log.parents ≡ (there r lt).0.parents)
+  pub read_is : (r : ℕ) (log : LogRecord) → IsLogged c r log → (lt : r < length h) → (log.id ≡ (there r lt).0.id) × (list_of log.parents ≡ (there r lt).0.parents) × (log.next_node ≡ (there r lt).1.next)
   read_is r log is lt =
       let t = there r lt in
       let same : is.body ≡ t.2 = one_body (body_at c 4 (number_text r)) is.body t.2 is.held t.4 in
       let one : log ≡ record { id = t.0.id; next_node = t.1.next; parents = t.5.parents } = one_log r r is.body log (record { id = t.0.id; next_node = t.1.next; parents = t.5.parents }) is.text (subst (λ b. IsLogAt r b (record { id = t.0.id; next_node = t.1.next; parents = t.5.parents })) (sym same) t.5.text) in
-      (ap (λ (l : LogRecord). l.id) one, ap (λ (l : LogRecord). list_of l.parents) one ∙ t.5.same)
+      (ap (λ (l : LogRecord). l.id) one, ap (λ (l : LogRecord). list_of l.parents) one ∙ t.5.same, ap (λ (l : LogRecord). l.next_node) one)
 
   never_repeated : (r : ℕ) (d : Damage) → r < length h → RepeatedAt c r d → ⊥
   never_repeated r (Bad table key body) lt wrong =

@@ -1,5 +1,5 @@
 -- What the records of table 1 say of a state.
-use Rattle.std.proofs.Common.{◌≡◌, ◌≤◌, ◌^◌, ◌<◌, inl, inr, ℕ, Bool, true, false, List, [], ◌∷◌, length, Option, Some, None, refl, sym, ap, ◌∙◌, subst, ⊎_elim, arith}
+use Rattle.std.proofs.Common.{◌≡◌, ◌≤◌, ◌^◌, ◌<◌, inl, inr, ℕ, Bool, true, false, List, [], ◌∷◌, length, Option, Some, None, refl, sym, ap, ◌∙◌, subst, ◌⊎◌, ⊎_elim, arith}
 use Rattle.std.specs.Prelude.{MatchBool, IfSome, is_some}
 use Rattle.std.specs.Int.{w64, to_be_bytes, from_be_bytes}
 use Rattle.std.specs.FinMap.{get, get-empty, insert, empty}
@@ -20,10 +20,10 @@ use Rattle.mtn_history.specs.Errors.{IfDamage}
 use Rattle.mtn_history.specs.declared.meta.Meta.{Meta}
 use Rattle.mtn_history.specs.declared.pending.Pending.{Pending}
 use Rattle.mtn_history.specs.Meta.{meta_of, count_key, version_key, version, Counted, IsMetaOf, VersionDamage, MetaDamage}
-use Rattle.mtn_history.specs.Damage.{IsDamage, IsShown}
-use Rattle.mtn_history.specs.Logs.{LogDamage}
+use Rattle.mtn_history.specs.Damage.{IsDamage, IsShown, UnfitDamage}
+use Rattle.mtn_history.specs.Logs.{LogDamage, IsHeldAt}
 use Rattle.mtn_history.specs.Places.{PlaceDamage}
-use Rattle.mtn_history.specs.Rosters.{RosterDamage}
+use Rattle.mtn_history.specs.Rosters.{RosterDamage, IsRosterHeld}
 use Rattle.mtn_history.proofs.PlaceLemmas.{never_unplaced, shown_place}
 use Rattle.mtn_history.specs.Texts.{TextDamage}
 use Rattle.mtn_history.proofs.RosterLemmas.{never_unmade, shown_roster}
@@ -125,7 +125,7 @@ no_place_damage f c s d (inr stands) damage = never_unplaced s.log (c 3) stands.
 
 -- records that stand for a state show no damage
 pub no_damage : (f : List ℕ → List ℕ) (c : Contents) (s : State) (d : Damage) → Stands f c s → IsDamage c d → ⊥
-no_damage f c s d stands damage = ⊎_elim (no_meta_damage f c s d stands) (⊎_elim (no_text_damage f c s d stands) (⊎_elim (no_log_damage f c s d stands) (⊎_elim (no_roster_damage f c s d stands) (no_place_damage f c s d stands)))) damage
+no_damage f c s d stands damage = ⊎_elim (no_meta_damage f c s d stands) (⊎_elim (no_text_damage f c s d stands) (⊎_elim (no_log_damage f c s d stands) (⊎_elim (no_roster_damage f c s d stands) (⊎_elim (no_place_damage f c s d stands) (λ (u : UnfitDamage c d). u.unfit f s stands))))) damage
 
 pub err_no_damage : (f : List ℕ → List ℕ) (told : Option Contents) (e : StoreError) → IfSome told (λ c. IfDamage e (IsDamage c)) →
     (c : Contents) (s : State) → told ≡ Some c → Stands f c s → IfDamage e (λ _. ⊥)
@@ -184,9 +184,15 @@ shown_text : (c : Contents) (d : Damage) → TextDamage c d → IsShown c d
 shown_text c (Bad table key body) damage = ap (λ t. body_at c t key) damage.0 ∙ damage.1
 shown_text c (Missing table key) damage = absurd damage
 
+shown_unfit : (c : Contents) (r : ℕ) (d : Damage) → IsHeldAt c r d ⊎ IsRosterHeld c r d → IsShown c d
+shown_unfit c r (Bad table key body) (inl w) = ap (λ t. body_at c t key) w.0 ∙ w.2
+shown_unfit c r (Bad table key body) (inr w) = ap (λ t. body_at c t key) w.0 ∙ w.2
+shown_unfit c r (Missing table key) (inl w) = ap (λ t. body_at c t key) w.0 ∙ w.2
+shown_unfit c r (Missing table key) (inr w) = ap (λ t. body_at c t key) w.0 ∙ w.2
+
 -- The record that is printed is one of the contents, or it is not in them.
 pub shown : (c : Contents) (d : Damage) → IsDamage c d → IsShown c d
-shown c d damage = ⊎_elim (shown_meta c d) (⊎_elim (shown_text c d) (⊎_elim (λ l. shown_log c l.wrong.place d l.wrong.wrong) (⊎_elim (λ l. shown_roster c l.wrong.place d l.wrong.wrong) (λ p. shown_place c p.count d p.wrong)))) damage
+shown c d damage = ⊎_elim (shown_meta c d) (⊎_elim (shown_text c d) (⊎_elim (λ l. shown_log c l.wrong.place d l.wrong.wrong) (⊎_elim (λ l. shown_roster c l.wrong.place d l.wrong.wrong) (⊎_elim (λ p. shown_place c p.count d p.wrong) (λ (u : UnfitDamage c d). shown_unfit c u.place d u.held))))) damage
 
 -- what was found wrong in table 1 is damage
 pub meta_damage : (told : Option Contents) (e : StoreError) → IfSome told (λ c. IfDamage e (MetaDamage c)) → IfSome told (λ c. IfDamage e (IsDamage c))

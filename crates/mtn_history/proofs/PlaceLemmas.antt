@@ -1,6 +1,6 @@
 -- Where revisions stand, by their texts' records.
-use Rattle.std.specs.Prelude.{IfSome, MatchBool, slice_get}
-use Rattle.std.proofs.Common.{◌≡◌, ◌≤◌, ◌<◌, ◌^◌, ℕ, Bool, true, false, List, [], ◌∷◌, ◌++◌, length, drop, Option, Some, None, refl, sym, ap, ◌∙◌, subst, arith}
+use Rattle.std.specs.Prelude.{IfSome, slice_get}
+use Rattle.std.proofs.Common.{◌≡◌, ◌<◌, ◌^◌, ℕ, Bool, true, List, ◌++◌, length, Option, Some, None, refl, sym, ap, ◌∙◌, subst, arith}
 use Rattle.std.specs.FinMap.{get}
 use Rattle.mtn_base.specs.Hex.{id_of}
 use Rattle.mtn_base.specs.declared.id.Id.{Id}
@@ -9,7 +9,7 @@ use Rattle.mtn_log.specs.Lawful.{IsHistory}
 use Rattle.mtn_log.specs.Making.{place_of}
 use Rattle.mtn_log.proofs.Histories.{history_is_grown}
 use Rattle.mtn_log.proofs.Places.{within, inside, no_place, place_has, place_within}
-use Rattle.mtn_model.specs.State.{Logged, State}
+use Rattle.mtn_model.specs.State.{Logged}
 use Rattle.mtn_model.specs.Table.{Table, Contents, body_at}
 use Rattle.mtn_ports.specs.Kept.{with_all, IsBody}
 use Rattle.mtn_ports.specs.declared.batch.Put.{Put}

@@ -1,6 +1,7 @@
 pub mod Damage
 pub mod Errors
 pub mod Files
+pub mod Graph
 pub mod Logs
 pub mod Meta
 pub mod Places

@@ -1,6 +1,5 @@
 -- Where a revision stands, by its text's record; and what a revision asks of the files.
-use Rattle.std.specs.Prelude.{◌≡◌, ◌≤◌, ◌<◌, ◌++◌, ◌⊎◌, ℕ, List, length, take, Option, Some, None}
-use Rattle.std.specs.Int.{w64, from_be_bytes}
+use Rattle.std.specs.Prelude.{◌≡◌, ◌<◌, ◌++◌, ℕ, List, Option, Some, None}
 use Rattle.mtn_base.specs.declared.id.Id.{Id}
 use Rattle.mtn_model.specs.Table.{Contents, body_at}
 use Rattle.mtn_records.specs.Fields.{number_text}

@@ -9,6 +9,7 @@ use Rattle.mtn_growth.specs.History.{Revision}
 use Rattle.mtn_history.specs.Revisions.{Kept, AreKept, AreTexts, AreLogged, AreRosters}
 use Rattle.mtn_ports.specs.Kept.{with_all, IfTold}
 use Rattle.mtn_history.specs.Meta.{meta_of}
+use Rattle.mtn_history.specs.Records.{meta_puts}
 use Rattle.mtn_history.specs.declared.pending.Pending.{Pending}
 
 -- The tables that have no field below are empty. A command that keeps more takes its table out of these and gives it a field.
@@ -46,6 +47,17 @@ Stands f c s = IsNew c s ⊎ StandsFor f c s
 pub record IsDraft (f : List ℕ → List ℕ) (c : Contents) (p : Pending) (s : State) : Type 0 where
   pub count : p.count ≡ length s.log
   pub stands : MatchBool p.is_new (IsNew (with_all c p.batch) s) (StandsFor f (with_all c p.batch) s)
+
+-- the records of a draft, with both of table 1
+abbrev pub based : Pending → Contents → Contents
+based p c = with_all (with_all c p.batch) (meta_puts p.is_new p.count)
+
+-- the same of a draft at a moment, by what its keeper tells then: with both records of table 1 it stands for the state
+pub record IsFounded (f : List ℕ → List ℕ) (told : Option Contents) (p : Pending) (s : State) : Type 0 where
+  pub records : Contents
+  pub tells : told ≡ Some records
+  pub count : p.count ≡ length s.log
+  pub stands : StandsFor f (based p records) s
 
 -- a draft begins at the state that the records stand for, and finds no damage
 abbrev pub Opens : (List ℕ → List ℕ) → Contents → State → Result Pending StoreError → Type 0

@@ -1,5 +1,5 @@
 // A keeper with pending records.
-ghost use Rattle.std.specs.Prelude.{◌≡◌, ◌≤◌, Err, IfOk, IfErr, IfSome, OnOk, OnErr};
+ghost use Rattle.std.specs.Prelude.{◌≡◌, ◌≤◌, ◌+◌, Err, IfOk, IfErr, IfSome, OnOk, OnErr};
 ghost use Rattle.mtn_model.specs.Table.{body_at};
 ghost use Rattle.mtn_ports.specs.Causes.{Rose};
 ghost use Rattle.mtn_ports.specs.Kept.{Same, Stays, IsBody, with_all};
@@ -49,6 +49,7 @@ impl<'a, K: Keeper> DraftOver<'a, K, Pending> {
         ensures found { IfSome (K.contents self.new.keeper.now) (λ c. IfOk result (λ found. IsBody (body_at (with_all c self.old.pending.batch) table key.now) found out.new.items)) }
         ensures failed { result ≡ Err StoreError.Failed → Rose (K.faults self.old.keeper.now) (K.faults self.new.keeper.now) }
         ensures damaged { IfErr result (λ e. IfDamage e (λ _. ⊥)) }
+        ensures reads { K.reads self.new.keeper.now ≤ K.reads self.old.keeper.now + 1 }
     {
         if let Some(body) = self.pending.batch.find(table, key) {
             out.clear();

@@ -16,6 +16,7 @@ mod errors;
 mod files;
 mod logs;
 mod meta;
+mod parents;
 mod pending;
 mod places;
 mod rosters;

@@ -1,5 +1,5 @@
 // The log, and the graph that it tells.
-ghost use Rattle.std.specs.Prelude.{◌≡◌, Err, IfOk, IfErr, IfSome};
+ghost use Rattle.std.specs.Prelude.{◌≡◌, ◌≤◌, ◌+◌, Err, IfOk, IfErr, IfSome};
 ghost use Rattle.mtn_ports.specs.Causes.{Rose};
 ghost use Rattle.mtn_ports.specs.Kept.{Stays, with_all};
 ghost use Rattle.mtn_records.specs.Bounds.{IsLogWithin};
@@ -13,8 +13,8 @@ use mtn_ports::Keeper;
 use mtn_records::{LogRecord, read_log};
 
 impl<'a, K: Keeper> DraftOver<'a, K, Pending> {
-    // The log's record at a position.
-    fn logged(&mut self, at: Pos) -> Result<LogRecord, StoreError>
+    /// The log's record at a position. It asks for one record.
+    pub fn logged(&mut self, at: Pos) -> Result<LogRecord, StoreError>
         ensures same_reference { self.new.keeper.ghost_name ≡ self.old.keeper.ghost_name }
         ensures stays { Stays K.contents K.leaves K.faults self.old.keeper.now self.new.keeper.now }
         ensures pending { self.new.pending ≡ self.old.pending }
@@ -22,6 +22,7 @@ impl<'a, K: Keeper> DraftOver<'a, K, Pending> {
         ensures below { IfOk result (IsLogWithin at) }
         ensures damaged { IfSome (K.contents self.new.keeper.now) (λ c. IfErr result (λ e. IfDamage e (UnloggedAt (with_all c self.old.pending.batch) at))) }
         ensures failed { result ≡ Err StoreError.Failed → Rose (K.faults self.old.keeper.now) (K.faults self.new.keeper.now) }
+        ensures reads { K.reads self.new.keeper.now ≤ K.reads self.old.keeper.now + 1 }
     {
         let key = at.0.to_be_bytes();
         let mut body = Vec::new(self.pending.alloc);
@@ -34,8 +35,8 @@ impl<'a, K: Keeper> DraftOver<'a, K, Pending> {
         }
     }
 
-    // The log's record at a position, which has the id of an earlier one.
-    fn repeated(&mut self, at: Pos) -> StoreError
+    /// The log's record at a position, shown as it is: it has the id of an earlier one, or a number that no history has.
+    pub fn log_held(&mut self, at: Pos) -> StoreError
         ensures same_reference { self.new.keeper.ghost_name ≡ self.old.keeper.ghost_name }
         ensures stays { Stays K.contents K.leaves K.faults self.old.keeper.now self.new.keeper.now }
         ensures pending { self.new.pending ≡ self.old.pending }
@@ -64,7 +65,7 @@ impl<'a, K: Keeper> DraftOver<'a, K, Pending> {
         for at in 0..self.pending.count {
             let log = self.logged(Pos(at))?;
             if graph.find(log.id).is_some() {
-                return Err(self.repeated(Pos(at)));
+                return Err(self.log_held(Pos(at)));
             }
             graph.push(log.id, log.parents)?;
         }

@@ -1,10 +1,12 @@
 // Records that wait for the keeper.
 ghost use Rattle.std.specs.Prelude.{◌≡◌, ◌<◌, ◌≤◌, ◌++◌, [], true, false, length, take, IfOk, OnOk, OnErr};
-ghost use Rattle.mtn_history.specs.Records.{record_puts};
+ghost use Rattle.mtn_history.specs.Records.{meta_puts, record_puts};
+ghost use Rattle.mtn_records.specs.Fields.{number_text};
 
 use crate::meta::{Meta, read_meta};
-use crate::{META, StoreError};
-use mtn_base::NoMemory;
+use crate::texts::POSITION;
+use crate::{LOG, META, ROSTERS, StoreError, TEXTS};
+use mtn_base::{Bytes, Id, List, NoMemory};
 use mtn_ports::{Batch, Keeper};
 use std::alloc::Global;
 
@@ -19,8 +21,9 @@ pub struct Pending {
 }
 
 impl Pending {
-    ghost use Rattle.std.specs.Prelude.{List, ℕ, Some, Err, IfSome, IfErr};
+    ghost use Rattle.std.specs.Prelude.{◌+◌, ◌^◌, List as Seq, ℕ, Some, Err, IfSome, IfErr};
     ghost use Rattle.mtn_model.specs.Table.{Contents};
+    ghost use Rattle.mtn_history.specs.Records.{revision_puts, with_revision};
     ghost use Rattle.mtn_model.specs.State.{State};
     ghost use Rattle.mtn_ports.specs.Causes.{Rose};
     ghost use Rattle.mtn_ports.specs.Kept.{Stays};
@@ -33,7 +36,7 @@ impl Pending {
     /// pending. A keeper without `count` is an empty store. It asks the keeper for two records at most.
     pub fn open<K: Keeper>(alloc: Global, keeper: &mut K) -> Result<Pending, StoreError>
         ensures stays { Stays K.contents K.leaves K.faults keeper.old keeper.new }
-        ensures stands { (f : List ℕ → List ℕ) (c : Contents) (s : State) → K.contents keeper.new ≡ Some c → Stands f c s → Opens f c s result }
+        ensures stands { (f : Seq ℕ → Seq ℕ) (c : Contents) (s : State) → K.contents keeper.new ≡ Some c → Stands f c s → Opens f c s result }
         ensures bare { IfOk result (λ p. p.batch ≡ []) }
         ensures counted { IfSome (K.contents keeper.new) (λ c. IfOk result (λ p. IsMetaOf c (record { count = p.count; is_new = p.is_new }))) }
         ensures failed { result ≡ Err StoreError.Failed → Rose (K.faults keeper.old) (K.faults keeper.new) }
@@ -70,6 +73,74 @@ impl Pending {
         }
         result
     }
+
+    /// Puts the records of one more revision, behind both records of table 1 where there are none: its text under its id,
+    /// and under its position its record of the log and its roster's; then there is one more revision. An error leaves all
+    /// as it was.
+    pub fn put_revision(
+        &mut self,
+        id: Id,
+        text: &[u8],
+        log: Bytes,
+        roster: Bytes,
+    ) -> Result<(), NoMemory>
+        requires { self.old.count < 2 ^ 63 }
+        ensures ok { OnOk result (self.new ≡ with_revision self.old (record { id = id.0; text = text.now }) log roster) }
+        ensures err { OnErr result (self.new ≡ self.old) }
+    {
+        let len = self.batch.len();
+        let result = self.put_bodies(id, text, log, roster);
+        match result {
+            Ok(()) => {
+                self.count += 1;
+                self.is_new = false;
+            }
+            Err(NoMemory) => self.batch.cut(len),
+        }
+        result
+    }
+
+    // Puts the records. An error leaves some of them.
+    fn put_bodies(&mut self, id: Id, text: &[u8], log: Bytes, roster: Bytes) -> Result<(), NoMemory>
+        requires { self.old.count < 2 ^ 63 }
+        ensures ok { OnOk result (self.new ≡ record self.old { batch = self.old.batch ++ (meta_puts self.old.is_new self.old.count ++ revision_puts self.old.count (record { id = id.0; text = text.now }) log roster) }) }
+        ensures front { take (length self.old.batch) self.new.batch ≡ self.old.batch }
+        ensures longer { length self.old.batch ≤ length self.new.batch }
+        ensures rest { self.new ≡ record self.old { batch = self.new.batch } }
+    {
+        let key = self.count.to_be_bytes();
+        let next = (self.count + 1).to_be_bytes();
+        let text = placed_text(self.alloc, self.count, text)?;
+        put_meta(&mut self.batch, self.is_new, self.count)?;
+        self.batch.put_owned(TEXTS, id.as_slice(), text)?;
+        self.batch.put_owned(LOG, &key, log)?;
+        self.batch.put_owned(ROSTERS, &key, roster)?;
+        self.batch.put(META, b"count", &next)?;
+        Ok(())
+    }
+}
+
+// The bytes of a position, and a text.
+fn placed_text(alloc: Global, at: u64, text: &[u8]) -> Result<Bytes, NoMemory>
+    ensures { IfOk result (λ body. body ≡ number_text at ++ text.now) }
+{
+    let mut body = Vec::with_capacity(alloc, POSITION)?;
+    body.extend_from_slice(&at.to_be_bytes())?;
+    body.extend_from_slice(text)?;
+    Ok(List::from_vec(body))
+}
+
+// Puts both records of table 1 where there are none. An error may leave one of them.
+fn put_meta(batch: &mut Batch, is_new: bool, count: u64) -> Result<(), NoMemory>
+    ensures ok { OnOk result (batch.new ≡ batch.old ++ meta_puts is_new count) }
+    ensures front { take (length batch.old) batch.new ≡ batch.old }
+    ensures longer { length batch.old ≤ length batch.new }
+{
+    if is_new {
+        batch.put(META, b"count", &count.to_be_bytes())?;
+        batch.put(META, b"version", b"1")?;
+    }
+    Ok(())
 }
 
 // Puts the records. An error leaves some of them.
@@ -86,9 +157,6 @@ fn put_all(
     ensures front { take (length batch.old) batch.new ≡ batch.old }
     ensures longer { length batch.old ≤ length batch.new }
 {
-    if is_new {
-        batch.put(META, b"count", &count.to_be_bytes())?;
-        batch.put(META, b"version", b"1")?;
-    }
+    put_meta(batch, is_new, count)?;
     batch.put(table, key, body)
 }

@@ -53,8 +53,8 @@ impl<'a, K: Keeper> DraftOver<'a, K, Pending> {
         }
     }
 
-    // The roster's record at a position, shown as it is.
-    fn roster_held(&mut self, at: Pos) -> StoreError
+    /// The roster's record at a position, shown as it is: with what it says no history goes on.
+    pub fn roster_held(&mut self, at: Pos) -> StoreError
         ensures same_reference { self.new.keeper.ghost_name ≡ self.old.keeper.ghost_name }
         ensures stays { Stays K.contents K.leaves K.faults self.old.keeper.now self.new.keeper.now }
         ensures pending { self.new.pending ≡ self.old.pending }

@@ -13,8 +13,8 @@ use crate::{DraftOver, HistoryError, Pending, StoreError, TEXTS};
 use mtn_base::{Cause, Id};
 use mtn_ports::Keeper;
 
-// The bytes of the position that stands before each text of table 3.
-const POSITION: usize = 8;
+/// The bytes of the position that stands before each text of table 3.
+pub const POSITION: usize = 8;
 
 impl<'a, K: Keeper> DraftOver<'a, K, Pending> {
     /// Replaces `out` by the text of a revision; UnknownRevision where the log has no such id. After an error `out` may

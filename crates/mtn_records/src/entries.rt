@@ -73,7 +73,7 @@ fn keys_ascend(attrs: &[NumberedAttr]) -> bool
 }
 
 // Whether numbers ascend.
-fn numbers_ascend(entries: &[NumberedEntry]) -> bool
+pub(crate) fn numbers_ascend(entries: &[NumberedEntry]) -> bool
     ensures { IsTrue result ↔ NumbersAscend entries.now }
 {
     for k in 1..entries.len() {
@@ -85,7 +85,7 @@ fn numbers_ascend(entries: &[NumberedEntry]) -> bool
 }
 
 // Whether a root slot has no name, and the keys ascend.
-fn is_sound(parent: u64, name: &Bytes, attrs: &List<NumberedAttr>) -> bool
+pub(crate) fn is_sound(parent: u64, name: &Bytes, attrs: &List<NumberedAttr>) -> bool
     ensures { IsTrue result ↔ ((parent ≡ 0 → name.now ≡ []) × KeysAscend attrs.now) }
 {
     if parent == 0 && !name.as_slice().is_empty() {

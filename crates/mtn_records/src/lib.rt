@@ -11,8 +11,9 @@
 //!
 //! The crates above rely on this: [`read_roster`] and [`read_log`] answer the only record whose text the whole body
 //! is and whose positions keep the bounds of the key, or Bad exactly where there is none; [`write_roster`] and
-//! [`write_log`] append exactly that text. `specs/Records.antt` has the texts, `specs/Bounds.antt` the bounds. What
-//! a delta stands on is looked at above.
+//! [`write_log`] append exactly that text, and [`is_record_at`] tells whether a roster's record can be written and is
+//! read back under a key. `specs/Records.antt` has the texts, `specs/Bounds.antt` the bounds. What a delta stands on is
+//! looked at above.
 //!
 //! Cost: linear in the bytes. Nothing is sorted.
 #![tactic(auto)]
@@ -21,6 +22,7 @@ mod entries;
 mod entry;
 mod error;
 mod field;
+mod forms;
 mod laws;
 mod lists;
 mod logs;
@@ -31,6 +33,7 @@ mod rosters;
 pub use entry::{Numbered, NumberedAttr, NumberedBody, NumberedEntry};
 pub use error::RecordError;
 pub use field::Field;
+pub use forms::is_record_at;
 pub use laws::{log_again, one_record, roster_again};
 pub use logs::{read_log, write_log};
 pub use record::{LogRecord, RosterRecord};

@@ -30,7 +30,7 @@ impl Model for Numbers {
 }
 
 // Whether each is below the next.
-fn ascend(numbers: &[u64]) -> bool
+pub(crate) fn ascend(numbers: &[u64]) -> bool
     ensures { IsTrue result ↔ IsStrictlyIncreasing numbers.now }
 {
     for k in 1..numbers.len() {
@@ -130,7 +130,7 @@ impl Field for RosterRecord {
 }
 
 // Whether no mark is above the key: the last is the greatest.
-fn are_up_to(marks: &PosSet, at: Pos) -> bool
+pub(crate) fn are_up_to(marks: &PosSet, at: Pos) -> bool
     ensures { IsTrue result ↔ AreUpTo at marks.now }
 {
     match marks.as_slice().last() {

@@ -13,7 +13,7 @@ loop-next-init g c = record {
   matched = c.in_ok-walk.ensures.matched;
   asking = record {
     order = c.in_ok-walk.ensures.order;
-    same = λ count parents. (λ t. t, λ t. t);
+    same = λ count parents t. t;
     stayed = g.met.P.Parents.stays_itself c.args.graph.now;
     walked = λ count parents low t floor. c.in_ok-walk.ensures.stands parents low (g.met.P.Parents.earlier c.args.graph.now count parents t) floor;
     spent = λ count parents low t floor. omega (arith, c.in_ok-walk.ensures.greater);
@@ -23,16 +23,16 @@ loop-next-init g c = record {
 pub parents-requires : goal.parents-requires
 parents-requires g c = λ count parents t.
     let inv = c.loop-next.invariant.asking in
-    let told = (inv.same count parents).1 t in
     let stands = subst (λ (n : Option (ℕ × Reach)). IsUnderWay parents c.args.left c.args.right 0 n (pending_of c.loop-next.walk.frontier) c.loop-next.walk.left.items c.loop-next.walk.right.items)
-    c.in-Some.is (inv.walked count parents 0 told (anywhere parents c.args.left c.args.right)) in
-    let within = c.requires count parents told in
-    (stands_within parents (g.met.P.Parents.earlier c.args.graph.now count parents told) c.args.left c.args.right 0 c.in-Some.here.0 count c.in-Some.here.1
+    c.in-Some.is (inv.walked count parents 0 t (anywhere parents c.args.left c.args.right)) in
+    let within = c.requires count parents (inv.same count parents t) in
+    (stands_within parents (g.met.P.Parents.earlier c.loop-next.graph count parents t) c.args.left c.args.right 0 c.in-Some.here.0 count c.in-Some.here.1
     (pending_of c.loop-next.walk.frontier) c.loop-next.walk.left.items c.loop-next.walk.right.items stands within.0 within.1)
 
 pub returns-in-Err-clause-count : goal.returns-in-Err-clause-count
-returns-in-Err-clause-count g c = λ count parents low told floor.
+returns-in-Err-clause-count g c = λ count parents low now floor.
     let inv = c.loop-next.invariant.asking in
+    let told = c.parents.ensures.same_graph count parents now in
     let stands = subst (λ (n : Option (ℕ × Reach)). IsUnderWay parents c.args.left c.args.right low n (pending_of c.loop-next.walk.frontier) c.loop-next.walk.left.items c.loop-next.walk.right.items)
     c.in-Some.is (inv.walked count parents low told floor) in
     let spent = subst (λ (n : Option (ℕ × Reach)). IsSpent (g.P.Parents.asked c.loop-next.graph - g.P.Parents.asked c.args.graph.now) (max c.args.left c.args.right + 1) low n)
@@ -42,8 +42,9 @@ returns-in-Err-clause-count g c = λ count parents low told floor.
     omega arith
 
 pub returns-in_err-next-clause-count : goal.returns-in_err-next-clause-count
-returns-in_err-next-clause-count g c = λ count parents low told floor.
+returns-in_err-next-clause-count g c = λ count parents low now floor.
     let inv = c.loop-next.invariant.asking in
+    let told = c.parents.ensures.same_graph count parents now in
     let stands = subst (λ (n : Option (ℕ × Reach)). IsUnderWay parents c.args.left c.args.right low n (pending_of c.loop-next.walk.frontier) c.loop-next.walk.left.items c.loop-next.walk.right.items)
     c.in-Some.is (inv.walked count parents low told floor) in
     let spent = subst (λ (n : Option (ℕ × Reach)). IsSpent (g.P.Parents.asked c.loop-next.graph - g.P.Parents.asked c.args.graph.now) (max c.args.left c.args.right + 1) low n)
@@ -59,17 +60,16 @@ loop-next-preserved g c =
       matched = c.in_ok-next.ensures.matched;
       asking = record {
         order = c.in_ok-next.ensures.order;
-        same = λ count parents. (
-          λ t. (c.parents.ensures.same_graph count parents).0 ((inv.same count parents).0 t),
-          λ t. (inv.same count parents).1 ((c.parents.ensures.same_graph count parents).1 t),
-        );
+        same = λ count parents t. inv.same count parents (c.parents.ensures.same_graph count parents t);
         stayed = g.met.P.Parents.stays_on c.args.graph.now c.loop-next.graph c.parents.new.self inv.stayed c.parents.ensures.stays;
-        walked = λ count parents low told floor.
+        walked = λ count parents low now floor.
+            let told = c.parents.ensures.same_graph count parents now in
             let stands = subst (λ (n : Option (ℕ × Reach)). IsUnderWay parents c.args.left c.args.right low n (pending_of c.loop-next.walk.frontier) c.loop-next.walk.left.items c.loop-next.walk.right.items)
             c.in-Some.is (inv.walked count parents low told floor) in
-            c.in_ok-next.ensures.walked parents c.args.left c.args.right low (g.met.P.Parents.earlier c.args.graph.now count parents told) floor
-            (c.in-Ok.ensures.told count parents ((inv.same count parents).0 told)) stands;
-        spent = λ count parents low told floor.
+            c.in_ok-next.ensures.walked parents c.args.left c.args.right low (g.met.P.Parents.earlier c.loop-next.graph count parents told) floor
+            (c.in-Ok.ensures.told count parents now) stands;
+        spent = λ count parents low now floor.
+            let told = c.parents.ensures.same_graph count parents now in
             let stands = subst (λ (n : Option (ℕ × Reach)). IsUnderWay parents c.args.left c.args.right low n (pending_of c.loop-next.walk.frontier) c.loop-next.walk.left.items c.loop-next.walk.right.items)
             c.in-Some.is (inv.walked count parents low told floor) in
             let spent = subst (λ (n : Option (ℕ × Reach)). IsSpent (g.P.Parents.asked c.loop-next.graph - g.P.Parents.asked c.args.graph.now) (max c.args.left c.args.right + 1) low n)

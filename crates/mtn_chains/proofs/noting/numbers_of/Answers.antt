@@ -10,15 +10,17 @@ use Rattle.mtn_marking.proofs.Zips.{got_at}
 use Rattle.mtn_chains.specs.Numbering.{all_of}
 use Rattle.mtn_chains.specs.Noting.{AreNoted, AreFilled}
 use Rattle.mtn_chains.proofs.Places.{marked_names, tree_names, get_map, fills_begin, back_is}
-use Rattle.mtn_chains.proofs.Visiting.{same_names, names_up, stop_is, stops_long, once, fresh_grows, met_more, all_filled}
+use Rattle.mtn_chains.proofs.Visiting.{same_names, names_up, stop_is, stops_long, once, met_more, all_filled, all_met}
+use Rattle.mtn_chains.proofs.Known.{walk_long}
 use Rattle.mtn_chains.proofs.noting.numbers_of.Goals as goal
 
 pub loop-stop-init : goal.loop-stop-init
 loop-stop-init c = (
   c.in_ok-numbers.ensures.long ∙ ap length c.marks.ensures ∙ sym (for_long c.args.roster.now.tree c.args.roster.now.marks c.roster-tree.ensures.fits),
-  fills_begin (all_of c.args.known.now) c.args.next (tree_names c.args.roster.now.tree) c.in_ok-numbers.numbers.items
+  omega arith,
+  λ known. fills_begin (all_of c.args.known.now) c.args.next (tree_names c.args.roster.now.tree) c.in_ok-numbers.numbers.items
       (subst (λ (l : List NodeName). AreNoted (all_of c.args.known.now) l c.in_ok-numbers.numbers.items) (ap marked_names c.marks.ensures ∙ same_names c.args.roster.now.tree c.args.roster.now.marks c.roster-tree.ensures.fits)
-      c.in_ok-numbers.ensures.noted),
+      (c.in_ok-numbers.ensures.noted (record { number = known.one_number; above = known.from_one }))),
 )
 
 pub fill_one-free-requires-clause-within : goal.fill_one-free-requires-clause-within
@@ -30,7 +32,9 @@ fill_one-free-requires-clause-within c =
 
 pub fill_one-free-requires-clause-room : goal.fill_one-free-requires-clause-room
 fill_one-free-requires-clause-room c =
-    omega (arith, c.loop-stop.invariant.1.next_is, fresh_grows (all_of c.args.known.now) (by_path c.args.roster.now.tree) c.loop-stop.stop-index, c.requires.room)
+    let t = c.args.roster.now.tree in
+    let are = subst (λ (u : Tree). AreStops u c.deref-stop-items.result.now) c.roster-tree.ensures.tree (subst (AreStops c.roster-tree.result.now) (sym c.deref-stop-items.ensures.value) c.in_ok-stops.ensures) in
+    omega (arith, c.loop-stop.invariant.1, stops_long t c.deref-stop-items.result.now are, c.loop-stop-test.true, walk_long t, c.requires.room)
 
 pub loop-stop-preserved : goal.loop-stop-preserved
 loop-stop-preserved c =
@@ -43,17 +47,25 @@ loop-stop-preserved c =
     let sane = subst IsSane c.roster-tree.ensures.tree c.len-sane.ensures.sane in
     let back = back_is c.fill_one-free.new.numbers c.loop-stop.numbers.items c.loop-stop.numbers.len (c.fill_one-free.auto.numbers ∙ c.deref_mut.ensures.len) in (
       ap length back ∙ c.fill_one-free.auto.numbers ∙ ap length c.deref_mut.ensures.value ∙ c.loop-stop.invariant.0,
-      subst (λ (ns : List ℕ). AreFilled es c.args.next (tree_names t) (tree_names (take (i + 1) w)) ns c.fill_one-free.result) (sym back)
+      omega (arith, c.loop-stop.invariant.1, c.fill_one-free.ensures.most),
+      λ known. subst (λ (ns : List ℕ). AreFilled es c.args.next (tree_names t) (tree_names (take (i + 1) w)) ns c.fill_one-free.result) (sym back)
           (subst (λ (met : List NodeName). AreFilled es c.args.next (tree_names t) met c.fill_one-free.new.numbers c.fill_one-free.result) (sym (met_more w i s.0 s.1))
-          (c.fill_one-free.ensures es c.args.next (tree_names t) (tree_names (take i w)) s.0.name c.requires.known.next_from_one (names_up t sane)
+          (c.fill_one-free.ensures.filled es c.args.next (tree_names t) (tree_names (take i w)) s.0.name known.next_from_one (names_up t sane)
           (get_map (λ (e : Entry). e.name) t _ ∙ ap (option_map (λ (e : Entry). e.name)) s.2) (once t sane i s.0 s.1)
-          (subst (λ (ns : List ℕ). AreFilled es c.args.next (tree_names t) (tree_names (take i w)) ns c.loop-stop.free) (sym c.deref_mut.ensures.value) c.loop-stop.invariant.1))),
+          (subst (λ (ns : List ℕ). AreFilled es c.args.next (tree_names t) (tree_names (take i w)) ns c.loop-stop.free) (sym c.deref_mut.ensures.value) (c.loop-stop.invariant.2 known)))),
     )
 
-pub returns : goal.returns
-returns c =
+pub returns-clause-numbers : goal.returns-clause-numbers
+returns-clause-numbers c = λ known.
     let t = c.args.roster.now.tree in
     let are = subst (λ (u : Tree). AreStops u c.deref-stop-items.result.now) c.roster-tree.ensures.tree (subst (AreStops c.roster-tree.result.now) (sym c.deref-stop-items.ensures.value) c.in_ok-stops.ensures) in
     let sane = subst IsSane c.roster-tree.ensures.tree c.len-sane.ensures.sane in
     all_filled c.args.known.now c.args.next t c.loop-stop.numbers.items c.loop-stop.free c.loop-stop.stop-index sane
-    (omega (arith, stops_long t c.deref-stop-items.result.now are, c.loop-stop-test.false)) c.loop-stop.invariant.0 c.loop-stop.invariant.1
+    (omega (arith, stops_long t c.deref-stop-items.result.now are, c.loop-stop-test.false)) c.loop-stop.invariant.0 (c.loop-stop.invariant.2 known)
+
+pub returns-clause-next : goal.returns-clause-next
+returns-clause-next c = λ known.
+    let t = c.args.roster.now.tree in
+    let are = subst (λ (u : Tree). AreStops u c.deref-stop-items.result.now) c.roster-tree.ensures.tree (subst (AreStops c.roster-tree.result.now) (sym c.deref-stop-items.ensures.value) c.in_ok-stops.ensures) in
+    all_met c.args.known.now c.args.next t c.loop-stop.numbers.items c.loop-stop.free c.loop-stop.stop-index
+    (omega (arith, stops_long t c.deref-stop-items.result.now are, c.loop-stop-test.false)) (c.loop-stop.invariant.2 known)

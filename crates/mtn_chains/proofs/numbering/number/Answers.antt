@@ -11,10 +11,10 @@ use Rattle.mtn_chains.specs.Numbering.{IsNumbering}
 use Rattle.mtn_chains.proofs.Assigning.{assigned}
 use Rattle.mtn_chains.proofs.numbering.number.Goals as goal
 
-pub returns : goal.returns
-returns c =
-    subst (IsNumbering c.args.known.now c.args.next c.args.roster.now) (sym c.from_vec.ensures)
-    (assigned c.args.known.now c.args.next c.args.roster.now c.deref.result.now c.in_ok-entries.entries.items c.sort_by.new.self.items c.requires.known c.roster.ensures.fits (subst IsSane c.roster.ensures.tree c.len-sane.ensures.sane)
-    (subst (HaveNumbers c.args.known.now c.args.next c.args.roster.now.tree) (sym c.deref.ensures.value) c.in_ok-numbers.ensures) c.in_ok-entries.ensures.long c.in_ok-entries.ensures.numbered
+pub returns-clause-numbers : goal.returns-clause-numbers
+returns-clause-numbers c = λ known.
+    subst (IsNumbering c.args.known.now c.args.next c.args.roster.now) (sym c.from_vec-entries.ensures)
+    (assigned c.args.known.now c.args.next c.args.roster.now c.deref.result.now c.in_ok-entries.entries.items c.sort_by.new.self.items known c.roster.ensures.fits (subst IsSane c.roster.ensures.tree c.len-sane.ensures.sane)
+    (subst (HaveNumbers c.args.known.now c.args.next c.args.roster.now.tree) (sym c.deref.ensures.value) (c.in_ok-numbers.ensures.numbers known)) c.in_ok-entries.ensures.long c.in_ok-entries.ensures.numbered
     c.in_ok-sort_by.ensures.permutation
     (c.in_ok-sort_by.ensures.sorted (λ (x : NumberedEntry) (y : NumberedEntry). is_lt (nat_cmp x.number y.number)) (ranks_by nat_cmp_total number_of) (answers_always _ _ _ (λ f a r g k. search rules))))

@@ -13,16 +13,16 @@ returns-in_err-log-clause-stays g c = stays_trans g.K.Keeper.contents g.K.Keeper
 
 pub returns-then-is_some-clause-stays : goal.returns-then-is_some-clause-stays
 returns-then-is_some-clause-stays g c = stays_trans g.K.Keeper.contents g.K.Keeper.leaves g.K.Keeper.faults _ _ _
-    (stays_trans g.K.Keeper.contents g.K.Keeper.leaves g.K.Keeper.faults _ _ _ c.loop-at.invariant.stays c.logged.ensures.stays) c.repeated.ensures.stays
+    (stays_trans g.K.Keeper.contents g.K.Keeper.leaves g.K.Keeper.faults _ _ _ c.loop-at.invariant.stays c.logged.ensures.stays) c.log_held.ensures.stays
 
 pub returns-then-is_some-clause-damaged : goal.returns-then-is_some-clause-damaged
 returns-then-is_some-clause-damaged g c =
     let there = found_at c.find.result (sym c.is_some.ensures ∙ c.if-is_some.true) c.find.ensures.found in
-    repeated (g.K.Keeper.contents c.loop-at.self.keeper.now) (g.K.Keeper.contents c.logged.new.self.keeper.now) (g.K.Keeper.contents c.repeated.new.self.keeper.now) c.args.self.now.pending.batch
-    c.args.self.now.pending.count c.loop-at.at there.0 c.loop-at.graph c.in_ok-log.log c.repeated.result c.loop-at-test.true c.logged.ensures.stays.same c.repeated.ensures.stays.same c.loop-at.invariant.read
+    repeated (g.K.Keeper.contents c.loop-at.self.keeper.now) (g.K.Keeper.contents c.logged.new.self.keeper.now) (g.K.Keeper.contents c.log_held.new.self.keeper.now) c.args.self.now.pending.batch
+    c.args.self.now.pending.count c.loop-at.at there.0 c.loop-at.graph c.in_ok-log.log c.log_held.result c.loop-at-test.true c.logged.ensures.stays.same c.log_held.ensures.stays.same c.loop-at.invariant.read
     (subst (λ (p : Pending). IfSome (g.K.Keeper.contents c.logged.new.self.keeper.now) (λ d. IsLogged (with_all d p.batch) c.loop-at.at c.in_ok-log.log)) c.loop-at.invariant.pending c.in_ok-log.ensures.read)
     there.1
-    (subst (λ (p : Pending). IfSome (g.K.Keeper.contents c.repeated.new.self.keeper.now) (λ d. IfDamage c.repeated.result (IsHeldAt (with_all d p.batch) c.loop-at.at))) (c.logged.ensures.pending ∙ c.loop-at.invariant.pending) c.repeated.ensures.damaged)
+    (subst (λ (p : Pending). IfSome (g.K.Keeper.contents c.log_held.new.self.keeper.now) (λ d. IfDamage c.log_held.result (IsHeldAt (with_all d p.batch) c.loop-at.at))) (c.logged.ensures.pending ∙ c.loop-at.invariant.pending) c.log_held.ensures.damaged)
 
 pub push-requires-clause-known : goal.push-requires-clause-known
 push-requires-clause-known g c = known c.loop-at.at c.loop-at.graph c.in_ok-log.log c.in_ok-log.ensures.below c.loop-at.invariant.long

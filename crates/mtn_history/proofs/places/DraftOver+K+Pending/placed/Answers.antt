@@ -1,4 +1,4 @@
-use Rattle.std.proofs.Common.{rules, arith, subst, ◌<◌, ◌^◌, refl, sym, ap, ◌∙◌}
+use Rattle.std.proofs.Common.{subst, ◌<◌, ◌^◌, refl}
 use Rattle.mtn_history.proofs.PlaceLemmas.{unplaced}
 use Rattle.mtn_history.proofs.places.DraftOver+K+Pending.placed.Goals as goal
 

@@ -7,7 +7,7 @@ use Rattle.mtn_ports.proofs.batch.Batch.add.Goals as goal
 pub invariant_of-self-2 : goal.invariant_of-self-2
 invariant_of-self-2 c =
     let old = c.self.inside in
-    let p : Put = record { table = c.args.table; key = c.in_ok-from_slice.field-0; body = c.in_ok-from_slice-2.field-0 } in
+    let p : Put = record { table = c.args.table; key = c.in_ok-from_slice.field-0; body = c.args.body } in
     let all : c.push_within.new.items.items ≡ old.puts.items ++ p ∷ [] = c.push_within.ensures ∙ ap (λ (ps : List Put). ps ++ p ∷ []) c.in_ok-reserve.ensures.items in
     let at : c.len.result ≡ length old.puts.items = omega (arith, old.puts.ok.0, c.len.ensures, c.in_ok-reserve.ensures.len) in
     record {

@@ -1,0 +1,4 @@
+pub mod Causes
+pub mod Meeting
+pub mod Fronts
+pub mod OneFault
