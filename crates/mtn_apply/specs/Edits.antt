@@ -3,7 +3,6 @@ use Rattle.std.specs.Prelude.{◌≡◌, ◌+◌, ℕ, Bool, true, List, ◌++�
 use Rattle.std.specs.BTreeMap.{BTreeMap}
 use Rattle.mtn_apply.specs.Maps.{of_name}
 use Rattle.std.specs.List.{position_from}
-use Rattle.mtn_base.specs.Names.{name_cmp}
 use Rattle.mtn_base.specs.declared.id.Id.{Id}
 use Rattle.mtn_base.specs.declared.name.NodeName.{NodeName}
 use Rattle.mtn_roster.specs.declared.entry.Attr.{Attr}

@@ -2,7 +2,6 @@
 use Rattle.std.specs.Prelude.{◌≡◌, ℕ, Bool, List, Option}
 use Rattle.mtn_apply.specs.Maps.{of_name, of_path}
 use Rattle.std.specs.List.{position_from}
-use Rattle.mtn_base.specs.Names.{path_cmp, name_cmp}
 use Rattle.mtn_roster.specs.declared.entry.Entry.{Entry}
 use Rattle.mtn_roster.specs.Tree.{Tree}
 use Rattle.mtn_changes.specs.declared.change.Change.{Change}

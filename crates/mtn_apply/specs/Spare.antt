@@ -4,7 +4,7 @@ use Rattle.mtn_roster.specs.Tree.{is_some_with}
 
 -- a number of some bytes, one byte more each time
 abbrev pub next_number : ℕ → ℕ → ℕ
-next_number n b = (n * 31 + b) % 65521
+next_number n b = (n * 31 + b) % 65536
 
 abbrev pub number : List ℕ → ℕ
 number bytes = fold next_number 0 bytes

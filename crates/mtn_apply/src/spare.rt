@@ -10,7 +10,7 @@ fn number_of(bytes: &[u8]) -> usize
 {
     let mut number: usize = 0;
     for byte in bytes {
-        number = (number * 31 + *byte as usize) % 65521;
+        number = (number * 31 + *byte as usize) % 65536;
     }
     number
 }

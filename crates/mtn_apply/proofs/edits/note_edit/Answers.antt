@@ -1,7 +1,7 @@
 -- What the map had at the name comes next.
 use Rattle.mtn_apply.specs.Maps.{of_name}
 use Rattle.std.proofs.Common.{◌≡◌, Bool, cond, Some, sym, ap, ◌∙◌}
-use Rattle.mtn_base.specs.Names.{name_cmp, same_name}
+use Rattle.mtn_base.specs.Names.{same_name}
 use Rattle.mtn_base.specs.declared.name.NodeName.{NodeName}
 use Rattle.mtn_roster.specs.Tree.{is_some_with}
 use Rattle.mtn_roster.proofs.Tests.{same_name-is}

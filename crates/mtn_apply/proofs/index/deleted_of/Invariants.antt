@@ -1,7 +1,6 @@
 use Rattle.std.proofs.Common.{◌≡◌, ◌≤◌, length, drop}
 use Rattle.mtn_apply.specs.Maps.{of_name}
 use Rattle.std.specs.List.{position_from}
-use Rattle.mtn_base.specs.Names.{name_cmp}
 use Rattle.mtn_roster.specs.declared.entry.Entry.{Entry}
 use Rattle.mtn_edits.specs.Changes.{deletes}
 use Rattle.mtn_apply.specs.Old.{tree_in}

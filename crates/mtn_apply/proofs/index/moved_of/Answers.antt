@@ -1,7 +1,6 @@
 -- One change before those that are noted.
 use Rattle.std.proofs.Common.{◌-◌, sym, ap, ◌∙◌, cond, Some, Bool, arith}
 use Rattle.mtn_apply.specs.Maps.{of_name}
-use Rattle.mtn_base.specs.Names.{name_cmp}
 use Rattle.mtn_edits.specs.Changes.{moves}
 use Rattle.mtn_apply.specs.Old.{tree_in}
 use Rattle.mtn_apply.proofs.Positions.{one_before}

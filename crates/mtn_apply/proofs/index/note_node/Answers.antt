@@ -1,7 +1,7 @@
 -- The key is the name of the node that stands there.
 use Rattle.std.proofs.Common.{sym, ap, ◌∙◌, cond, Some, option_copied, Bool}
 use Rattle.mtn_apply.specs.Maps.{of_name}
-use Rattle.mtn_base.specs.Names.{name_cmp, same_name}
+use Rattle.mtn_base.specs.Names.{same_name}
 use Rattle.mtn_base.specs.declared.name.NodeName.{NodeName}
 use Rattle.mtn_roster.specs.declared.entry.Entry.{Entry}
 use Rattle.mtn_roster.specs.Tree.{is_some_with}

@@ -1,7 +1,7 @@
 -- The key is the target.
 use Rattle.std.proofs.Common.{sym, ap, ◌∙◌, cond, Some, option_copied, List, ℕ, Bool}
 use Rattle.mtn_apply.specs.Maps.{of_path}
-use Rattle.mtn_base.specs.Names.{path_cmp, same_path}
+use Rattle.mtn_base.specs.Names.{same_path}
 use Rattle.mtn_roster.specs.Tree.{is_some_with}
 use Rattle.mtn_apply.proofs.index.note_target.Goals as goal
 

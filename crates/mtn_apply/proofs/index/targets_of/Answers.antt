@@ -1,7 +1,6 @@
 -- One change before those that are noted.
 use Rattle.std.proofs.Common.{◌-◌, sym, ap, ◌∙◌, cond, Some, Bool, arith}
 use Rattle.mtn_apply.specs.Maps.{of_path}
-use Rattle.mtn_base.specs.Names.{path_cmp}
 use Rattle.mtn_edits.specs.Changes.{aims_at}
 use Rattle.mtn_apply.proofs.Positions.{one_before}
 use Rattle.mtn_apply.proofs.index.targets_of.Goals as goal

@@ -1,7 +1,6 @@
 use Rattle.std.proofs.Common.{◌≡◌, ◌≤◌, ℕ, List, length, drop}
 use Rattle.mtn_apply.specs.Maps.{of_path}
 use Rattle.std.specs.List.{position_from}
-use Rattle.mtn_base.specs.Names.{path_cmp}
 use Rattle.mtn_edits.specs.Changes.{aims_at}
 use Rattle.mtn_apply.proofs.index.targets_of.Given as goal
 

@@ -1,5 +1,5 @@
 -- A name whose mark is still there is another than the new one.
-use Rattle.std.proofs.Common.{◌≡◌, ℕ, Bool, List, cond, Some, ap, ◌∙◌}
+use Rattle.std.proofs.Common.{ℕ, Bool, List, cond, Some, ap, ◌∙◌}
 use Rattle.mtn_base.specs.Names.{same_name}
 use Rattle.mtn_base.specs.declared.name.NodeName.{NodeName}
 use Rattle.mtn_apply.specs.Maps.{of_name}

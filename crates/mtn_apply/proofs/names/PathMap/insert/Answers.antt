@@ -1,5 +1,5 @@
 -- A path whose mark is still there is another than the new one.
-use Rattle.std.proofs.Common.{◌≡◌, ℕ, Bool, List, cond, Some, ap, ◌∙◌}
+use Rattle.std.proofs.Common.{ℕ, Bool, List, cond, Some, ap, ◌∙◌}
 use Rattle.mtn_base.specs.Names.{same_path}
 use Rattle.mtn_apply.specs.Maps.{of_path}
 use Rattle.mtn_apply.proofs.Positions.{at_path}
