@@ -1,7 +1,7 @@
 // The edits of each node of the new tree.
 ghost use Rattle.std.specs.Prelude.{◌≡◌, ◌≢◌, ◌<◌, ◌+◌, ℕ, true, cond, length, map, drop, slice_get, option_map, option_and_then, option_copied, Some, None, IsTrue, IfOk, OnOk};
 ghost use Rattle.mtn_apply.specs.Maps.{of_name};
-ghost use Rattle.mtn_base.specs.Names.{name_cmp, same_name, bytes_cmp};
+ghost use Rattle.mtn_base.specs.Names.{same_name};
 ghost use Rattle.mtn_base.specs.declared.name.NodeName.{NodeName};
 ghost use Rattle.mtn_roster.specs.declared.entry.Entry.{Entry};
 ghost use Rattle.mtn_roster.specs.Tree.{is_some_with};

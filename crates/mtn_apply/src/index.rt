@@ -2,7 +2,7 @@
 ghost use Rattle.std.specs.Prelude.{◌≡◌, ◌<◌, ℕ, List, Some, None, cond, length, option_copied, IfOk, OnOk};
 ghost use Rattle.mtn_apply.specs.Maps.{of_name, of_path};
 ghost use Rattle.std.specs.List.{position_from};
-ghost use Rattle.mtn_base.specs.Names.{path_cmp, name_cmp, same_path};
+ghost use Rattle.mtn_base.specs.Names.{same_path};
 ghost use Rattle.mtn_roster.specs.Tree.{Tree, is_some_with};
 ghost use Rattle.mtn_roster.specs.declared.entry.Entry.{Entry};
 ghost use Rattle.mtn_edits.specs.Changes.{aims_at, deletes, moves, stands_at};
@@ -111,11 +111,7 @@ fn note_node(
 }
 
 /// For the name of each old node the position of the first change that deletes it.
-pub fn deleted_of(
-    alloc: Global,
-    old: Option<&Roster>,
-    all: &[Change],
-) -> Result<NameMap, NoMemory>
+pub fn deleted_of(alloc: Global, old: Option<&Roster>, all: &[Change]) -> Result<NameMap, NoMemory>
     ensures { IfOk result (λ m. (e : Entry) → of_name m e.name ≡ position_from (deletes (tree_in old.entry) e) 0 all.now) }
 {
     let mut deleted = NameMap::new(alloc, all.len())?;
@@ -128,11 +124,7 @@ pub fn deleted_of(
 }
 
 /// For the name of each old node the position of the first change that moves it.
-pub fn moved_of(
-    alloc: Global,
-    old: Option<&Roster>,
-    all: &[Change],
-) -> Result<NameMap, NoMemory>
+pub fn moved_of(alloc: Global, old: Option<&Roster>, all: &[Change]) -> Result<NameMap, NoMemory>
     ensures { IfOk result (λ m. (e : Entry) → of_name m e.name ≡ position_from (moves (tree_in old.entry) e) 0 all.now) }
 {
     let mut moved = NameMap::new(alloc, all.len())?;

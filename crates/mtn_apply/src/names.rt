@@ -34,7 +34,7 @@ impl Model for NameMap {
 }
 
 impl NameMap {
-    /// A map without names, with marks for so many.
+    /// A map without names, with marks for so many. It takes eight bytes for each.
     pub fn new(alloc: Global, count: usize) -> Result<NameMap, NoMemory>
         ensures { IfOk result (λ m. m ≡ []) }
     {
@@ -84,7 +84,7 @@ impl Model for PathMap {
 }
 
 impl PathMap {
-    /// A map without paths, with marks for so many.
+    /// A map without paths, with marks for so many. It takes eight bytes for each.
     pub fn new(alloc: Global, count: usize) -> Result<PathMap, NoMemory>
         ensures { IfOk result (λ m. m ≡ []) }
     {
