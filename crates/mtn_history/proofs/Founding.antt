@@ -26,13 +26,14 @@ pub founded : (f : List ℕ → List ℕ) (told : Option Contents) (c : Contents
 founded f told c p s tells draft = record {
   records = c;
   tells = tells;
+  draft = draft;
   count = draft.count;
   stands = behind_meta p.is_new f (with_all c p.batch) p.count s draft.count draft.stands;
 }
 
 -- what is told at the end was told before
 abbrev pub back : (f : List ℕ → List ℕ) (old new : Option Contents) (p : Pending) (s : State) → Same old new → IsFounded f new p s → IsFounded f old p s
-back f old new p s same d = record { records = d.records; tells = same d.records d.tells; count = d.count; stands = d.stands }
+back f old new p s same d = record { records = d.records; tells = same d.records d.tells; draft = d.draft; count = d.count; stands = d.stands }
 
 -- a fact of the told records
 pub told_of : (told : Option Contents) (c : Contents) (P : Contents → Type 0) → told ≡ Some c → IfSome told P → P c

@@ -111,6 +111,10 @@ module _ (c : Contents) (h : List Revision) (ks : List Kept) (grown : IsGrown h)
       let b = logged.each r v.0 k.0 v.1 k.1 in
       (v.0, k.0, b.0, v.1, b.1, b.2)
 
+  pub there_kept : (r : ℕ) (lt : r < length h) → slice_get ks r ≡ Some (there r lt).1
+  unfolding there
+  there_kept r lt = (within ks r (subst (λ n. r < n) (sym long) lt)).1
+
   never_unlogged : (r : ℕ) (d : Damage) → r < length h → UnloggedAt c r d → ⊥
   never_unlogged r (Bad table key body) lt wrong =
       let t = there r lt in

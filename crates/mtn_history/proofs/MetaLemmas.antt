@@ -22,7 +22,7 @@ use Rattle.mtn_history.specs.declared.pending.Pending.{Pending}
 use Rattle.mtn_history.specs.Meta.{meta_of, count_key, version_key, version, Counted, IsMetaOf, VersionDamage, MetaDamage}
 use Rattle.mtn_history.specs.Damage.{IsDamage, IsShown, UnfitDamage}
 use Rattle.mtn_history.specs.Logs.{LogDamage, IsHeldAt}
-use Rattle.mtn_history.specs.Places.{PlaceDamage}
+use Rattle.mtn_history.specs.Places.{PlaceDamage, UnplacedBelow}
 use Rattle.mtn_history.specs.Rosters.{RosterDamage, IsRosterHeld}
 use Rattle.mtn_history.proofs.PlaceLemmas.{never_unplaced, shown_place}
 use Rattle.mtn_history.specs.Texts.{TextDamage}
@@ -66,7 +66,7 @@ count_told n f c s meta stands =
     let body : meta.body ≡ to_be_bytes w64 (length s.log) = one_body (body_at c 1 count_key) meta.body (to_be_bytes w64 (length s.log)) meta.held (held_count f c s stands) in
     meta.number ∙ ap (from_be_bytes w64) body ∙ told_back (length s.log) (log_is_short f s.files s.log stands.history stands.spelled)
 
-opened_by : (b : Bool) (n : ℕ) (f : List ℕ → List ℕ) (c : Contents) (s : State) →
+pub opened_by : (b : Bool) (n : ℕ) (f : List ℕ → List ℕ) (c : Contents) (s : State) →
     MatchBool b ((body_at c 1 count_key ≡ None) × (n ≡ 0)) (Counted c n) → Stands f c s → (n ≡ length s.log) × MatchBool b (IsNew c s) (StandsFor f c s)
 opened_by true n f c s meta (inl new) = (meta.1 ∙ ap (λ (x : State). length x.log) (sym new.state), new)
 opened_by true n f c s meta (inr stands) = absurd (clash (body_at c 1 count_key) (to_be_bytes w64 (length s.log)) (held_count f c s stands) meta.0)
@@ -120,8 +120,14 @@ no_roster_damage f c s d (inr stands) damage =
 
 -- nor of the positions in table 3
 no_place_damage : (f : List ℕ → List ℕ) (c : Contents) (s : State) (d : Damage) → Stands f c s → PlaceDamage c d → ⊥
-no_place_damage f c s d (inl new) damage = clash (body_at c 1 count_key) damage.counted.body damage.counted.held (none_held c s count_key new)
-no_place_damage f c s d (inr stands) damage = never_unplaced s.log (c 3) stands.texts c refl damage.count d (count_told damage.count f c s damage.counted stands) damage.wrong
+no_place_damage f c s d stands damage =
+    let opened = opened_by damage.meta.is_new damage.meta.count f c s damage.read stands in
+    by d stands opened.0 damage.wrong
+  where
+    by : (d : Damage) → Stands f c s → damage.meta.count ≡ length s.log → UnplacedBelow damage.meta.count c d → ⊥
+    by (Missing table key) st is wrong = wrong
+    by (Bad table key body) (inl new) is wrong = clash (body_at c 3 key) body wrong.1 (ap (λ (d : Contents). body_at d 3 key) new.records ∙ get-empty (slice_cmp nat_cmp) key)
+    by (Bad table key body) (inr st) is wrong = never_unplaced s.log (c 3) st.texts c refl damage.meta.count (Bad table key body) is wrong
 
 -- records that stand for a state show no damage
 pub no_damage : (f : List ℕ → List ℕ) (c : Contents) (s : State) (d : Damage) → Stands f c s → IsDamage c d → ⊥
@@ -192,7 +198,7 @@ shown_unfit c r (Missing table key) (inr w) = ap (λ t. body_at c t key) w.0 ∙
 
 -- The record that is printed is one of the contents, or it is not in them.
 pub shown : (c : Contents) (d : Damage) → IsDamage c d → IsShown c d
-shown c d damage = ⊎_elim (shown_meta c d) (⊎_elim (shown_text c d) (⊎_elim (λ l. shown_log c l.wrong.place d l.wrong.wrong) (⊎_elim (λ l. shown_roster c l.wrong.place d l.wrong.wrong) (⊎_elim (λ p. shown_place c p.count d p.wrong) (λ (u : UnfitDamage c d). shown_unfit c u.place d u.held))))) damage
+shown c d damage = ⊎_elim (shown_meta c d) (⊎_elim (shown_text c d) (⊎_elim (λ l. shown_log c l.wrong.place d l.wrong.wrong) (⊎_elim (λ l. shown_roster c l.wrong.place d l.wrong.wrong) (⊎_elim (λ p. shown_place c p.meta.count d p.wrong) (λ (u : UnfitDamage c d). shown_unfit c u.place d u.held))))) damage
 
 -- what was found wrong in table 1 is damage
 pub meta_damage : (told : Option Contents) (e : StoreError) → IfSome told (λ c. IfDamage e (MetaDamage c)) → IfSome told (λ c. IfDamage e (IsDamage c))

@@ -5,7 +5,8 @@ use Rattle.mtn_model.specs.Table.{Contents, body_at}
 use Rattle.mtn_records.specs.Fields.{number_text}
 use Rattle.mtn_history.specs.declared.errors.Damage.{Damage}
 use Rattle.mtn_history.specs.declared.errors.Damage.TheVariants.{Bad, Missing}
-use Rattle.mtn_history.specs.Meta.{Counted}
+use Rattle.mtn_history.specs.Meta.{IsMetaOf}
+use Rattle.mtn_history.specs.declared.meta.Meta.{Meta}
 
 -- the position below n that stands before the text of an id, and the text; None where the id has no text
 abbrev pub IsPlaced : Contents → ℕ → Id → Option ℕ → List ℕ → Type 0
@@ -17,8 +18,8 @@ abbrev pub UnplacedBelow : ℕ → Contents → Damage → Type 0
 UnplacedBelow n c (Bad table key body) = (table ≡ 3) × (body_at c 3 key ≡ Some body) × ((r : ℕ) (text : List ℕ) → r < n → body ≡ number_text r ++ text → ⊥)
 UnplacedBelow n c (Missing table key) = ⊥
 
--- the same below `count`
+-- the same below the number of revisions
 pub record PlaceDamage (c : Contents) (d : Damage) : Type 0 where
-  pub count : ℕ
-  pub counted : Counted c count
-  pub wrong : UnplacedBelow count c d
+  pub meta : Meta
+  pub read : IsMetaOf c meta
+  pub wrong : UnplacedBelow meta.count c d

@@ -56,6 +56,7 @@ based p c = with_all (with_all c p.batch) (meta_puts p.is_new p.count)
 pub record IsFounded (f : List ℕ → List ℕ) (told : Option Contents) (p : Pending) (s : State) : Type 0 where
   pub records : Contents
   pub tells : told ≡ Some records
+  pub draft : IsDraft f records p s
   pub count : p.count ≡ length s.log
   pub stands : StandsFor f (based p records) s
 

@@ -1,5 +1,5 @@
 // Where revisions stand.
-ghost use Rattle.std.specs.Prelude.{◌≡◌, Err, drop, IfOk, IfErr, IfSome};
+ghost use Rattle.std.specs.Prelude.{◌≡◌, ◌<◌, Err, drop, IfOk, IfErr, IfSome};
 ghost use Rattle.mtn_ports.specs.Causes.{Rose};
 ghost use Rattle.mtn_ports.specs.Kept.{Stays, with_all};
 ghost use Rattle.mtn_history.specs.Errors.{IfDamage};
@@ -20,6 +20,7 @@ impl<'a, K: Keeper> DraftOver<'a, K, Pending> {
         ensures stays { Stays K.contents K.leaves K.faults self.old.keeper.now self.new.keeper.now }
         ensures pending { self.new.pending ≡ self.old.pending }
         ensures found { IfSome (K.contents self.new.keeper.now) (λ c. IfOk result (λ at. IsPlaced (with_all c self.old.pending.batch) self.old.pending.count id at (drop 8 body.new.items))) }
+        ensures below { IfOk result (λ at. IfSome at (λ p. p < self.old.pending.count)) }
         ensures damaged { IfSome (K.contents self.new.keeper.now) (λ c. IfErr result (λ e. IfDamage e (UnplacedBelow self.old.pending.count (with_all c self.old.pending.batch)))) }
         ensures failed { result ≡ Err StoreError.Failed → Rose (K.faults self.old.keeper.now) (K.faults self.new.keeper.now) }
     {

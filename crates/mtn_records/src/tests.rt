@@ -1,7 +1,7 @@
 // Small records by hand, under the key 5.
 use crate::{
-    LogRecord, RecordError, RosterRecord, log_again, one_record, read_log, read_roster,
-    roster_again, write_log, write_roster,
+    LogRecord, RecordError, RosterRecord, is_record_at, log_again, one_record, read_log,
+    read_roster, roster_again, write_log, write_roster,
 };
 use mtn_ancestry::{ParentList, Pos};
 use mtn_base::Id;
@@ -86,6 +86,21 @@ fn rosters_are_read_and_written_again(rt: HostRuntime) -> Result<(), Fail> {
         let mut out = Vec::new(alloc);
         write_roster(&again, &mut out)?;
         assert_eq!(rt; out.as_slice(), body.as_slice());
+    }
+    Ok(())
+}
+
+#[test]
+fn a_roster_is_taken_under_its_key_and_not_below_a_mark(rt: HostRuntime) -> Result<(), Fail> {
+    let alloc = rt.alloc();
+    let bodies = [
+        whole(alloc, &[1, 3], 4, 5)?,
+        delta(alloc, 3, &[2, 4], &[3])?,
+    ];
+    for body in &bodies {
+        let roster = read_roster(alloc, AT, body)?;
+        assert!(rt; is_record_at(&roster, AT));
+        assert!(rt; !is_record_at(&roster, Pos(4)));
     }
     Ok(())
 }
