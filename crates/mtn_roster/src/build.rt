@@ -90,18 +90,13 @@ pub fn sort_all_keys(alloc: Global, entries: &mut [Entry]) -> bool
     true
 }
 
-/// Sorts entries by their names. Where the first half ascends, as at an earlier tree's entries with some
-/// more behind them, runs are kept and merged; where there is no memory for that, in place.
-fn sort_entries(entries: &mut Vec<Entry>)
+/// Sorts entries by their names. Where the first half is said to ascend, as at an earlier tree's entries
+/// with some more behind them, runs are kept and merged; where there is no memory for that, in place.
+fn sort_entries(entries: &mut Vec<Entry>, half_ascends: bool)
     ensures permutation { IsPermutation entries.old.items entries.new.items }
     ensures sorted { IsSortedBy (λ (e : Entry) (f : Entry). is_lt (name_cmp e.name f.name)) entries.new.items }
 {
-    let half = entries.len() / 2;
-    let rises = entries[..half].is_sorted_by(|first, second| first
-        .name
-        .compare(&second.name)
-        .is_lt());
-    if rises
+    if half_ascends
         && entries
             .sort_by(|first, second| first.name.compare(&second.name))
             .is_ok()
@@ -123,13 +118,16 @@ fn first_half_ascends(entries: &[Entry]) -> bool {
     names_ascend(&entries[..entries.len() / 2])
 }
 
-/// Puts entries in the order of their keys, unless the first half ascends: that sorts faster by runs.
-fn arrange_unless_half(alloc: Global, entries: &mut Vec<Entry>)
+/// Puts entries in the order of their keys, unless the first half ascends: that sorts faster by runs. Says
+/// whether it was done.
+fn arrange_unless_half(alloc: Global, entries: &mut Vec<Entry>) -> bool
     ensures { IsPermutation entries.old.items entries.new.items }
 {
-    if !first_half_ascends(entries) {
-        arrange(alloc, entries);
+    if first_half_ascends(entries) {
+        return false;
     }
+    arrange(alloc, entries);
+    true
 }
 
 /// Puts entries in order by their names, and says whether these are apart. Where they ascend, as those of
@@ -141,10 +139,10 @@ pub fn sort_names(alloc: Global, entries: &mut Vec<Entry>) -> bool
     if names_ascend(entries) {
         return true;
     }
-    arrange_unless_half(alloc, entries);
-    if names_ascend(entries) {
+    let arranged = arrange_unless_half(alloc, entries);
+    if arranged && names_ascend(entries) {
         return true;
     }
-    sort_entries(entries);
+    sort_entries(entries, !arranged);
     names_ascend(entries)
 }

@@ -32,10 +32,10 @@ returns-then-names_ascend-clause-apart c = (at_first c).apart
 pub returns-then-names_ascend-clause-order : goal.returns-then-names_ascend-clause-order
 returns-then-names_ascend-clause-order c = (at_first c).order
 
-by_keys : (c : goal.Then-names_ascend-2) → Put c.args.entries.now.items c.arrange_unless_half.new.entries.items true
+by_keys : (c : goal.Then-names_ascend-2) → Put c.args.entries.now.items c.arrange_unless_half-arranged.new.entries.items true
 by_keys c =
-    already c.args.entries.now.items c.arrange_unless_half.new.entries.items c.arrange_unless_half.ensures
-    (subst (λ (t : Tree). Told t true) c.deref-2.ensures.value (subst (Told c.deref-2.result.now) c.if-names_ascend-2.true c.names_ascend-2.ensures))
+    already c.args.entries.now.items c.arrange_unless_half-arranged.new.entries.items c.arrange_unless_half-arranged.ensures
+    (subst (λ (t : Tree). Told t true) c.deref-then-arranged.ensures.value (subst (Told c.deref-then-arranged.result.now) c.if-names_ascend-2.true c.names_ascend-then-arranged.ensures))
 
 pub returns-then-names_ascend-2-clause-apart : goal.returns-then-names_ascend-2-clause-apart
 returns-then-names_ascend-2-clause-apart c = (by_keys c).apart
@@ -43,12 +43,12 @@ returns-then-names_ascend-2-clause-apart c = (by_keys c).apart
 pub returns-then-names_ascend-2-clause-order : goal.returns-then-names_ascend-2-clause-order
 returns-then-names_ascend-2-clause-order c = (by_keys c).order
 
-both : (c : goal.After-names_ascend-3) → Put c.args.entries.now.items c.sort_entries.new.entries.items c.names_ascend-3.result
+both : (c : goal.After-names_ascend-2) → Put c.args.entries.now.items c.sort_entries.new.entries.items c.names_ascend-2.result
 both c =
     let t = c.args.entries.now.items in
-    let moved = IsPermutation-trans t c.arrange_unless_half.new.entries.items c.sort_entries.new.entries.items c.arrange_unless_half.ensures c.sort_entries.ensures.permutation in
-    sorts name_cmp (λ (e : Entry). e.name) names_total same_name same_name-is same_name-self exact_names t c.sort_entries.new.entries.items c.names_ascend-3.result moved
-    c.sort_entries.ensures.sorted (subst (λ (t : Tree). Told t c.names_ascend-3.result) c.deref-3.ensures.value c.names_ascend-3.ensures)
+    let moved = IsPermutation-trans t c.arrange_unless_half-arranged.new.entries.items c.sort_entries.new.entries.items c.arrange_unless_half-arranged.ensures c.sort_entries.ensures.permutation in
+    sorts name_cmp (λ (e : Entry). e.name) names_total same_name same_name-is same_name-self exact_names t c.sort_entries.new.entries.items c.names_ascend-2.result moved
+    c.sort_entries.ensures.sorted (subst (λ (t : Tree). Told t c.names_ascend-2.result) c.deref-2.ensures.value c.names_ascend-2.ensures)
 
 pub returns-clause-apart : goal.returns-clause-apart
 returns-clause-apart c = (both c).apart
