@@ -8,4 +8,5 @@ pub mod Nothing
 pub mod OldKeys
 pub mod Placing
 pub mod Positions
+pub mod Spared
 pub mod Walked

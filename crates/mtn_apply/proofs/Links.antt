@@ -1,10 +1,10 @@
 -- The links from each edit to the next of the same node.
 use Rattle.std.specs.Prelude.{slice_get}
-use Rattle.std.specs.BTreeMap.{BTreeMap, get}
+use Rattle.mtn_apply.specs.Maps.{of_name}
 use Rattle.std.proofs.Common.{◌≡◌, ℕ, zero, suc, ◌+◌, ◌<◌, ◌≤◌, Bool, true, cond, List, [], ◌∷◌, length, get_or, set, Option, Some, None, refl, sym, ◌∙◌, ap, arith, inl, inr}
 use Rattle.std.proofs.lemmas.Bool.{cases_lt}
 use Rattle.std.proofs.lemmas.Option.{slice_get-get_or}
-use Rattle.mtn_base.specs.Names.{name_cmp, same_name}
+use Rattle.mtn_base.specs.Names.{same_name}
 use Rattle.mtn_base.specs.declared.id.Id.{Id}
 use Rattle.mtn_base.specs.declared.name.NodeName.{NodeName}
 use Rattle.mtn_roster.specs.Tree.{Tree, is_some_with}
@@ -32,13 +32,13 @@ get_in (y ∷ xs) (suc k) x h = omega (arith, get_in xs k x h)
 
 module _ (old : Tree) (all : List Change) (new : Id) where
   -- the links among the changes from a position on
-  pub record AreLinks (left : ℕ) (first : BTreeMap NodeName ℕ) (next : List (Option ℕ)) : Type 0 where
+  pub record AreLinks (left : ℕ) (first : List (NodeName × ℕ)) (next : List (Option ℕ)) : Type 0 where
     pub within : left ≤ length all
     pub long : length next ≡ length all
-    pub first_is : (n : NodeName) → get name_cmp first n ≡ next_edit old all new n left
+    pub first_is : (n : NodeName) → of_name first n ≡ next_edit old all new n left
     pub next_is : (n : NodeName) (k : ℕ) (c : Change) → left ≤ k → slice_get all k ≡ Some c → touches old all new n c ≡ true → slice_get next k ≡ Some (next_edit old all new n (k + 1))
 
-  pub no_links : (first : BTreeMap NodeName ℕ) (next : List (Option ℕ)) → ((n : NodeName) → get name_cmp first n ≡ None) → length next ≡ length all → AreLinks (length all) first next
+  pub no_links : (first : List (NodeName × ℕ)) (next : List (Option ℕ)) → ((n : NodeName) → of_name first n ≡ None) → length next ≡ length all → AreLinks (length all) first next
   no_links first next none long = record {
     within = omega arith;
     long = long;
@@ -46,16 +46,16 @@ module _ (old : Tree) (all : List Change) (new : Id) where
     next_is = λ n k c le is hit. absurd (omega (arith, get_in all k c is));
   }
 
-  pub one_link : (left k : ℕ) (first first' : BTreeMap NodeName ℕ) (next next' : List (Option ℕ)) (x : Change) (name : Option NodeName) → AreLinks left first next → k + 1 ≡ left → x ≡ get_or all k x →
+  pub one_link : (left k : ℕ) (first first' : List (NodeName × ℕ)) (next next' : List (Option ℕ)) (x : Change) (name : Option NodeName) → AreLinks left first next → k + 1 ≡ left → x ≡ get_or all k x →
       ((n : NodeName) → touches old all new n x ≡ is_some_with (λ m. same_name m n) name) →
-      ((n : NodeName) → get name_cmp first' n ≡ cond (is_some_with (λ m. same_name m n) name) (Some k) (get name_cmp first n)) → length next' ≡ length next →
-      ((n : NodeName) → is_some_with (λ m. same_name m n) name ≡ true → slice_get next' k ≡ Some (get name_cmp first n)) → ((j : ℕ) → (j ≡ k → ⊥) → slice_get next' j ≡ slice_get next j) → AreLinks k first' next'
+      ((n : NodeName) → of_name first' n ≡ cond (is_some_with (λ m. same_name m n) name) (Some k) (of_name first n)) → length next' ≡ length next →
+      ((n : NodeName) → is_some_with (λ m. same_name m n) name ≡ true → slice_get next' k ≡ Some (of_name first n)) → ((j : ℕ) → (j ≡ k → ⊥) → slice_get next' j ≡ slice_get next j) → AreLinks k first' next'
   one_link left k first first' next next' x name was e is hits firsts long here others = record {
     within = omega (arith, was.within);
     long = long ∙ was.long;
     first_is = λ n.
         firsts n
-        ∙ ap (λ (b : Bool). cond b (Some k) (get name_cmp first n)) (sym (hits n))
+        ∙ ap (λ (b : Bool). cond b (Some k) (of_name first n)) (sym (hits n))
         ∙ ap (cond (touches old all new n x) (Some k)) (was.first_is n)
         ∙ sym (one_before (touches old all new n) all left k x e low is);
     next_is = λ n j c le at hit. elim (cases_lt k j) [

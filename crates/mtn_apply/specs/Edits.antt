@@ -1,8 +1,8 @@
 -- The edits of one edge: patches, and cleared and set attributes.
 use Rattle.std.specs.Prelude.{◌≡◌, ◌+◌, ℕ, Bool, true, List, ◌++◌, length, drop, filter_map, slice_get, map, Vec, Option, Some, None}
-use Rattle.std.specs.BTreeMap.{BTreeMap, get}
+use Rattle.std.specs.BTreeMap.{BTreeMap}
+use Rattle.mtn_apply.specs.Maps.{of_name}
 use Rattle.std.specs.List.{position_from}
-use Rattle.mtn_base.specs.Names.{name_cmp}
 use Rattle.mtn_base.specs.declared.id.Id.{Id}
 use Rattle.mtn_base.specs.declared.name.NodeName.{NodeName}
 use Rattle.mtn_roster.specs.declared.entry.Attr.{Attr}
@@ -51,7 +51,7 @@ next_edit old all new n k = position_from (touches old all new n) k (drop k all)
 
 -- for each name the position of its first edit, and for each edit that of the next of the same node
 pub record AreEdits (old : Tree) (all : List Change) (new : Id) (edits : Edits) : Type 0 where
-  pub first : (n : NodeName) → get name_cmp edits.first n ≡ next_edit old all new n 0
+  pub first : (n : NodeName) → of_name edits.first n ≡ next_edit old all new n 0
   pub long : length edits.next.items ≡ length all
   pub next : (n : NodeName) (k : ℕ) (c : Change) → slice_get all k ≡ Some c → touches old all new n c ≡ true →
       slice_get edits.next.items k ≡ Some (next_edit old all new n (k + 1))

@@ -1,8 +1,7 @@
 -- An edge with its index: for each target, and for each old node, the first change that names it.
 use Rattle.std.specs.Prelude.{◌≡◌, ℕ, Bool, List, Option}
-use Rattle.std.specs.BTreeMap.{get}
+use Rattle.mtn_apply.specs.Maps.{of_name, of_path}
 use Rattle.std.specs.List.{position_from}
-use Rattle.mtn_base.specs.Names.{path_cmp, name_cmp}
 use Rattle.mtn_roster.specs.declared.entry.Entry.{Entry}
 use Rattle.mtn_roster.specs.Tree.{Tree}
 use Rattle.mtn_changes.specs.declared.change.Change.{Change}
@@ -18,9 +17,9 @@ first_at f xs = position_from f 0 xs
 
 pub record IsIndex (old : Tree) (all : List Change) (index : Index) : Type 0 where
   pub sane : IsOldTree old
-  pub targets : (q : List (List ℕ)) → get path_cmp index.targets q ≡ first_at (aims_at q) all
-  pub deleted : (e : Entry) → get name_cmp index.deleted e.name ≡ first_at (deletes old e) all
-  pub moved : (e : Entry) → get name_cmp index.moved e.name ≡ first_at (moves old e) all
+  pub targets : (q : List (List ℕ)) → of_path index.targets q ≡ first_at (aims_at q) all
+  pub deleted : (e : Entry) → of_name index.deleted e.name ≡ first_at (deletes old e) all
+  pub moved : (e : Entry) → of_name index.moved e.name ≡ first_at (moves old e) all
 
 -- the old tree of an edge, and its changes
 abbrev pub old_of : Edge → Tree

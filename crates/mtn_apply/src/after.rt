@@ -28,7 +28,7 @@ fn mover<'a>(edge: &Edge<'a>, entry: &Entry) -> Option<&'a Change>
 {
     match edge.index.moved.get(&entry.name) {
         None => None,
-        Some(at) => change_at(edge.all, *at),
+        Some(at) => change_at(edge.all, at),
     }
 }
 

@@ -1,7 +1,7 @@
 // The edits of each node of the new tree.
 ghost use Rattle.std.specs.Prelude.{◌≡◌, ◌≢◌, ◌<◌, ◌+◌, ℕ, true, cond, length, map, drop, slice_get, option_map, option_and_then, option_copied, Some, None, IsTrue, IfOk, OnOk};
-ghost use Rattle.std.specs.BTreeMap.{get};
-ghost use Rattle.mtn_base.specs.Names.{name_cmp, same_name, bytes_cmp};
+ghost use Rattle.mtn_apply.specs.Maps.{of_name};
+ghost use Rattle.mtn_base.specs.Names.{same_name};
 ghost use Rattle.mtn_base.specs.declared.name.NodeName.{NodeName};
 ghost use Rattle.mtn_roster.specs.declared.entry.Entry.{Entry};
 ghost use Rattle.mtn_roster.specs.Tree.{is_some_with};
@@ -14,18 +14,18 @@ ghost use Rattle.mtn_apply.specs.Edits.{edit_path, touches, edited_as, held, Are
 
 use crate::draft::{Draft, attrs_of, by_keys};
 use crate::index::Edge;
+use crate::names::NameMap;
 use crate::occupant::{There, change_at, occupant_of};
 use mtn_base::{Id, List, NoMemory, NodeName, Path};
 use mtn_changes::Change;
 use mtn_roster::{Body, Entry};
 use std::alloc::Global;
-use std::collections::BTreeMap;
 
 /// For the name of each node of the new tree the position of its first edit, and for each edit that of
 /// the next one of the same node.
 #[derive(Drop)]
 pub struct Edits {
-    pub first: BTreeMap<NodeName, usize>,
+    pub first: NameMap,
     pub next: Vec<Option<usize>>,
 }
 
@@ -83,15 +83,15 @@ fn touched(
 
 /// Puts the edit at a position before those of its node that are noted.
 fn note_edit(
-    first: &mut BTreeMap<NodeName, usize>,
+    first: &mut NameMap,
     next: &mut Vec<Option<usize>>,
     name: Option<NodeName>,
     at: usize,
 ) -> Result<(), NoMemory>
     requires within { at < length next.old.items }
-    ensures first { OnOk result ((n : NodeName) → get name_cmp first.new n ≡ cond (is_some_with (λ m. same_name m n) name) (Some at) (get name_cmp first.old n)) }
+    ensures first { OnOk result ((n : NodeName) → of_name first.new n ≡ cond (is_some_with (λ m. same_name m n) name) (Some at) (of_name first.old n)) }
     ensures long { OnOk result (length next.new.items ≡ length next.old.items) }
-    ensures here { OnOk result ((n : NodeName) → is_some_with (λ m. same_name m n) name ≡ true → slice_get next.new.items at ≡ Some (get name_cmp first.old n)) }
+    ensures here { OnOk result ((n : NodeName) → is_some_with (λ m. same_name m n) name ≡ true → slice_get next.new.items at ≡ Some (of_name first.old n)) }
     ensures others { OnOk result ((k : ℕ) → k ≢ at → slice_get next.new.items k ≡ slice_get next.old.items k) }
 {
     if let Some(name) = name {
@@ -106,7 +106,7 @@ pub fn edits_of(alloc: Global, edge: &Edge, new: Id) -> Result<Edits, NoMemory>
     requires { IsIndexed edge.now }
     ensures { IfOk result (AreEdits (old_of edge.now) (changes_of edge.now) new) }
 {
-    let mut first = BTreeMap::new(alloc);
+    let mut first = NameMap::new(alloc, edge.all.len())?;
     let mut next = vec![in alloc; None; edge.all.len()]?;
     let mut left = edge.all.len();
     while left > 0 {
@@ -172,7 +172,7 @@ pub fn edit(
     requires rising { IsTrue (are_keyed entry.old.attrs) }
     ensures { OnOk result (entry.new ≡ edited_by (old_of edge.now) (changes_of edge.now) new (changes_of edge.now) entry.old) }
 {
-    let Some(first) = edits.first.get(&entry.name).copied() else {
+    let Some(first) = edits.first.get(&entry.name) else {
         return Ok(());
     };
     let attrs = std::mem::replace(&mut entry.attrs, List::new(alloc)).into_vec();

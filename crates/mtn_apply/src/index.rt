@@ -1,27 +1,27 @@
 // What the changes of an edge name, for look-ups.
 ghost use Rattle.std.specs.Prelude.{◌≡◌, ◌<◌, ℕ, List, Some, None, cond, length, option_copied, IfOk, OnOk};
-ghost use Rattle.std.specs.BTreeMap.{get};
+ghost use Rattle.mtn_apply.specs.Maps.{of_name, of_path};
 ghost use Rattle.std.specs.List.{position_from};
-ghost use Rattle.mtn_base.specs.Names.{path_cmp, name_cmp, same_path};
+ghost use Rattle.mtn_base.specs.Names.{same_path};
 ghost use Rattle.mtn_roster.specs.Tree.{Tree, is_some_with};
 ghost use Rattle.mtn_roster.specs.declared.entry.Entry.{Entry};
 ghost use Rattle.mtn_edits.specs.Changes.{aims_at, deletes, moves, stands_at};
 ghost use Rattle.mtn_apply.specs.Old.{tree_in};
 ghost use Rattle.mtn_apply.specs.Index.{IsIndexed, IsIndex};
 
+use crate::names::{NameMap, PathMap};
 use crate::old::{old_at, old_len};
-use mtn_base::{NoMemory, NodeName, Path};
+use mtn_base::{NoMemory, Path};
 use mtn_changes::Change;
 use mtn_roster::Roster;
 use std::alloc::Global;
-use std::collections::BTreeMap;
 
 /// For each target, and for the name of each old node, the position of the first change that names it.
 #[derive(Drop)]
 pub struct Index {
-    pub targets: BTreeMap<Path, usize>,
-    pub deleted: BTreeMap<NodeName, usize>,
-    pub moved: BTreeMap<NodeName, usize>,
+    pub targets: PathMap,
+    pub deleted: NameMap,
+    pub moved: NameMap,
 }
 
 /// The changes from an old tree, with their index.
@@ -69,9 +69,9 @@ fn note_target(
     alloc: Global,
     target: Option<&Path>,
     at: usize,
-    targets: &mut BTreeMap<Path, usize>,
+    targets: &mut PathMap,
 ) -> Result<(), NoMemory>
-    ensures { OnOk result ((q : List (List ℕ)) → get path_cmp targets.new q ≡ cond (is_some_with (λ t. same_path t q) (option_copied target.entry)) (Some at) (get path_cmp targets.old q)) }
+    ensures { OnOk result ((q : List (List ℕ)) → of_path targets.new q ≡ cond (is_some_with (λ t. same_path t q) (option_copied target.entry)) (Some at) (of_path targets.old q)) }
 {
     if let Some(path) = target {
         targets.insert(path.copy(alloc)?, at)?;
@@ -80,10 +80,10 @@ fn note_target(
 }
 
 /// For each target the position of the first change that has it.
-pub fn targets_of(alloc: Global, all: &[Change]) -> Result<BTreeMap<Path, usize>, NoMemory>
-    ensures { IfOk result (λ m. (q : List (List ℕ)) → get path_cmp m q ≡ position_from (aims_at q) 0 all.now) }
+pub fn targets_of(alloc: Global, all: &[Change]) -> Result<PathMap, NoMemory>
+    ensures { IfOk result (λ m. (q : List (List ℕ)) → of_path m q ≡ position_from (aims_at q) 0 all.now) }
 {
-    let mut targets = BTreeMap::new(alloc);
+    let mut targets = PathMap::new(alloc, all.len())?;
     let mut left = all.len();
     while left > 0 {
         left -= 1;
@@ -98,9 +98,9 @@ fn note_node(
     old: Option<&Roster>,
     path: Option<&Path>,
     at: usize,
-    nodes: &mut BTreeMap<NodeName, usize>,
+    nodes: &mut NameMap,
 ) -> Result<(), NoMemory>
-    ensures { OnOk result ((e : Entry) → get name_cmp nodes.new e.name ≡ cond (is_some_with (stands_at (tree_in old.entry) e) (option_copied path.entry)) (Some at) (get name_cmp nodes.old e.name)) }
+    ensures { OnOk result ((e : Entry) → of_name nodes.new e.name ≡ cond (is_some_with (stands_at (tree_in old.entry) e) (option_copied path.entry)) (Some at) (of_name nodes.old e.name)) }
 {
     if let Some(path) = path {
         if let Some(entry) = old_at(old, path) {
@@ -111,14 +111,10 @@ fn note_node(
 }
 
 /// For the name of each old node the position of the first change that deletes it.
-pub fn deleted_of(
-    alloc: Global,
-    old: Option<&Roster>,
-    all: &[Change],
-) -> Result<BTreeMap<NodeName, usize>, NoMemory>
-    ensures { IfOk result (λ m. (e : Entry) → get name_cmp m e.name ≡ position_from (deletes (tree_in old.entry) e) 0 all.now) }
+pub fn deleted_of(alloc: Global, old: Option<&Roster>, all: &[Change]) -> Result<NameMap, NoMemory>
+    ensures { IfOk result (λ m. (e : Entry) → of_name m e.name ≡ position_from (deletes (tree_in old.entry) e) 0 all.now) }
 {
-    let mut deleted = BTreeMap::new(alloc);
+    let mut deleted = NameMap::new(alloc, all.len())?;
     let mut left = all.len();
     while left > 0 {
         left -= 1;
@@ -128,14 +124,10 @@ pub fn deleted_of(
 }
 
 /// For the name of each old node the position of the first change that moves it.
-pub fn moved_of(
-    alloc: Global,
-    old: Option<&Roster>,
-    all: &[Change],
-) -> Result<BTreeMap<NodeName, usize>, NoMemory>
-    ensures { IfOk result (λ m. (e : Entry) → get name_cmp m e.name ≡ position_from (moves (tree_in old.entry) e) 0 all.now) }
+pub fn moved_of(alloc: Global, old: Option<&Roster>, all: &[Change]) -> Result<NameMap, NoMemory>
+    ensures { IfOk result (λ m. (e : Entry) → of_name m e.name ≡ position_from (moves (tree_in old.entry) e) 0 all.now) }
 {
-    let mut moved = BTreeMap::new(alloc);
+    let mut moved = NameMap::new(alloc, all.len())?;
     let mut left = all.len();
     while left > 0 {
         left -= 1;

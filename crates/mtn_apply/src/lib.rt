@@ -19,8 +19,10 @@ mod draft;
 mod edits;
 mod fault;
 mod index;
+mod names;
 mod occupant;
 mod old;
+mod spare;
 mod target;
 mod why;
 

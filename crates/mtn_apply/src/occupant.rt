@@ -23,14 +23,14 @@ pub fn is_deleted(edge: &Edge, entry: &Entry) -> bool
     requires { IsIndexed edge.now }
     ensures { result ≡ deletes_it (old_of edge.now) (changes_of edge.now) entry.now }
 {
-    edge.index.deleted.contains_key(&entry.name)
+    edge.index.deleted.get(&entry.name).is_some()
 }
 
 pub fn is_moved(edge: &Edge, entry: &Entry) -> bool
     requires { IsIndexed edge.now }
     ensures { result ≡ moves_it (old_of edge.now) (changes_of edge.now) entry.now }
 {
-    edge.index.moved.contains_key(&entry.name)
+    edge.index.moved.get(&entry.name).is_some()
 }
 
 /// Neither deleted nor moved.
@@ -97,7 +97,7 @@ pub fn aimed<'a>(edge: &Edge<'a>, path: &Path) -> Option<&'a Change>
 {
     match edge.index.targets.get(path) {
         None => None,
-        Some(at) => change_at(edge.all, *at),
+        Some(at) => change_at(edge.all, at),
     }
 }
 

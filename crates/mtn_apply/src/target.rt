@@ -79,7 +79,7 @@ fn is_aimed_before(edge: &Edge, at: usize, path: &Path) -> bool
 {
     match edge.index.targets.get(path) {
         None => false,
-        Some(first) => *first < at,
+        Some(first) => first < at,
     }
 }
 

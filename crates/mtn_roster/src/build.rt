@@ -8,6 +8,7 @@ ghost use Rattle.mtn_base.specs.Names.{same_bytes, bytes_cmp, name_cmp};
 ghost use Rattle.mtn_roster.specs.Tree.{ordered, in_order};
 ghost use Rattle.mtn_roster.specs.Building.{NamesDiffer, KeysDiffer, with_keys_in_order};
 
+use crate::keys::arrange;
 use crate::{Attr, Entry};
 use mtn_base::{List, NoMemory};
 use std::alloc::{AllocError, AllocFailed, Global};
@@ -89,18 +90,13 @@ pub fn sort_all_keys(alloc: Global, entries: &mut [Entry]) -> bool
     true
 }
 
-/// Sorts entries by their names. Where the first half ascends, as at an earlier tree's entries with some
-/// more behind them, runs are kept and merged; where there is no memory for that, in place.
-fn sort_entries(entries: &mut Vec<Entry>)
+/// Sorts entries by their names. Where the first half is said to ascend, as at an earlier tree's entries
+/// with some more behind them, runs are kept and merged; where there is no memory for that, in place.
+fn sort_entries(entries: &mut Vec<Entry>, half_ascends: bool)
     ensures permutation { IsPermutation entries.old.items entries.new.items }
     ensures sorted { IsSortedBy (λ (e : Entry) (f : Entry). is_lt (name_cmp e.name f.name)) entries.new.items }
 {
-    let half = entries.len() / 2;
-    let rises = entries[..half].is_sorted_by(|first, second| first
-        .name
-        .compare(&second.name)
-        .is_lt());
-    if rises
+    if half_ascends
         && entries
             .sort_by(|first, second| first.name.compare(&second.name))
             .is_ok()
@@ -117,15 +113,36 @@ fn names_ascend(entries: &[Entry]) -> bool
     entries.is_sorted_by(|first, second| first.name.compare(&second.name).is_lt())
 }
 
+/// Whether the names of the first half ascend.
+fn first_half_ascends(entries: &[Entry]) -> bool {
+    names_ascend(&entries[..entries.len() / 2])
+}
+
+/// Puts entries in the order of their keys, unless the first half ascends: that sorts faster by runs. Says
+/// whether it was done.
+fn arrange_unless_half(alloc: Global, entries: &mut Vec<Entry>) -> bool
+    ensures { IsPermutation entries.old.items entries.new.items }
+{
+    if first_half_ascends(entries) {
+        return false;
+    }
+    arrange(alloc, entries);
+    true
+}
+
 /// Puts entries in order by their names, and says whether these are apart. Where they ascend, as those of
-/// an earlier tree, one look tells it.
-pub fn sort_names(entries: &mut Vec<Entry>) -> bool
+/// an earlier tree, one look tells it; so it does once they stand by their keys.
+pub fn sort_names(alloc: Global, entries: &mut Vec<Entry>) -> bool
     ensures apart { IsTrue result ↔ NamesDiffer entries.old.items }
     ensures order { IsTrue result → entries.new.items ≡ in_order entries.old.items }
 {
     if names_ascend(entries) {
         return true;
     }
-    sort_entries(entries);
+    let arranged = arrange_unless_half(alloc, entries);
+    if arranged && names_ascend(entries) {
+        return true;
+    }
+    sort_entries(entries, !arranged);
     names_ascend(entries)
 }

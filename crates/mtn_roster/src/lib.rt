@@ -11,13 +11,15 @@
 //!
 //! Cost: `build` sorts once by name and once by slot, and visits each node twice to tell that all chains
 //! end; a look-up is a binary search for each component; a walk visits each node once. An entry takes 16
-//! bytes more than it has itself, and no name is kept twice.
+//! bytes more than it has itself, and no name is kept twice; only while `build` sorts entries whose first
+//! half does not ascend, their names are there once more.
 #![tactic(auto)]
 
 pub mod attrs;
 mod build;
 mod entry;
 mod index;
+mod keys;
 pub mod laws;
 mod roster;
 mod sane;

@@ -49,7 +49,7 @@ impl Roster {
         if !sort_all_keys(alloc, &mut entries) {
             return Err(BuildError::Insane);
         }
-        if !sort_names(&mut entries) {
+        if !sort_names(alloc, &mut entries) {
             return Err(BuildError::Insane);
         }
         let (ups, by_slot) = checked_index(alloc, &entries)?;

@@ -13,7 +13,7 @@ it : (old : Tree) (all : List Change) (e : Entry) (at : Option ℕ) → at ≡ f
 it old all e at h = ap (option_and_then (slice_get all)) h ∙ found_at (moves old e) all
 
 pub returns-in-None : goal.returns-in-None
-returns-in-None c = it (old_of c.args.edge.now) (changes_of c.args.edge.now) c.args.entry.now None (c.in-None.ensures.value ∙ c.requires.moved c.args.entry.now)
+returns-in-None c = it (old_of c.args.edge.now) (changes_of c.args.edge.now) c.args.entry.now None (c.in-None.ensures ∙ c.requires.moved c.args.entry.now)
 
 pub returns-in-Some : goal.returns-in-Some
-returns-in-Some c = c.change_at.ensures ∙ it (old_of c.args.edge.now) (changes_of c.args.edge.now) c.args.entry.now (Some c.in-Some.at.now) (c.in-Some.ensures.value ∙ c.requires.moved c.args.entry.now)
+returns-in-Some c = c.change_at.ensures ∙ it (old_of c.args.edge.now) (changes_of c.args.edge.now) c.args.entry.now (Some c.in-Some.at) (c.in-Some.ensures ∙ c.requires.moved c.args.entry.now)

@@ -38,14 +38,14 @@ pub returns-in_default : goal.returns-in_default
 returns-in_default c =
     let e = c.args.entry.now in
     none_first (old_of c.args.edge.now) (changes_of c.args.edge.now) c.args.new e c.requires.rising
-    (sym (none_of c.copied.result c.in_default.not-Some) ∙ c.copied.ensures ∙ c.get.ensures.value ∙ c.requires.edits.first e.name)
+    (sym (none_of c.get.result c.in_default.not-Some) ∙ c.get.ensures ∙ c.requires.edits.first e.name)
 
 pub loop-next-init : goal.loop-next-init
 loop-next-init c =
     let e = c.args.entry.now in
     let attrs = c.in_ok-by_keys.ensures ∙ c.into_vec-attrs.ensures ∙ c.replace.ensures.value in
     left_start (old_of c.args.edge.now) (changes_of c.args.edge.now) c.args.new e _ (Some c.in-Some.first) (ap (with_attrs e) attrs) c.requires.rising
-    (sym c.in-Some.is ∙ c.copied.ensures ∙ c.get.ensures.value ∙ c.requires.edits.first e.name)
+    (sym c.in-Some.is ∙ c.get.ensures ∙ c.requires.edits.first e.name)
 
 pub returns : goal.returns
 returns c =

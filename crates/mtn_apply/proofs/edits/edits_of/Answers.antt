@@ -10,8 +10,8 @@ use Rattle.mtn_apply.proofs.edits.edits_of.Goals as goal
 
 pub loop-left-init : goal.loop-left-init
 loop-left-init c =
-    no_links (old_of c.args.edge.now) (changes_of c.args.edge.now) c.args.new c.new-first.result c.in_ok-next.next.items
-    (λ n. ap (lookup (is_at (name_cmp n))) c.new-first.ensures.empty) (search rules)
+    no_links (old_of c.args.edge.now) (changes_of c.args.edge.now) c.args.new c.in_ok-first.first c.in_ok-next.next.items
+    (λ n. ap (lookup (is_at (name_cmp n))) c.in_ok-first.ensures) (search rules)
 
 pub loop-left-preserved : goal.loop-left-preserved
 loop-left-preserved c =

@@ -1,14 +1,13 @@
 use Rattle.std.proofs.Common.{◌≡◌, ◌≤◌, length, drop}
-use Rattle.std.specs.BTreeMap.{get}
+use Rattle.mtn_apply.specs.Maps.{of_name}
 use Rattle.std.specs.List.{position_from}
-use Rattle.mtn_base.specs.Names.{name_cmp}
 use Rattle.mtn_roster.specs.declared.entry.Entry.{Entry}
 use Rattle.mtn_edits.specs.Changes.{deletes}
 use Rattle.mtn_apply.specs.Old.{tree_in}
 use Rattle.mtn_apply.proofs.index.deleted_of.Given as goal
 
 abbrev pub invariant-loop-left : goal.invariant-loop-left
-invariant-loop-left l = (l.left ≤ length l.all) × ((e : Entry) → get name_cmp l.deleted e.name ≡ position_from (deletes (tree_in l.old) e) l.left (drop l.left l.all))
+invariant-loop-left l = (l.left ≤ length l.all) × ((e : Entry) → of_name l.deleted e.name ≡ position_from (deletes (tree_in l.old) e) l.left (drop l.left l.all))
 
 abbrev pub decreases-loop-left : goal.decreases-loop-left
 decreases-loop-left l = l.left

@@ -1,7 +1,6 @@
 -- One change before those that are noted.
 use Rattle.std.proofs.Common.{◌-◌, sym, ap, ◌∙◌, cond, Some, Bool, arith}
-use Rattle.std.specs.BTreeMap.{get}
-use Rattle.mtn_base.specs.Names.{name_cmp}
+use Rattle.mtn_apply.specs.Maps.{of_name}
 use Rattle.mtn_edits.specs.Changes.{moves}
 use Rattle.mtn_apply.specs.Old.{tree_in}
 use Rattle.mtn_apply.proofs.Positions.{one_before}
@@ -15,7 +14,7 @@ loop-left-preserved c =
       omega arith,
       λ e.
           c.in_ok-note_node.ensures e
-          ∙ ap (λ (b : Bool). cond b (Some k) (get name_cmp c.loop-left.moved e.name)) (sym (c.moved_path.ensures t e))
+          ∙ ap (λ (b : Bool). cond b (Some k) (of_name c.loop-left.moved e.name)) (sym (c.moved_path.ensures t e))
           ∙ ap (cond (moves t e x) (Some k)) (c.loop-left.invariant.1 e)
           ∙ sym (one_before (moves t e) c.args.all.now c.loop-left.left k x (omega arith) (omega arith) c.index-all-left.is),
     )

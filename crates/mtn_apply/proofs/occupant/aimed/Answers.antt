@@ -11,7 +11,7 @@ it : (all : List Change) (q : List (List ℕ)) (at : Option ℕ) → at ≡ firs
 it all q at h = ap (option_and_then (slice_get all)) h ∙ found_at (aims_at q) all
 
 pub returns-in-None : goal.returns-in-None
-returns-in-None c = it (changes_of c.args.edge.now) c.args.path.now None (c.in-None.ensures.value ∙ c.requires.targets c.args.path.now)
+returns-in-None c = it (changes_of c.args.edge.now) c.args.path.now None (c.in-None.ensures ∙ c.requires.targets c.args.path.now)
 
 pub returns-in-Some : goal.returns-in-Some
-returns-in-Some c = c.change_at.ensures ∙ it (changes_of c.args.edge.now) c.args.path.now (Some c.in-Some.at.now) (c.in-Some.ensures.value ∙ c.requires.targets c.args.path.now)
+returns-in-Some c = c.change_at.ensures ∙ it (changes_of c.args.edge.now) c.args.path.now (Some c.in-Some.at) (c.in-Some.ensures ∙ c.requires.targets c.args.path.now)

@@ -7,4 +7,4 @@ use Rattle.mtn_apply.proofs.Positions.{there_is}
 use Rattle.mtn_apply.proofs.occupant.is_deleted.Goals as goal
 
 pub returns : goal.returns
-returns c = c.contains_key.ensures ∙ ap is_some (c.requires.deleted c.args.entry.now) ∙ there_is (deletes (old_of c.args.edge.now) c.args.entry.now) 0 (changes_of c.args.edge.now)
+returns c = c.is_some.ensures ∙ ap is_some (c.get.ensures ∙ c.requires.deleted c.args.entry.now) ∙ there_is (deletes (old_of c.args.edge.now) c.args.entry.now) 0 (changes_of c.args.edge.now)

@@ -13,7 +13,7 @@ it : (all : List Change) (q : List (List ℕ)) (n : ℕ) (at : Option ℕ) → a
 it all q n at h = ap (is_some_with (λ k. nat_lt k n)) h ∙ sym (before_is (aims_at q) n all)
 
 pub returns-in-None : goal.returns-in-None
-returns-in-None c = it (changes_of c.args.edge.now) c.args.path.now c.args.at None (c.in-None.ensures.value ∙ c.requires.targets c.args.path.now)
+returns-in-None c = it (changes_of c.args.edge.now) c.args.path.now c.args.at None (c.in-None.ensures ∙ c.requires.targets c.args.path.now)
 
 pub returns-in-Some : goal.returns-in-Some
-returns-in-Some c = it (changes_of c.args.edge.now) c.args.path.now c.args.at (Some c.in-Some.first.now) (c.in-Some.ensures.value ∙ c.requires.targets c.args.path.now)
+returns-in-Some c = it (changes_of c.args.edge.now) c.args.path.now c.args.at (Some c.in-Some.first) (c.in-Some.ensures ∙ c.requires.targets c.args.path.now)

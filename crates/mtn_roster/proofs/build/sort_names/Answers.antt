@@ -1,7 +1,8 @@
--- The names ascend as they stand, or once they are sorted.
+-- The names ascend as they stand, or once they are arranged by their keys, or once they are sorted.
 use Rattle.std.proofs.Common.{◌≡◌, Bool, true, subst}
-use Rattle.std.proofs.lemmas.List.Sorted.{IsPermutation-refl}
+use Rattle.std.proofs.lemmas.List.Sorted.{IsPermutation-refl, IsPermutation-trans}
 use Rattle.std.specs.List.{IsAllAdjacentAnswer}
+use Rattle.std.specs.List.Sorted.{IsPermutation}
 use Rattle.std.specs.Ordering.{is_lt}
 use Rattle.mtn_base.specs.Names.{name_cmp, same_name}
 use Rattle.mtn_roster.specs.declared.entry.Entry.{Entry}
@@ -17,20 +18,36 @@ Told t r = IsAllAdjacentAnswer (λ (x : Entry) (y : Entry) b. b ≡ is_lt (name_
 abbrev Put : Tree → Tree → Bool → Type 0
 Put t s r = Sorts name_cmp (λ (e : Entry). e.name) names_total same_name same_name-is same_name-self exact_names t s r
 
-already : (c : goal.Then-names_ascend) → Put c.args.entries.now.items c.args.entries.now.items true
-already c =
+already : (t s : Tree) → IsPermutation t s → Told s true → Put t s true
+already t s p told = sorts_already name_cmp (λ (e : Entry). e.name) names_total same_name same_name-is same_name-self exact_names t s p told
+
+at_first : (c : goal.Then-names_ascend) → Put c.args.entries.now.items c.args.entries.now.items true
+at_first c =
     let es = c.args.entries.now.items in
-    sorts_already name_cmp (λ (e : Entry). e.name) names_total same_name same_name-is same_name-self exact_names es es (IsPermutation-refl es)
-    (subst (λ (t : Tree). Told t true) c.deref.ensures.value (subst (Told c.deref.result.now) c.if-names_ascend.true c.names_ascend.ensures))
+    already es es (IsPermutation-refl es) (subst (λ (t : Tree). Told t true) c.deref.ensures.value (subst (Told c.deref.result.now) c.if-names_ascend.true c.names_ascend.ensures))
 
 pub returns-then-names_ascend-clause-apart : goal.returns-then-names_ascend-clause-apart
-returns-then-names_ascend-clause-apart c = (already c).apart
+returns-then-names_ascend-clause-apart c = (at_first c).apart
 
 pub returns-then-names_ascend-clause-order : goal.returns-then-names_ascend-clause-order
-returns-then-names_ascend-clause-order c = (already c).order
+returns-then-names_ascend-clause-order c = (at_first c).order
+
+by_keys : (c : goal.Then-names_ascend-2) → Put c.args.entries.now.items c.arrange_unless_half-arranged.new.entries.items true
+by_keys c =
+    already c.args.entries.now.items c.arrange_unless_half-arranged.new.entries.items c.arrange_unless_half-arranged.ensures
+    (subst (λ (t : Tree). Told t true) c.deref-then-arranged.ensures.value (subst (Told c.deref-then-arranged.result.now) c.if-names_ascend-2.true c.names_ascend-then-arranged.ensures))
+
+pub returns-then-names_ascend-2-clause-apart : goal.returns-then-names_ascend-2-clause-apart
+returns-then-names_ascend-2-clause-apart c = (by_keys c).apart
+
+pub returns-then-names_ascend-2-clause-order : goal.returns-then-names_ascend-2-clause-order
+returns-then-names_ascend-2-clause-order c = (by_keys c).order
 
 both : (c : goal.After-names_ascend-2) → Put c.args.entries.now.items c.sort_entries.new.entries.items c.names_ascend-2.result
-both c = sorts name_cmp (λ (e : Entry). e.name) names_total same_name same_name-is same_name-self exact_names c.args.entries.now.items c.sort_entries.new.entries.items c.names_ascend-2.result c.sort_entries.ensures.permutation
+both c =
+    let t = c.args.entries.now.items in
+    let moved = IsPermutation-trans t c.arrange_unless_half-arranged.new.entries.items c.sort_entries.new.entries.items c.arrange_unless_half-arranged.ensures c.sort_entries.ensures.permutation in
+    sorts name_cmp (λ (e : Entry). e.name) names_total same_name same_name-is same_name-self exact_names t c.sort_entries.new.entries.items c.names_ascend-2.result moved
     c.sort_entries.ensures.sorted (subst (λ (t : Tree). Told t c.names_ascend-2.result) c.deref-2.ensures.value c.names_ascend-2.ensures)
 
 pub returns-clause-apart : goal.returns-clause-apart

@@ -1,0 +1,14 @@
+-- Maps by names and by paths, as lists of their entries.
+use Rattle.std.specs.Prelude.{ℕ, List, Option}
+use Rattle.std.specs.BTreeMap.{is_at}
+use Rattle.std.specs.Map.{lookup}
+use Rattle.mtn_base.specs.Names.{name_cmp, path_cmp}
+use Rattle.mtn_base.specs.declared.name.NodeName.{NodeName}
+
+-- what a name has
+abbrev pub of_name : List (NodeName × ℕ) → NodeName → Option ℕ
+of_name entries n = lookup (is_at (name_cmp n)) entries
+
+-- what a path has
+abbrev pub of_path : List (List (List ℕ) × ℕ) → List (List ℕ) → Option ℕ
+of_path entries q = lookup (is_at (path_cmp q)) entries
