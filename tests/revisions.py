@@ -2,6 +2,7 @@
 """Puts revisions into a store through the built program, and asks for them: worked histories, each refusal, and what
 sqlite3 finds in the records. The texts and the manifests are made here, by the formats of docs/FORMATS.md.
 Ends with 'N passed, M failed'."""
+import contextlib
 import hashlib
 import os
 import sqlite3
@@ -128,11 +129,11 @@ class Store:
     def records(self):
         if not os.path.exists(self.path):
             return []
-        with sqlite3.connect(self.path) as records:
+        with contextlib.closing(sqlite3.connect(self.path)) as records:
             return sorted(records.execute('SELECT kind, name, body FROM kept').fetchall())
 
     def body(self, table, position):
-        with sqlite3.connect(self.path) as records:
+        with contextlib.closing(sqlite3.connect(self.path)) as records:
             return records.execute('SELECT body FROM kept WHERE kind = ? AND name = ?', (table, position.to_bytes(8, 'big'))).fetchone()[0]
 
 
