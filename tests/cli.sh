@@ -214,5 +214,14 @@ walk() {
 }
 verdict "the walk in docs/USING.md" walk
 
+# Histories, made and asked for; its own rows count here.
+told=$(python3 tests/revisions.py)
+revisions_ended=$?
+echo "histories: $told"
+read -r more _ fewer _ <<<"$told"
+passed=$((passed + more))
+failed=$((failed + fewer))
+verdict "tests/revisions.py ended" test "$revisions_ended" = 0 -a "$more" -gt 0
+
 echo "$passed passed, $failed failed"
 [ "$failed" = 0 ]

@@ -52,6 +52,7 @@ corresponding_path (a ∷ []) = None
 corresponding_path (a ∷ b ∷ []) = None
 corresponding_path (a ∷ b ∷ c ∷ []) = option_and_then (λ id. option_and_then (λ path. option_map (GetCorrespondingPath id path) (read_id c)) (read_path b)) (read_id a)
 corresponding_path (_ ∷ _ ∷ _ ∷ _ ∷ _) = None
+
 -- ids, maybe none
 abbrev pub ids : List (List ℕ) → Option (List Id)
 ids words = each_of read_id words
