@@ -1,9 +1,4 @@
 // Small trees by hand: a root at number 1 and files in it.
-ghost use Rattle.std.specs.Prelude.{◌<◌, IsTrue};
-ghost use Rattle.std.specs.List.{AllByRecursion};
-ghost use Rattle.mtn_records.specs.declared.entry.NumberedEntry.{NumberedEntry};
-ghost use Rattle.mtn_chains.specs.Numbering.{AreKnown};
-
 use crate::copies::copy_entry;
 use crate::same::are_same;
 use crate::{DEEPEST, delta, number, rebuild};
@@ -22,18 +17,11 @@ fn name(alloc: Global, text: &[u8]) -> Result<NodeName, Fail> {
     })
 }
 
-// The entries of one tree, if there is one, and a number above theirs.
+// The entries of one tree, if there is one, and the least number that is free.
 #[derive(Drop)]
 struct Known {
     lists: Vec<Numbered>,
     next: u64,
-    ghost are_known: { AreKnown lists.items next },
-}
-
-fn are_below(entries: &[NumberedEntry], next: u64) -> bool
-    ensures { IsTrue result → AllByRecursion (λ (e : NumberedEntry). e.number < next) entries.now }
-{
-    entries.iter().all(|entry| entry.number < next)
 }
 
 impl Known {
@@ -45,14 +33,11 @@ impl Known {
     }
 
     // The entries of a tree whose parent's these are.
-    fn child(&self, alloc: Global, tree: &MarkedRoster, next: u64) -> Result<Known, Fail> {
-        if next < self.next || 100 < next || 100 < tree.roster().len() {
+    fn child(&self, alloc: Global, tree: &MarkedRoster) -> Result<Known, Fail> {
+        if 100 < self.next || 100 < tree.roster().len() {
             return Err(Fail::from("too many nodes"));
         }
-        let entries = number(alloc, tree, &self.lists, self.next)?;
-        if !are_below(entries.entries.as_slice(), next) {
-            return Err(Fail::from("a number is too great"));
-        }
+        let (entries, next) = number(alloc, tree, &self.lists, self.next)?;
         let mut lists = Vec::new(alloc);
         lists.push(entries)?;
         Ok(Known { lists, next })
@@ -108,11 +93,11 @@ fn tree_of(alloc: Global, files: &[(u8, u8)]) -> Result<Roster, Fail> {
     Ok(Roster::build(alloc, entries)?)
 }
 
-fn root_link(alloc: Global, files: &[(u8, u8)], next: u64) -> Result<Link, Fail> {
+fn root_link(alloc: Global, files: &[(u8, u8)]) -> Result<Link, Fail> {
     let new = tree_of(alloc, files)?;
     let marks = mark_root(alloc, &new, Pos(0))?;
     let tree = MarkedRoster::new(new, marks);
-    let known = Known::none(alloc).child(alloc, &tree, next)?;
+    let known = Known::none(alloc).child(alloc, &tree)?;
     Ok(Link {
         tree,
         known,
@@ -120,17 +105,11 @@ fn root_link(alloc: Global, files: &[(u8, u8)], next: u64) -> Result<Link, Fail>
     })
 }
 
-fn child_link(
-    alloc: Global,
-    parent: &Link,
-    files: &[(u8, u8)],
-    at: u64,
-    next: u64,
-) -> Result<Link, Fail> {
+fn child_link(alloc: Global, parent: &Link, files: &[(u8, u8)], at: u64) -> Result<Link, Fail> {
     let new = tree_of(alloc, files)?;
     let marks = mark_one(alloc, &parent.tree, &new, Pos(at))?;
     let tree = MarkedRoster::new(new, marks);
-    let known = parent.known.child(alloc, &tree, next)?;
+    let known = parent.known.child(alloc, &tree)?;
     let depth = if parent.depth < DEEPEST {
         parent.depth + 1
     } else {
@@ -232,8 +211,8 @@ fn line_of(alloc: Global) -> Result<Vec<Link>, Fail> {
     for at in 0..17u8 {
         let files = [(b'f', at)];
         let link = match line.last() {
-            None => root_link(alloc, &files, 3)?,
-            Some(parent) => child_link(alloc, parent, &files, u64::from(at), 3)?,
+            None => root_link(alloc, &files)?,
+            Some(parent) => child_link(alloc, parent, &files, u64::from(at))?,
         };
         line.push(link)?;
     }
@@ -274,8 +253,9 @@ fn a_root_and_sixteen_children(rt: HostRuntime) -> Result<(), Fail> {
 #[test]
 fn nodes_keep_their_numbers(rt: HostRuntime) -> Result<(), Fail> {
     let alloc = rt.alloc();
-    let first = root_link(alloc, &[(b'g', 1), (b'h', 1)], 4)?;
-    let second = child_link(alloc, &first, &[(b'f', 1), (b'h', 1)], 1, 5)?;
+    let first = root_link(alloc, &[(b'g', 1), (b'h', 1)])?;
+    let second = child_link(alloc, &first, &[(b'f', 1), (b'h', 1)], 1)?;
+    assert_eq!(rt; (first.known.next, second.known.next), (4, 5));
     let entries = second.known.entries();
     assert_eq!(rt; numbers(alloc, entries)?.as_slice(), [1, 3, 4].as_slice());
     let base = copy_of(alloc, first.known.entries())?;
