@@ -46,7 +46,17 @@ row "an end of options is dropped" 0 abc "$abc\n" - put_file --
 row "a store in memory begins empty" 1 '' "refused UnknownFile $abc\n" - get_file "$abc"
 row "and has no revision" 1 '' "refused UnknownRevision $abc\n" - get_revision "$abc"
 
-for words in '' 'heads' 'put_file x' 'put_file --x' 'put_file --x=' 'put_file --resolve' 'put_file -- x' 'put_file -- --' 'get_file' 'get_revision' 'get_revision ABC' "get_revision $abc $abc" 'get_file ABC' "get_file $abc x" "get_file $abc --" "get_file --x= $abc" 'get_file --' 'PUT_FILE' '-- put_file'; do
+for query in parents children ancestors descendents common_ancestors erase_ancestors toposort ancestry_difference; do
+    row "$query of an unknown revision" 1 '' "refused UnknownRevision $abc\n" - $query "$abc"
+done
+for query in ancestors descendents common_ancestors erase_ancestors toposort ancestry_difference; do
+    row "$query of two: the first is refused" 1 '' "refused UnknownRevision $nothing\n" - $query "$nothing" "$abc"
+done
+for query in erase_ancestors toposort leaves roots graph; do
+    row "$query of nothing" 0 'unread' '' - $query
+done
+
+for words in '' 'heads' 'put_file x' 'put_file --x' 'put_file --x=' 'put_file --resolve' 'put_file -- x' 'put_file -- --' 'get_file' 'get_revision' 'get_revision ABC' "get_revision $abc $abc" 'get_file ABC' "get_file $abc x" "get_file $abc --" "get_file --x= $abc" 'get_file --' 'PUT_FILE' '-- put_file' parents "parents $abc $abc" children ancestors descendents common_ancestors ancestry_difference 'toposort x' "leaves $abc" "roots $abc" "graph $abc"; do
     # shellcheck disable=SC2086
     row "outside the grammar: '$words'" 2 'never read' 'usage\n' - $words
 done
@@ -183,6 +193,7 @@ for round in $(seq 20); do verdict "killed, round $round" killed; done
 
 ./mtn --help >"$work/help"
 verdict "help has status 0 and names each command" test $? = 0 -a "$(grep -c '^  put_file \|^  get_file \|^  get_revision ' "$work/help")" = 3
+verdict "and each query" test "$(grep -c '^  parents \|^  children \|^  ancestors \|^  descendents \|^  common_ancestors \|^  erase_ancestors \|^  toposort \|^  ancestry_difference \|^  leaves \|^  roots \|^  graph ' "$work/help")" = 11
 row "the version" 0 '' 'mtn 0.1.0 (Sonnavil)\n' --version
 row "help with more words is a store of that name" 2 '' 'usage\n' --help heads
 

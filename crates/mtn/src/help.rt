@@ -10,8 +10,24 @@ output standard output. The word `--` ends the options of a command.
 
 Commands:
   put_file          keeps the input as a file; prints its id
+  put_revision      accepts the input as the text of a revision; prints its id
   get_file FILE     prints the bytes of the file with this id
   get_revision REV  prints the text of the revision with this id
+
+Queries of the graph; each prints ids, one a line, in ascending order unless it
+says log order, which is that of acceptance:
+  parents REV                     its parents
+  children REV                    the revisions that have it as a parent
+  ancestors REV..                 the proper ancestors of at least one
+  descendents REV..               the proper descendents of at least one
+  common_ancestors REV..          what is each of these or an ancestor of it
+  erase_ancestors [REV..]         those that are proper ancestors of no other
+  toposort [REV..]                these in log order
+  ancestry_difference REV [REV..] the first and its ancestors, without the others
+                                  and theirs, in log order
+  leaves                          the revisions without children
+  roots                           the revisions without parents
+  graph                           a line for each revision: its id, its parents
 
 FILE is the id of a file, REV that of a revision: 40 lower-case hexadecimal
 digits, the SHA-1 of its bytes, of its text.

@@ -20,7 +20,7 @@ use Rattle.mtn_cli.specs.declared.answer.Reply.{Reply}
 use Rattle.mtn_cli.specs.Step.{Outcome}
 use Rattle.mtn_cli.specs.Performs.{Performs, Performed, Counts, drafted, Drafts, Drafted, Reason, HasReason, StandsAfter, replied}
 
-reason_of : (told : Option Contents) (before now : ℕ) (e : StoreError) → (e ≡ Failed → Rose before now) → IfSome told (λ c. IfDamage e (IsDamage c)) → Reason told before now e
+pub reason_of : (told : Option Contents) (before now : ℕ) (e : StoreError) → (e ≡ Failed → Rose before now) → IfSome told (λ c. IfDamage e (IsDamage c)) → Reason told before now e
 reason_of told before now Failed rose damage = rose refl
 reason_of told before now NoMemory rose damage = tt
 reason_of told before now (Damaged d) rose damage = damage

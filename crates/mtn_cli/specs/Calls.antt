@@ -4,10 +4,12 @@ use Rattle.std.specs.Option.{option_and_then}
 use Rattle.mtn_base.specs.Hex.{read_id}
 use Rattle.mtn_base.specs.declared.id.Id.{Id}
 use Rattle.mtn_cli.specs.declared.command.Call.{Call}
-use Rattle.mtn_cli.specs.declared.command.Call.TheVariants.{PutFile, GetFile, GetRevision}
+use Rattle.mtn_cli.specs.declared.command.Call.TheVariants.{PutFile, PutRevision, GetFile, GetRevision, Ask, Graph}
+use Rattle.mtn_queries.specs.declared.query.Query.{Query}
+use Rattle.mtn_queries.specs.declared.query.Query.TheVariants.{Parents, Children, Ancestors, Descendents, CommonAncestors, EraseAncestors, Toposort, AncestryDifference, Leaves, Roots}
 use Rattle.mtn_cli.specs.declared.words.Command.{Command}
 use Rattle.mtn_cli.specs.declared.words.OptionWord.{OptionWord}
-use Rattle.mtn_cli.specs.Words.{command_of}
+use Rattle.mtn_cli.specs.Words.{command_of, each_of}
 
 -- no word
 abbrev pub no_words : List (List ℕ) → Option (Unit {0})
@@ -20,13 +22,44 @@ one_id [] = None
 one_id (word ∷ []) = read_id word
 one_id (_ ∷ _ ∷ _) = None
 
+-- ids, maybe none
+abbrev pub ids : List (List ℕ) → Option (List Id)
+ids words = each_of read_id words
+
+-- one id or more
+abbrev pub some_ids : List (List ℕ) → Option (List Id)
+some_ids [] = None
+some_ids (word ∷ rest) = ids (word ∷ rest)
+
+-- one id, and maybe more
+abbrev pub id_and_ids : {T : Type 0} → (Id → List Id → T) → List (List ℕ) → Option T
+id_and_ids make [] = None
+id_and_ids make (word ∷ rest) = option_and_then (λ id. option_map (make id) (ids rest)) (read_id word)
+
+-- a query of the graph, one line each
+abbrev pub query_named : List ℕ → List (List ℕ) → Option Query
+query_named name words =
+    if bytes_eq name (codes "parents") then option_map Parents (one_id words)
+    else if bytes_eq name (codes "children") then option_map Children (one_id words)
+    else if bytes_eq name (codes "ancestors") then option_map Ancestors (some_ids words)
+    else if bytes_eq name (codes "descendents") then option_map Descendents (some_ids words)
+    else if bytes_eq name (codes "common_ancestors") then id_and_ids CommonAncestors words
+    else if bytes_eq name (codes "erase_ancestors") then option_map EraseAncestors (ids words)
+    else if bytes_eq name (codes "toposort") then option_map Toposort (ids words)
+    else if bytes_eq name (codes "ancestry_difference") then id_and_ids AncestryDifference words
+    else if bytes_eq name (codes "leaves") then option_map (λ _. Leaves) (no_words words)
+    else if bytes_eq name (codes "roots") then option_map (λ _. Roots) (no_words words)
+    else None
+
 -- a command that takes no option, one line each
 abbrev pub call_named : List ℕ → List (List ℕ) → Option Call
 call_named name words =
     if bytes_eq name (codes "put_file") then option_map (λ _. PutFile) (no_words words)
+    else if bytes_eq name (codes "put_revision") then option_map (λ _. PutRevision) (no_words words)
     else if bytes_eq name (codes "get_file") then option_map GetFile (one_id words)
     else if bytes_eq name (codes "get_revision") then option_map GetRevision (one_id words)
-    else None
+    else if bytes_eq name (codes "graph") then option_map (λ _. Graph) (no_words words)
+    else option_map Ask (query_named name words)
 
 -- no command has an option yet
 abbrev pub call_with : List OptionWord → List ℕ → List (List ℕ) → Option Call

@@ -13,6 +13,10 @@ use Rattle.mtn_history.specs.declared.errors.StoreError.{StoreError}
 use Rattle.mtn_history.specs.declared.errors.StoreError.TheVariants.{Failed, Damaged, NoMemory}
 use Rattle.mtn_history.specs.declared.errors.HistoryError.{HistoryError}
 use Rattle.mtn_history.specs.declared.errors.HistoryError.TheVariants.{Refused, Store}
+use Rattle.mtn_base.specs.declared.refusal.Cause.TheVariants.{UnknownRevision}
+use Rattle.mtn_queries.specs.declared.query.QueryError.{QueryError}
+use Rattle.mtn_queries.specs.declared.query.QueryError.TheVariants.{Unknown}
+use Rattle.mtn_queries.specs.declared.query.QueryError.TheVariants as query
 use Rattle.mtn_cli.specs.declared.answer.Reply.{Reply}
 use Rattle.mtn_cli.specs.Step.{Outcome, refused, reply_status}
 
@@ -56,6 +60,11 @@ pub record Performs (f : List ℕ → List ℕ) {K : Type 0} (contents : K → O
   pub unchanged : Unchanged (contents old) (contents new) result
   pub later : faults old ≤ faults new
   pub reason : HasReason (contents new) (faults old) (faults new) result
+
+-- what a command answers for a query without an answer
+abbrev pub query_refusal : QueryError → HistoryError
+query_refusal (Unknown id) = Refused (UnknownRevision id)
+query_refusal query.NoMemory = Store NoMemory
 
 -- the answer of a command over a draft
 abbrev pub Drafted : (List ℕ → List ℕ) → Contents → State → (Outcome → Type 0) → Result Reply HistoryError → Pending → Type 0

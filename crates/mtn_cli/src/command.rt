@@ -1,10 +1,12 @@
 // The commands, and the words of each.
 ghost use Rattle.std.specs.Prelude.{◌≡◌, IfOk, is_some};
-ghost use Rattle.mtn_cli.specs.Calls.{call_named as call_by_name, call_of, no_words as nothing, one_id as id_of};
+ghost use Rattle.mtn_cli.specs.Calls.{call_named as call_by_name, call_of, id_and_ids, ids as ids_of, no_words as nothing, one_id as id_of, query_named as query_by_name, some_ids as some_of};
+ghost use Rattle.mtn_base.specs.Hex.{read_id};
 ghost use Rattle.mtn_cli.specs.Words.{Reads};
 
 use crate::words::{WordsError, step_words};
-use mtn_base::{Bytes, Id, NoMemory};
+use mtn_base::{Bytes, Id, List, NoMemory};
+use mtn_queries::Query;
 use std::alloc::Global;
 
 /// A command with its words read.
@@ -12,10 +14,16 @@ use std::alloc::Global;
 pub enum Call {
     /// `put_file`: keeps the payload, and answers its id.
     PutFile,
+    /// `put_revision`: accepts the payload as a revision's text, and answers its id.
+    PutRevision,
     /// `get_file ID`: answers the bytes of a file.
     GetFile { id: Id },
     /// `get_revision ID`: answers the text of a revision.
     GetRevision { id: Id },
+    /// A query of the graph: answers ids.
+    Ask { query: Query },
+    /// `graph`: answers each revision with its parents.
+    Graph,
 }
 
 impl Call {
@@ -26,8 +34,9 @@ impl Call {
         ensures { result ≡ takes_payload self.now }
     {
         match self {
-            Call::PutFile => true,
+            Call::PutFile | Call::PutRevision => true,
             Call::GetFile { .. } | Call::GetRevision { .. } => false,
+            Call::Ask { .. } | Call::Graph => false,
         }
     }
 }
@@ -41,7 +50,7 @@ pub fn read_words(alloc: Global, words: &[Bytes]) -> Result<Call, WordsError>
         return Err(WordsError::Usage);
     }
     match std::str::from_utf8(command.name.as_slice()) {
-        Ok(name) => call_named(name, command.positionals.as_slice()),
+        Ok(name) => call_named(alloc, name, command.positionals.as_slice()),
         Err(_) => Err(WordsError::Usage),
     }
 }
@@ -58,13 +67,33 @@ pub fn are_words(alloc: Global, words: &[Bytes]) -> Result<bool, NoMemory>
 }
 
 // A command that takes no option.
-fn call_named(name: &str, words: &[Bytes]) -> Result<Call, WordsError>
+fn call_named(alloc: Global, name: &str, words: &[Bytes]) -> Result<Call, WordsError>
     ensures { Reads (call_by_name name.now words.now) result }
 {
     match name {
         "put_file" => no_words(words).map(|()| Call::PutFile),
+        "put_revision" => no_words(words).map(|()| Call::PutRevision),
         "get_file" => one_id(words).map(|id| Call::GetFile { id }),
         "get_revision" => one_id(words).map(|id| Call::GetRevision { id }),
+        "graph" => no_words(words).map(|()| Call::Graph),
+        _ => query_named(alloc, name, words).map(|query| Call::Ask { query }),
+    }
+}
+
+fn query_named(alloc: Global, name: &str, words: &[Bytes]) -> Result<Query, WordsError>
+    ensures { Reads (query_by_name name.now words.now) result }
+{
+    match name {
+        "parents" => one_id(words).map(|of| Query::Parents { of }),
+        "children" => one_id(words).map(|of| Query::Children { of }),
+        "ancestors" => some_ids(alloc, words).map(|of| Query::Ancestors { of }),
+        "descendents" => some_ids(alloc, words).map(|of| Query::Descendents { of }),
+        "common_ancestors" => common_ancestors(alloc, words),
+        "erase_ancestors" => ids(alloc, words).map(|of| Query::EraseAncestors { of }),
+        "toposort" => ids(alloc, words).map(|of| Query::Toposort { of }),
+        "ancestry_difference" => ancestry_difference(alloc, words),
+        "leaves" => no_words(words).map(|()| Query::Leaves),
+        "roots" => no_words(words).map(|()| Query::Roots),
         _ => Err(WordsError::Usage),
     }
 }
@@ -85,4 +114,51 @@ fn one_id(words: &[Bytes]) -> Result<Id, WordsError>
         [word] => Id::read_hex(word.as_slice()).ok_or(WordsError::Usage),
         _ => Err(WordsError::Usage),
     }
+}
+
+fn id_of_word(word: &Bytes) -> Result<Id, WordsError>
+    ensures { Reads (read_id word.now) result }
+{
+    Id::read_hex(word.as_slice()).ok_or(WordsError::Usage)
+}
+
+fn ids(alloc: Global, words: &[Bytes]) -> Result<List<Id>, WordsError>
+    ensures { Reads (ids_of words.now) result }
+{
+    let mut ids = List::new(alloc);
+    for word in words {
+        ids.push(id_of_word(word)?)?;
+    }
+    Ok(ids)
+}
+
+fn some_ids(alloc: Global, words: &[Bytes]) -> Result<List<Id>, WordsError>
+    ensures { Reads (some_of words.now) result }
+{
+    match words {
+        [] => Err(WordsError::Usage),
+        _ => ids(alloc, words),
+    }
+}
+
+fn common_ancestors(alloc: Global, words: &[Bytes]) -> Result<Query, WordsError>
+    ensures { Reads (id_and_ids Query.CommonAncestors words.now) result }
+{
+    let [word, rest @ ..] = words else {
+        return Err(WordsError::Usage);
+    };
+    let of = id_of_word(word)?;
+    let others = ids(alloc, rest)?;
+    Ok(Query::CommonAncestors { of, others })
+}
+
+fn ancestry_difference(alloc: Global, words: &[Bytes]) -> Result<Query, WordsError>
+    ensures { Reads (id_and_ids Query.AncestryDifference words.now) result }
+{
+    let [word, rest @ ..] = words else {
+        return Err(WordsError::Usage);
+    };
+    let of = id_of_word(word)?;
+    let without = ids(alloc, rest)?;
+    Ok(Query::AncestryDifference { of, without })
 }

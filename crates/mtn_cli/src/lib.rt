@@ -11,6 +11,7 @@
 #![tactic(auto)]
 
 mod answer;
+mod ask;
 mod command;
 mod deliver;
 mod get_file;
@@ -18,6 +19,7 @@ mod get_revision;
 mod laws;
 mod payload;
 mod put_file;
+mod put_revision;
 mod settle;
 mod status;
 mod top;

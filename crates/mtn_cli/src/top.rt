@@ -9,12 +9,14 @@ ghost use Rattle.mtn_ports.specs.Causes.{Rose};
 ghost use Rattle.mtn_cli.specs.Performs.{Drafts, Performs};
 
 use crate::answer::{Answer, Reply};
+use crate::ask::{ask, graph};
 use crate::command::{Call, read_words};
 use crate::deliver::deliver;
 use crate::get_file::get_file;
 use crate::get_revision::get_revision;
 use crate::payload::{ReadStop, read_payload};
 use crate::put_file::put_file;
+use crate::put_revision::put_revision;
 use crate::settle::{bare, settle, usage};
 use crate::status::Status;
 use crate::words::WordsError;
@@ -39,8 +41,11 @@ fn on_draft<R: Threads + Sync, I: Ident, K: Keeper>(
 {
     match call {
         Call::PutFile => put_file(alloc, ident, payload, draft),
+        Call::PutRevision => put_revision(alloc, ident, payload, draft),
         Call::GetFile { id } => get_file(alloc, ident, *id, payload, draft),
         Call::GetRevision { id } => get_revision(alloc, ident, *id, payload, draft),
+        Call::Ask { query } => ask(alloc, ident, query, payload, draft),
+        Call::Graph => graph(alloc, ident, payload, draft),
     }
 }
 

@@ -22,7 +22,7 @@ table_of : (b : Bool) (n : ℕ) (c : Contents) (t : ℕ) → t ≢ 1 → with_al
 table_of true n c t other = other_table 1 t _ _ other ∙ other_table 1 t _ _ other
 table_of false n c t other = refl
 
-pub founded : (f : List ℕ → List ℕ) (told : Option Contents) (c : Contents) (p : Pending) (s : State) → told ≡ Some c → IsDraft f c p s → IsFounded f told p s
+abbrev pub founded : (f : List ℕ → List ℕ) (told : Option Contents) (c : Contents) (p : Pending) (s : State) → told ≡ Some c → IsDraft f c p s → IsFounded f told p s
 founded f told c p s tells draft = record {
   records = c;
   tells = tells;

@@ -14,7 +14,8 @@ use Rattle.mtn_history.specs.declared.errors.StoreError.{StoreError}
 use Rattle.mtn_history.specs.declared.errors.StoreError.TheVariants.{Failed, Damaged, NoMemory}
 use Rattle.mtn_history.specs.declared.errors.Damage.TheVariants.{Bad, Missing}
 use Rattle.mtn_history.specs.Errors.{IfDamage}
-use Rattle.mtn_history.specs.Logs.{IsLogged, UnloggedAt, RepeatedAt, IsHeldAt, WrongBelow, IsReadTo, Tells}
+use Rattle.mtn_history.specs.Logs.{IsLogged, UnloggedAt, RepeatedAt, IsHeldAt, WrongBelow, IsReadTo}
+use Rattle.mtn_log.specs.Graphs.{Tells}
 use Rattle.mtn_log.proofs.Histories.{Place, in_front, at_back, place, kept_at, last_at}
 use Rattle.mtn_log.proofs.Places.{inside, within}
 use Rattle.mtn_growth.specs.History.{Revision, IsGrown}

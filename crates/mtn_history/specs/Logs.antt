@@ -49,8 +49,3 @@ pub record LogDamage (c : Contents) (d : Damage) : Type 0 where
 pub record IsReadTo (c : Contents) (n : ℕ) (entries : List LogEntry) : Type 0 where
   pub long : length entries ≡ n
   pub each : (r : ℕ) (e : LogEntry) → slice_get entries r ≡ Some e → (log : LogRecord) × IsLogged c r log × (e ≡ record { id = log.id; parents = log.parents })
-
--- the graph is that of a history
-pub record Tells (h : List Revision) (entries : List LogEntry) : Type 0 where
-  pub long : length entries ≡ length h
-  pub each : (r : ℕ) (e : LogEntry) (v : Revision) → slice_get entries r ≡ Some e → slice_get h r ≡ Some v → (e.id ≡ v.id) × (list_of e.parents ≡ v.parents)

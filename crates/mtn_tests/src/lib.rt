@@ -12,4 +12,6 @@ mod given;
 #[cfg(test)]
 mod limits;
 #[cfg(test)]
+mod revisions;
+#[cfg(test)]
 mod words;

@@ -30,6 +30,6 @@ returns-in-Err-TooLong-clause-computes g c =
     unfed_long (g.I.Ident.meaning c.args.ident.now) g.K.Keeper.contents g.K.Keeper.leaves g.K.Keeper.faults _ c.in-Ok.call c.args.keeper.now _ _ _ _ c.bare-in-Err-TooLong.result
     c.in-Ok.ensures c.bare-in-Err-TooLong.ensures (rw c.in-Err-TooLong.field-0-is at c.in-Err-TooLong.ensures.limit)
 
-pub returns-in-Err-NoMemory-feed-clause-computes : goal.returns-in-Err-NoMemory-feed-clause-computes
-returns-in-Err-NoMemory-feed-clause-computes g c =
+pub returns-clause-computes : goal.returns-clause-computes
+returns-clause-computes g c =
     unfed_want (g.I.Ident.meaning c.args.ident.now) g.K.Keeper.contents g.K.Keeper.leaves g.K.Keeper.faults _ c.args.keeper.now _ _ _ _ c.bare-in-Err-NoMemory-feed.result c.bare-in-Err-NoMemory-feed.ensures

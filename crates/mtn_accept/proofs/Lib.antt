@@ -1,0 +1,7 @@
+pub mod Bases
+pub mod Grounds
+pub mod Numbers
+pub mod Looking
+pub mod Putting
+pub mod Refusing
+pub mod Deciding

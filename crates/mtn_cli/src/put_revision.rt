@@ -1,0 +1,29 @@
+// The command `put_revision`.
+ghost use Rattle.std.specs.Prelude.{◌≡◌};
+ghost use Rattle.mtn_cli.specs.Performs.{Drafts};
+ghost use Rattle.mtn_cli.specs.Step.{Steps};
+
+use crate::answer::Reply;
+use crate::command::Call;
+use crate::put_file::id_text;
+use mtn_history::{Draft, HistoryError};
+use mtn_ports::{Ident, Keeper};
+use std::alloc::Global;
+
+/// Accepts the payload as a revision's text, and answers its id.
+pub fn put_revision<I: Ident, K: Keeper>(
+    alloc: Global,
+    ident: &I,
+    payload: &[u8],
+    draft: &mut Draft<'_, K>,
+) -> Result<Reply, HistoryError>
+    ensures same_reference { draft.new.keeper.ghost_name ≡ draft.old.keeper.ghost_name }
+    ensures drafts { Drafts (I.meaning ident.now) K.contents K.leaves K.faults draft.old.keeper.now draft.new.keeper.now draft.old.pending draft.new.pending
+        (Steps (I.meaning ident.now) Call.PutRevision payload.now) result }
+{
+    let id = mtn_accept::put_revision(alloc, ident, draft, payload)?;
+    Ok(Reply {
+        conflicts: false,
+        text: id_text(alloc, id)?,
+    })
+}

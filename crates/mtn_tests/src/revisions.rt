@@ -1,0 +1,144 @@
+// Revisions go in, and are asked for.
+use crate::given::{call, store};
+use mtn_cli::Status;
+use mtn_ports::{Ident, Keeper, Toy};
+use std::alloc::Global;
+use std::test::Fail;
+use std::thread::Threads;
+
+/// A lone root. Its manifest has 27 bytes, its text 105.
+const ROOT: &str =
+    "format_version \"1\"\n\nnew_manifest [000000000000000000000000000000000000001b]\n\nold_revision []\n\nadd_dir \"\"\n";
+
+/// Its child, with the file `f`. The manifest has 91 bytes, the text 199.
+const CHILD: &str =
+    "format_version \"1\"\n\nnew_manifest [000000000000000000000000000000000000005b]\n\nold_revision [0000000000000000000000000000000000000069]\n\nadd_file \"f\"\n content [0000000000000000000000000000000000000003]\n";
+
+/// A root with that file at once: 171 bytes.
+const BOTH: &str =
+    "format_version \"1\"\n\nnew_manifest [000000000000000000000000000000000000005b]\n\nold_revision []\n\nadd_dir \"\"\n\nadd_file \"f\"\n content [0000000000000000000000000000000000000003]\n";
+
+/// A lone root that names a manifest of 26 bytes.
+const OTHER: &str =
+    "format_version \"1\"\n\nnew_manifest [000000000000000000000000000000000000001a]\n\nold_revision []\n\nadd_dir \"\"\n";
+
+/// Two edges without a parent.
+const TWICE: &str =
+    "format_version \"1\"\n\nnew_manifest [000000000000000000000000000000000000001b]\n\nold_revision []\n\nold_revision []\n";
+
+// Does one command after the other over one keeper.
+fn session<T: Threads + Sync, I: Ident, K: Keeper>(
+    threads: &T,
+    alloc: Global,
+    ident: &I,
+    keeper: &mut K,
+    rows: &[(&str, &str, Status, &str)],
+) -> Result<bool, Fail> {
+    for (line, input, status, output) in rows {
+        let ended = call(threads, alloc, line, ident, input.as_bytes(), keeper)?;
+        if ended.status != *status || ended.written.as_slice() != output.as_bytes() {
+            return Ok(false);
+        }
+    }
+    Ok(true)
+}
+
+#[test]
+fn a_root_and_its_child_are_accepted(rt: HostRuntime) -> Result<(), Fail> {
+    let alloc = rt.alloc();
+    let mut keeper = store(alloc, &[])?;
+    let root = "0000000000000000000000000000000000000069\n";
+    let child = "00000000000000000000000000000000000000c7\n";
+    let good = session(
+        &rt,
+        alloc,
+        &Toy,
+        &mut keeper,
+        &[
+            ("put_revision", ROOT, Status::Ok, root),
+            ("put_revision", ROOT, Status::Ok, root),
+            (
+                "put_revision",
+                CHILD,
+                Status::Refused,
+                "refused UnknownFile 0000000000000000000000000000000000000003\n",
+            ),
+            (
+                "put_file",
+                "abc",
+                Status::Ok,
+                "0000000000000000000000000000000000000003\n",
+            ),
+            ("put_revision", CHILD, Status::Ok, child),
+            ("leaves", "", Status::Ok, child),
+            (
+                "ancestors 00000000000000000000000000000000000000c7",
+                "",
+                Status::Ok,
+                root,
+            ),
+            (
+                "graph",
+                "",
+                Status::Ok,
+                "0000000000000000000000000000000000000069\n00000000000000000000000000000000000000c7 0000000000000000000000000000000000000069\n",
+            ),
+            (
+                "get_revision 00000000000000000000000000000000000000c7",
+                "",
+                Status::Ok,
+                CHILD,
+            ),
+        ],
+    )?;
+    assert!(rt; good);
+    Ok(())
+}
+
+#[test]
+fn the_first_refusal_is_answered(rt: HostRuntime) -> Result<(), Fail> {
+    let alloc = rt.alloc();
+    let mut keeper = store(alloc, &[])?;
+    let good = session(
+        &rt,
+        alloc,
+        &Toy,
+        &mut keeper,
+        &[
+            ("put_revision", "", Status::Refused, "refused BadOrder 1\n"),
+            (
+                "put_revision",
+                "format_version \"1\"",
+                Status::Refused,
+                "refused NotText 18\n",
+            ),
+            (
+                "put_revision",
+                TWICE,
+                Status::Refused,
+                "refused BadEdge 4\n",
+            ),
+            (
+                "put_revision",
+                OTHER,
+                Status::Refused,
+                "refused ManifestDiffers 000000000000000000000000000000000000001b\n",
+            ),
+            (
+                "put_revision",
+                CHILD,
+                Status::Refused,
+                "refused UnknownParent 0000000000000000000000000000000000000069\n",
+            ),
+            (
+                "put_revision",
+                BOTH,
+                Status::Refused,
+                "refused UnknownFile 0000000000000000000000000000000000000003\n",
+            ),
+            ("leaves", "", Status::Ok, ""),
+        ],
+    )?;
+    assert!(rt; good);
+    Ok(())
+}
