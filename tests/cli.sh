@@ -45,6 +45,9 @@ row "the id of nothing" 0 '' "$nothing\n" - put_file
 row "an end of options is dropped" 0 abc "$abc\n" - put_file --
 row "a store in memory begins empty" 1 '' "refused UnknownFile $abc\n" - get_file "$abc"
 row "and has no revision" 1 '' "refused UnknownRevision $abc\n" - get_revision "$abc"
+row "nor a manifest" 1 '' "refused UnknownRevision $abc\n" - get_manifest_of "$abc"
+row "nor marks" 1 '' "refused UnknownRevision $abc\n" - get_content_changed "$abc" a/b
+row "nor a place for its root" 1 '' "refused UnknownRevision $abc\n" - get_corresponding_path "$abc" '' "$nothing"
 
 for query in parents children ancestors descendents common_ancestors erase_ancestors toposort ancestry_difference; do
     row "$query of an unknown revision" 1 '' "refused UnknownRevision $abc\n" - $query "$abc"
@@ -56,7 +59,7 @@ for query in erase_ancestors toposort leaves roots graph; do
     row "$query of nothing" 0 'unread' '' - $query
 done
 
-for words in '' 'heads' 'put_file x' 'put_file --x' 'put_file --x=' 'put_file --resolve' 'put_file -- x' 'put_file -- --' 'get_file' 'get_revision' 'get_revision ABC' "get_revision $abc $abc" 'get_file ABC' "get_file $abc x" "get_file $abc --" "get_file --x= $abc" 'get_file --' 'PUT_FILE' '-- put_file' parents "parents $abc $abc" children ancestors descendents common_ancestors ancestry_difference 'toposort x' "leaves $abc" "roots $abc" "graph $abc"; do
+for words in '' 'heads' 'put_file x' 'put_file --x' 'put_file --x=' 'put_file --resolve' 'put_file -- x' 'put_file -- --' 'get_file' 'get_revision' 'get_revision ABC' 'get_manifest_of' 'get_manifest_of ABC' "get_manifest_of $abc x" "get_content_changed $abc" "get_content_changed $abc a//b" "get_content_changed $abc ./a" "get_content_changed a $abc" "get_corresponding_path $abc a" "get_corresponding_path $abc a/.. $abc" "get_corresponding_path $abc a ABC" "get_revision $abc $abc" 'get_file ABC' "get_file $abc x" "get_file $abc --" "get_file --x= $abc" 'get_file --' 'PUT_FILE' '-- put_file' parents "parents $abc $abc" children ancestors descendents common_ancestors ancestry_difference 'toposort x' "leaves $abc" "roots $abc" "graph $abc"; do
     # shellcheck disable=SC2086
     row "outside the grammar: '$words'" 2 'never read' 'usage\n' - $words
 done
@@ -192,7 +195,7 @@ for round in $(seq 20); do verdict "killed, round $round" killed; done
 # ---- help, version and the walk in docs/USING.md
 
 ./mtn --help >"$work/help"
-verdict "help has status 0 and names each command" test $? = 0 -a "$(grep -c '^  put_file \|^  get_file \|^  get_revision ' "$work/help")" = 3
+verdict "help has status 0 and names each command" test $? = 0 -a "$(grep -c '^  put_file \|^  get_file \|^  get_revision \|^  get_manifest_of \|^  get_content_changed \|^  get_corresponding_path ' "$work/help")" = 6
 verdict "and each query" test "$(grep -c '^  parents \|^  children \|^  ancestors \|^  descendents \|^  common_ancestors \|^  erase_ancestors \|^  toposort \|^  ancestry_difference \|^  leaves \|^  roots \|^  graph ' "$work/help")" = 11
 row "the version" 0 '' 'mtn 0.1.0 (Sonnavil)\n' --version
 row "help with more words is a store of that name" 2 '' 'usage\n' --help heads
@@ -210,6 +213,15 @@ walk() {
     cmp -s "$work/walk/script" "$work/walk/printed" || { diff "$work/walk/script" "$work/walk/printed" >&2; return 1; }
 }
 verdict "the walk in docs/USING.md" walk
+
+# Histories, made and asked for; its own rows count here.
+told=$(python3 tests/revisions.py)
+revisions_ended=$?
+echo "histories: $told"
+read -r more _ fewer _ <<<"$told"
+passed=$((passed + more))
+failed=$((failed + fewer))
+verdict "tests/revisions.py ended" test "$revisions_ended" = 0 -a "$more" -gt 0
 
 echo "$passed passed, $failed failed"
 [ "$failed" = 0 ]

@@ -2,6 +2,7 @@
 """Puts revisions into a store through the built program, and asks for them: worked histories, each refusal, and what
 sqlite3 finds in the records. The texts and the manifests are made here, by the formats of docs/FORMATS.md.
 Ends with 'N passed, M failed'."""
+import contextlib
 import hashlib
 import os
 import sqlite3
@@ -117,14 +118,22 @@ class Store:
         want = ''.join(line + '\n' for line in lines).encode()
         verdict('%s: status %d, %r' % (name, status, output[:300]), (status, output, errors) == (0, want, b''))
 
+    def shows(self, name, words, stanzas):
+        status, output, errors = self.ask(*words)
+        verdict('%s: status %d, %r' % (name, status, output[:300]), (status, output, errors) == (0, spell(stanzas), b''))
+
+    def answers(self, name, words, status, line):
+        ended = self.ask(*words)
+        verdict('%s: %r' % (name, ended), ended == (status, line.encode(), b''))
+
     def records(self):
         if not os.path.exists(self.path):
             return []
-        with sqlite3.connect(self.path) as records:
+        with contextlib.closing(sqlite3.connect(self.path)) as records:
             return sorted(records.execute('SELECT kind, name, body FROM kept').fetchall())
 
     def body(self, table, position):
-        with sqlite3.connect(self.path) as records:
+        with contextlib.closing(sqlite3.connect(self.path)) as records:
             return records.execute('SELECT body FROM kept WHERE kind = ? AND name = ?', (table, position.to_bytes(8, 'big'))).fetchone()[0]
 
 
@@ -151,6 +160,13 @@ def lone_root(folder):
     store.refused('a content that is not held', child, 'UnknownFile ' + content)
     store.file(b'abc')
     one = store.accepted('a file', child)
+    store.answers('the manifest of a revision', ['get_manifest_of', one], 0, manifest({'': None, 'f': content}).decode())
+    store.shows('what changed a content', ['get_content_changed', one, 'f'], [[('content_mark', bracketed(one))]])
+    store.answers('a directory has no content', ['get_content_changed', one, ''], 1, 'refused NotAFile ""\n')
+    store.answers('no node is there', ['get_content_changed', one, 'g'], 1, 'refused NoSuchPath "g"\n')
+    store.shows('a node in its own revision', ['get_corresponding_path', one, 'f', one], [[('file', '"f"')]])
+    store.answers('a node that is not yet there', ['get_corresponding_path', one, 'f', root], 0, '')
+    store.answers('the second revision is not held', ['get_corresponding_path', one, 'f', '5' * 40], 1, 'refused UnknownRevision ' + '5' * 40 + '\n')
     store.says('ancestors', ['ancestors', one], [root])
     store.says('the graph', ['graph'], graph_of({root: [], one: [root]}))
 
@@ -186,7 +202,9 @@ def changes(folder):
     store.accepted('paths by their components', revision(ordered, ('', [add_dir(''), add_dir('a'), add_file('a/b', h), add_file('a-b', h)])))
     turned = {'': None, 'd': None, 'd/f': h, 'g': h}
     top = store.accepted('a tree to be turned', revision(turned, ('', [add_dir(''), add_dir('d'), add_file('d/f', h), add_file('g', h)])))
-    store.accepted('the root gives its place to a directory', revision({'': None, 'f': h, 'old': None, 'old/g': h}, (top, [rename('', 'old'), rename('d', '')])))
+    turn = store.accepted('the root gives its place to a directory', revision({'': None, 'f': h, 'old': None, 'old/g': h}, (top, [rename('', 'old'), rename('d', '')])))
+    store.shows('a file that moved with its directory', ['get_corresponding_path', top, 'd/f', turn], [[('file', '"f"')]])
+    store.shows('the root that was', ['get_corresponding_path', top, '', turn], [[('dir', '"old"')]])
     deep = '/'.join(['p' * 255] * 15)
     parts = [deep[:255 + 256 * i] for i in range(15)] + [deep + '/' + 'q' * 254]
     longest = {'': None, **{part: None for part in parts}, parts[-1] + '/f': h}
@@ -207,6 +225,7 @@ def merges(folder):
     q = store.accepted('Q patches back', revision(f(h), (p, [patch('f', ha, h)])))
     u = store.accepted('U adds', revision({**f(h), 'g': h}, (r0, [add_file('g', h)])))
     m = store.accepted('a merge of Q and U', revision({**f(h), 'g': h}, *two((q, [add_file('g', h)]), (u, []))))
+    store.shows('a content from both sides', ['get_content_changed', m, 'f'], [[('content_mark', bracketed(of))] for of in sorted([r0, q])])
     edges = {r0: [], p: [r0], q: [p], u: [r0], m: [q, u]}
     store.says('the graph of a merge', ['graph'], graph_of(edges))
     store.says('parents of a merge', ['parents', m], sorted([q, u]))
@@ -227,7 +246,8 @@ def merges(folder):
     store.refused('what is deleted is added again', revision(tree, *two((gone, [add_file('f', h), add_file('k', h)]), (kept, []))), 'Revived "f"')
     store.refused('two edges of different trees', revision(tree, *two((u, [delete('g'), add_file('k', h)]), (kept, [patch('f', h, ha)]))), 'Disagree "f"')
     l = store.accepted('another child patches', revision({**f(ha), 'l': h}, (r0, [patch('f', h, ha), add_file('l', h)][::-1])))
-    store.accepted('a merge that turns a patch back', revision({**f(h), 'g': h, 'l': h}, *two((l, [add_file('g', h), patch('f', ha, h)]), (u, [add_file('l', h)]))))
+    back = store.accepted('a merge that turns a patch back', revision({**f(h), 'g': h, 'l': h}, *two((l, [add_file('g', h), patch('f', ha, h)]), (u, [add_file('l', h)]))))
+    store.shows('a content that the merge alone made', ['get_content_changed', back, 'f'], [[('content_mark', bracketed(back))]])
 
 
 def chains(folder):

@@ -9,10 +9,17 @@ STORE is the file that holds the store, which is made where there is none, or
 output standard output. The word `--` ends the options of a command.
 
 Commands:
-  put_file          keeps the input as a file; prints its id
-  put_revision      accepts the input as the text of a revision; prints its id
-  get_file FILE     prints the bytes of the file with this id
-  get_revision REV  prints the text of the revision with this id
+  put_file             keeps the input as a file; prints its id
+  put_revision         accepts the input as the text of a revision; prints its id
+  get_file FILE        prints the bytes of the file with this id
+  get_revision REV     prints the text of the revision with this id
+  get_manifest_of REV  prints the manifest of its tree
+  get_content_changed REV PATH
+                       prints the ids of the revisions that last changed the
+                       content of the file at PATH
+  get_corresponding_path REV PATH REV
+                       prints where the node at PATH of the first revision
+                       stands in the second, or nothing where it is not there
 
 Queries of the graph; each prints ids, one a line, in ascending order unless it
 says log order, which is that of acceptance:
@@ -30,7 +37,8 @@ says log order, which is that of acceptance:
   graph                           a line for each revision: its id, its parents
 
 FILE is the id of a file, REV that of a revision: 40 lower-case hexadecimal
-digits, the SHA-1 of its bytes, of its text.
+digits, the SHA-1 of its bytes, of its text. PATH is components joined by `/`,
+the root the empty word.
 
   mtn --help     prints this
   mtn --version  prints the version

@@ -3,16 +3,25 @@ use Rattle.std.proofs.Common.{◌≡◌, ℕ, List, Option, Some, None, sym, ap,
 use Rattle.mtn_model.specs.State.{State}
 use Rattle.mtn_log.specs.Lawful.{IsLawful}
 use Rattle.mtn_cli.specs.declared.command.Call.{Call}
-use Rattle.mtn_cli.specs.declared.command.Call.TheVariants.{PutFile, PutRevision, GetFile, GetRevision, Ask, Graph}
-use Rattle.mtn_cli.specs.Step.{Asked, Graphed, OfHistory, Outcome, Steps, SessionOf, done, id_lines, line_text, takes_payload, fed}
-use Rattle.std.specs.List.{flat_map}
-use Rattle.mtn_base.specs.declared.id.Id.{Id}
+use Rattle.mtn_cli.specs.declared.command.Call.TheVariants.{PutFile, PutRevision, GetFile, GetRevision, GetManifestOf, GetContentChanged, GetCorrespondingPath, Ask, Graph}
 use Rattle.mtn_growth.specs.History.{Revision}
 use Rattle.mtn_log.proofs.Histories.{one_history}
+use Rattle.mtn_views.specs.Answers.{Answer}
+use Rattle.mtn_views.specs.Views.{IsContentChanged, corresponding_at}
+use Rattle.mtn_views.proofs.Unique.{one_content}
+use Rattle.mtn_cli.specs.Step.{Asked, Graphed, OfHistory, Outcome, Steps, Tells, SessionOf, done, id_lines, line_text, takes_payload, fed, told}
+use Rattle.std.specs.List.{flat_map}
+use Rattle.mtn_base.specs.declared.id.Id.{Id}
 use Rattle.mtn_cli.proofs.Decided.{one_decided}
 use Rattle.mtn_queries.proofs.Orders.{one_answer, one_graph}
 use Rattle.mtn_queries.specs.declared.query.Query.{Query}
 use Rattle.mtn_queries.specs.Queries.{first_unknown, ids_of}
+
+-- a question has one outcome, where it has one answer over a history
+pub one_told : (f : List ℕ → List ℕ) (s : State) (Is : List Revision → Answer → Type 0) (o p : Outcome) → ((h : List Revision) (a b : Answer) → Is h a → Is h b → a ≡ b) → Tells f s Is o → Tells f s Is p → o ≡ p
+one_told f s Is o p one x y =
+    let same : y.history ≡ x.history = one_history f s.files s.log y.history x.history y.spelled x.spelled in
+    x.outcome ∙ ap (told s) (one x.history x.answer y.answer x.is (subst (λ (h : List Revision). Is h y.answer) same y.is)) ∙ sym y.outcome
 
 -- over one history a query is answered once
 one_asked : (h : List Revision) (query : Query) (s : State) (unknown : Option Id) (o p : Outcome) → Asked h query s unknown o → Asked h query s unknown p → o ≡ p
@@ -32,6 +41,9 @@ one_of_step f s PutFile payload o p lawful is also = is ∙ sym also
 one_of_step f s PutRevision payload o p lawful is also = is.is ∙ one_decided f s payload is.refusal also.refusal is.after also.after is.decides also.decides ∙ sym also.is
 one_of_step f s (GetFile id) payload o p lawful is also = is ∙ sym also
 one_of_step f s (GetRevision id) payload o p lawful is also = is ∙ sym also
+one_of_step f s (GetManifestOf id) payload o p lawful is also = one_told f s _ o p (λ h a b x y. x ∙ sym y) is also
+one_of_step f s (GetContentChanged id path) payload o p lawful is also = one_told f s (λ h answer. IsContentChanged h id path answer) o p (λ h a b x y. one_content h id path a b x y) is also
+one_of_step f s (GetCorrespondingPath id path other) payload o p lawful is also = one_told f s (λ h answer. answer ≡ corresponding_at h id path other) o p (λ h a b x y. x ∙ sym y) is also
 one_of_step f s (Ask query) payload o p lawful is also =
     let one = of_one f s (λ h. Asked h query s (first_unknown h (ids_of query)) o) (λ h. Asked h query s (first_unknown h (ids_of query)) p) is also in
     one_asked one.0 query s (first_unknown one.0 (ids_of query)) o p one.1 one.2

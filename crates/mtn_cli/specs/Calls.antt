@@ -1,10 +1,14 @@
 -- Which commands there are, and which words each takes.
-use Rattle.std.specs.Prelude.{List, [], ◌∷◌, Option, Some, None, ℕ, codes, bytes_eq, option_map, if◌then◌else◌}
+use Rattle.std.specs.Prelude.{List, [], ◌∷◌, Option, Some, None, ℕ, Bool, ◌&&◌, not, nat_lt, nat_le, length, codes, bytes_eq, option_map, if◌then◌else◌}
+use Rattle.std.specs.List.{list_all}
+use Rattle.std.specs.Str.{is_utf8}
 use Rattle.std.specs.Option.{option_and_then}
+use Rattle.mtn_base.specs.Comps.{is_dots, is_plain_byte}
 use Rattle.mtn_base.specs.Hex.{read_id}
+use Rattle.mtn_base.specs.Paths.{pieces_of}
 use Rattle.mtn_base.specs.declared.id.Id.{Id}
 use Rattle.mtn_cli.specs.declared.command.Call.{Call}
-use Rattle.mtn_cli.specs.declared.command.Call.TheVariants.{PutFile, PutRevision, GetFile, GetRevision, Ask, Graph}
+use Rattle.mtn_cli.specs.declared.command.Call.TheVariants.{PutFile, PutRevision, GetFile, GetRevision, GetManifestOf, GetContentChanged, GetCorrespondingPath, Ask, Graph}
 use Rattle.mtn_queries.specs.declared.query.Query.{Query}
 use Rattle.mtn_queries.specs.declared.query.Query.TheVariants.{Parents, Children, Ancestors, Descendents, CommonAncestors, EraseAncestors, Toposort, AncestryDifference, Leaves, Roots}
 use Rattle.mtn_cli.specs.declared.words.Command.{Command}
@@ -21,6 +25,33 @@ abbrev pub one_id : List (List ℕ) → Option Id
 one_id [] = None
 one_id (word ∷ []) = read_id word
 one_id (_ ∷ _ ∷ _) = None
+
+-- the bytes of a component
+abbrev pub is_comp : List ℕ → Bool
+is_comp text = nat_lt 0 (length text) && (not (is_dots text) && (nat_le (length text) 255 && (list_all is_plain_byte text && is_utf8 text)))
+
+-- the path that a word spells: its pieces between slashes, each of which is a component
+abbrev pub path_in : List ℕ → List (List ℕ) → Option (List (List ℕ))
+path_in [] pieces = Some []
+path_in (b ∷ bs) pieces = if list_all is_comp pieces then Some pieces else None
+
+abbrev pub read_path : List ℕ → Option (List (List ℕ))
+read_path word = path_in word (pieces_of word)
+
+-- an id and a path
+abbrev pub content_changed : List (List ℕ) → Option Call
+content_changed [] = None
+content_changed (a ∷ []) = None
+content_changed (a ∷ b ∷ []) = option_and_then (λ id. option_map (GetContentChanged id) (read_path b)) (read_id a)
+content_changed (_ ∷ _ ∷ _ ∷ _) = None
+
+-- an id, a path and an id
+abbrev pub corresponding_path : List (List ℕ) → Option Call
+corresponding_path [] = None
+corresponding_path (a ∷ []) = None
+corresponding_path (a ∷ b ∷ []) = None
+corresponding_path (a ∷ b ∷ c ∷ []) = option_and_then (λ id. option_and_then (λ path. option_map (GetCorrespondingPath id path) (read_id c)) (read_path b)) (read_id a)
+corresponding_path (_ ∷ _ ∷ _ ∷ _ ∷ _) = None
 
 -- ids, maybe none
 abbrev pub ids : List (List ℕ) → Option (List Id)
@@ -58,6 +89,9 @@ call_named name words =
     else if bytes_eq name (codes "put_revision") then option_map (λ _. PutRevision) (no_words words)
     else if bytes_eq name (codes "get_file") then option_map GetFile (one_id words)
     else if bytes_eq name (codes "get_revision") then option_map GetRevision (one_id words)
+    else if bytes_eq name (codes "get_manifest_of") then option_map GetManifestOf (one_id words)
+    else if bytes_eq name (codes "get_content_changed") then content_changed words
+    else if bytes_eq name (codes "get_corresponding_path") then corresponding_path words
     else if bytes_eq name (codes "graph") then option_map (λ _. Graph) (no_words words)
     else option_map Ask (query_named name words)
 

@@ -1,5 +1,5 @@
 -- What a command does to a state, and what it answers.
-use Rattle.std.specs.Prelude.{◌≡◌, List, [], ◌∷◌, ◌++◌, Option, Some, None, ℕ, codes, Bool, true, false, if◌then◌else◌}
+use Rattle.std.specs.Prelude.{◌≡◌, List, [], ◌∷◌, ◌++◌, Option, Some, None, Result, Ok, Err, ℕ, codes, Bool, true, false, if◌then◌else◌}
 use Rattle.mtn_cli.specs.declared.answer.Reply.{Reply}
 use Rattle.hex.specs.Hex.{encode_lower}
 use Rattle.mtn_model.specs.State.{State}
@@ -11,11 +11,13 @@ use Rattle.mtn_base.specs.Refusals.{line_of}
 use Rattle.mtn_accept.specs.Accepting.{Decides}
 use Rattle.mtn_history.specs.Files.{file_refusal, with_file}
 use Rattle.mtn_history.specs.Texts.{text_under}
-use Rattle.mtn_cli.specs.Calls.{call_of}
-use Rattle.mtn_cli.specs.declared.command.Call.{Call}
-use Rattle.mtn_cli.specs.declared.command.Call.TheVariants.{PutFile, PutRevision, GetFile, GetRevision, Ask, Graph}
 use Rattle.mtn_growth.specs.History.{Revision}
 use Rattle.mtn_log.specs.Lawful.{IsHistory}
+use Rattle.mtn_views.specs.Answers.{Answer}
+use Rattle.mtn_views.specs.Views.{manifest_at, corresponding_at, IsContentChanged}
+use Rattle.mtn_cli.specs.Calls.{call_of}
+use Rattle.mtn_cli.specs.declared.command.Call.{Call}
+use Rattle.mtn_cli.specs.declared.command.Call.TheVariants.{PutFile, PutRevision, GetFile, GetRevision, GetManifestOf, GetContentChanged, GetCorrespondingPath, Ask, Graph}
 use Rattle.mtn_queries.specs.Lines.{IsGraph}
 use Rattle.mtn_queries.specs.Queries.{IsAnswer, first_unknown, ids_of}
 use Rattle.mtn_queries.specs.declared.query.Line.{Line}
@@ -66,6 +68,19 @@ pub record PutsRevision (f : List ℕ → List ℕ) (text : List ℕ) (s : State
   pub decides : Decides f s text refusal after
   pub is : o ≡ unless refusal s after (id_line (f text))
 
+-- an answer, which leaves the state
+abbrev pub told : State → Answer → Outcome
+told s (Ok text) = done s text
+told s (Err cause) = refused cause s
+
+-- the outcome of a question about the history that the log spells
+pub record Tells (f : List ℕ → List ℕ) (s : State) (Is : List Revision → Answer → Type 0) (o : Outcome) : Type 0 where
+  pub history : List Revision
+  pub spelled : IsHistory f s.files s.log history
+  pub answer : Answer
+  pub is : Is history answer
+  pub outcome : o ≡ told s answer
+
 -- ids, one a line
 abbrev pub id_lines : List Id → List ℕ
 id_lines ids = flat_map (λ (id : Id). id_line id.0) ids
@@ -94,6 +109,9 @@ Steps f PutFile payload s o = o ≡ unless (file_refusal f s payload) s (with_fi
 Steps f PutRevision payload s o = PutsRevision f payload s o
 Steps f (GetFile id) payload s o = o ≡ found (UnknownFile id) s (get s.files id.0)
 Steps f (GetRevision id) payload s o = o ≡ found (UnknownRevision id) s (text_under s.log id.0)
+Steps f (GetManifestOf id) payload s o = Tells f s (λ h answer. answer ≡ manifest_at h id) o
+Steps f (GetContentChanged id path) payload s o = Tells f s (λ h answer. IsContentChanged h id path answer) o
+Steps f (GetCorrespondingPath id path other) payload s o = Tells f s (λ h answer. answer ≡ corresponding_at h id path other) o
 Steps f (Ask query) payload s o = OfHistory f s (λ h. Asked h query s (first_unknown h (ids_of query)) o)
 Steps f Graph payload s o = OfHistory f s (λ h. Graphed h s o)
 
@@ -106,6 +124,9 @@ takes_payload PutFile = true
 takes_payload PutRevision = true
 takes_payload (GetFile id) = false
 takes_payload (GetRevision id) = false
+takes_payload (GetManifestOf id) = false
+takes_payload (GetContentChanged id path) = false
+takes_payload (GetCorrespondingPath id path other) = false
 takes_payload (Ask query) = false
 takes_payload Graph = false
 

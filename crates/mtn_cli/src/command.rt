@@ -1,11 +1,11 @@
 // The commands, and the words of each.
 ghost use Rattle.std.specs.Prelude.{◌≡◌, IfOk, is_some};
-ghost use Rattle.mtn_cli.specs.Calls.{call_named as call_by_name, call_of, id_and_ids, ids as ids_of, no_words as nothing, one_id as id_of, query_named as query_by_name, some_ids as some_of};
+ghost use Rattle.mtn_cli.specs.Calls.{call_named as call_by_name, call_of, content_changed as content_call, corresponding_path as corresponding_call, id_and_ids, ids as ids_of, no_words as nothing, one_id as id_of, query_named as query_by_name, read_path as path_of, some_ids as some_of};
 ghost use Rattle.mtn_base.specs.Hex.{read_id};
 ghost use Rattle.mtn_cli.specs.Words.{Reads};
 
 use crate::words::{WordsError, step_words};
-use mtn_base::{Bytes, Id, List, NoMemory};
+use mtn_base::{Bytes, Id, List, NoMemory, Path, PathError};
 use mtn_queries::Query;
 use std::alloc::Global;
 
@@ -20,6 +20,12 @@ pub enum Call {
     GetFile { id: Id },
     /// `get_revision ID`: answers the text of a revision.
     GetRevision { id: Id },
+    /// `get_manifest_of ID`: answers the manifest of a revision's tree.
+    GetManifestOf { id: Id },
+    /// `get_content_changed ID PATH`: answers the marks of a file's content.
+    GetContentChanged { id: Id, path: Path },
+    /// `get_corresponding_path ID PATH ID`: answers where the node at a path stands in another revision.
+    GetCorrespondingPath { id: Id, path: Path, other: Id },
     /// A query of the graph: answers ids.
     Ask { query: Query },
     /// `graph`: answers each revision with its parents.
@@ -36,6 +42,9 @@ impl Call {
         match self {
             Call::PutFile | Call::PutRevision => true,
             Call::GetFile { .. } | Call::GetRevision { .. } => false,
+            Call::GetManifestOf { .. } => false,
+            Call::GetContentChanged { .. } => false,
+            Call::GetCorrespondingPath { .. } => false,
             Call::Ask { .. } | Call::Graph => false,
         }
     }
@@ -75,6 +84,9 @@ fn call_named(alloc: Global, name: &str, words: &[Bytes]) -> Result<Call, WordsE
         "put_revision" => no_words(words).map(|()| Call::PutRevision),
         "get_file" => one_id(words).map(|id| Call::GetFile { id }),
         "get_revision" => one_id(words).map(|id| Call::GetRevision { id }),
+        "get_manifest_of" => one_id(words).map(|id| Call::GetManifestOf { id }),
+        "get_content_changed" => content_changed(alloc, words),
+        "get_corresponding_path" => corresponding_path(alloc, words),
         "graph" => no_words(words).map(|()| Call::Graph),
         _ => query_named(alloc, name, words).map(|query| Call::Ask { query }),
     }
@@ -120,6 +132,46 @@ fn id_of_word(word: &Bytes) -> Result<Id, WordsError>
     ensures { Reads (read_id word.now) result }
 {
     Id::read_hex(word.as_slice()).ok_or(WordsError::Usage)
+}
+
+fn path_word(alloc: Global, word: &Bytes) -> Result<Path, WordsError>
+    ensures { Reads (path_of word.now) result }
+{
+    match Path::read(alloc, word.as_slice()) {
+        Ok(path) => Ok(path),
+        Err(PathError::Empty) => Err(WordsError::Usage),
+        Err(PathError::Dots) => Err(WordsError::Usage),
+        Err(PathError::TooLong) => Err(WordsError::Usage),
+        Err(PathError::BadByte) => Err(WordsError::Usage),
+        Err(PathError::NoMemory) => Err(WordsError::NoMemory),
+    }
+}
+
+fn content_changed(alloc: Global, words: &[Bytes]) -> Result<Call, WordsError>
+    ensures { Reads (content_call words.now) result }
+{
+    match words {
+        [id, path] => {
+            let id = id_of_word(id)?;
+            let path = path_word(alloc, path)?;
+            Ok(Call::GetContentChanged { id, path })
+        }
+        _ => Err(WordsError::Usage),
+    }
+}
+
+fn corresponding_path(alloc: Global, words: &[Bytes]) -> Result<Call, WordsError>
+    ensures { Reads (corresponding_call words.now) result }
+{
+    match words {
+        [id, path, other] => {
+            let id = id_of_word(id)?;
+            let path = path_word(alloc, path)?;
+            let other = id_of_word(other)?;
+            Ok(Call::GetCorrespondingPath { id, path, other })
+        }
+        _ => Err(WordsError::Usage),
+    }
 }
 
 fn ids(alloc: Global, words: &[Bytes]) -> Result<List<Id>, WordsError>

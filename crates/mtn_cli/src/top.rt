@@ -12,7 +12,10 @@ use crate::answer::{Answer, Reply};
 use crate::ask::{ask, graph};
 use crate::command::{Call, read_words};
 use crate::deliver::deliver;
+use crate::get_content_changed::get_content_changed;
+use crate::get_corresponding_path::get_corresponding_path;
 use crate::get_file::get_file;
+use crate::get_manifest_of::get_manifest_of;
 use crate::get_revision::get_revision;
 use crate::payload::{ReadStop, read_payload};
 use crate::put_file::put_file;
@@ -44,6 +47,13 @@ fn on_draft<R: Threads + Sync, I: Ident, K: Keeper>(
         Call::PutRevision => put_revision(alloc, ident, payload, draft),
         Call::GetFile { id } => get_file(alloc, ident, *id, payload, draft),
         Call::GetRevision { id } => get_revision(alloc, ident, *id, payload, draft),
+        Call::GetManifestOf { id } => get_manifest_of(ident, *id, payload, draft),
+        Call::GetContentChanged { id, path } => {
+            get_content_changed(ident, *id, path, payload, draft)
+        }
+        Call::GetCorrespondingPath { id, path, other } => {
+            get_corresponding_path(ident, *id, path, *other, payload, draft)
+        }
         Call::Ask { query } => ask(alloc, ident, query, payload, draft),
         Call::Graph => graph(alloc, ident, payload, draft),
     }

@@ -39,19 +39,19 @@ version_of : (n : ℕ) → get (meta_of n) version_key ≡ Some version
 version_of n = get_inserted (insert empty count_key (to_be_bytes w64 n)) version_key version version_key
 
 -- the records of table 1 of a store that is not new
-held_count : (f : List ℕ → List ℕ) (c : Contents) (s : State) → StandsFor f c s → body_at c 1 count_key ≡ Some (to_be_bytes w64 (length s.log))
+pub held_count : (f : List ℕ → List ℕ) (c : Contents) (s : State) → StandsFor f c s → body_at c 1 count_key ≡ Some (to_be_bytes w64 (length s.log))
 held_count f c s stands = ap (λ (m : Table). get m count_key) stands.meta ∙ count_of (length s.log)
 
-held_version : (f : List ℕ → List ℕ) (c : Contents) (s : State) → StandsFor f c s → body_at c 1 version_key ≡ Some version
+pub held_version : (f : List ℕ → List ℕ) (c : Contents) (s : State) → StandsFor f c s → body_at c 1 version_key ≡ Some version
 held_version f c s stands = ap (λ (m : Table). get m version_key) stands.meta ∙ version_of (length s.log)
 
-none_held : (c : Contents) (s : State) (key : List ℕ) → IsNew c s → body_at c 1 key ≡ None
+pub none_held : (c : Contents) (s : State) (key : List ℕ) → IsNew c s → body_at c 1 key ≡ None
 none_held c s key new = ap (λ (d : Contents). body_at d 1 key) new.records ∙ get-empty (slice_cmp nat_cmp) key
 
 fits : (n : ℕ) → n ≤ 2147483648 → n < 2 ^ 64
 fits n le = omega (arith, le)
 
-told_back : (n : ℕ) → n ≤ 2147483648 → from_be_bytes w64 (to_be_bytes w64 n) ≡ n
+pub told_back : (n : ℕ) → n ≤ 2147483648 → from_be_bytes w64 (to_be_bytes w64 n) ≡ n
 told_back n le = from_be_bytes-to_be_bytes_8 n (fits n le)
 
 clash : (o : Option (List ℕ)) (body : List ℕ) → o ≡ Some body → o ≡ None → ⊥

@@ -3,6 +3,7 @@ pub mod Errors
 pub mod Files
 pub mod Graph
 pub mod Logs
+pub mod Marked
 pub mod Meta
 pub mod Places
 pub mod Records

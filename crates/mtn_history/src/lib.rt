@@ -15,6 +15,7 @@ mod draft;
 mod errors;
 mod files;
 mod logs;
+mod marked;
 mod meta;
 mod parents;
 mod pending;

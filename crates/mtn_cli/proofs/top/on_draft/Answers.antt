@@ -13,6 +13,15 @@ returns-in-GetFile-clause-drafts g c = rw c.in-GetFile.is c.get_file.ensures.dra
 pub returns-in-GetRevision-clause-drafts : goal.returns-in-GetRevision-clause-drafts
 returns-in-GetRevision-clause-drafts g c = rw c.in-GetRevision.is c.get_revision.ensures.drafts
 
+pub returns-in-GetManifestOf-clause-drafts : goal.returns-in-GetManifestOf-clause-drafts
+returns-in-GetManifestOf-clause-drafts g c = rw c.in-GetManifestOf.is c.get_manifest_of.ensures.drafts
+
+pub returns-in-GetContentChanged-clause-drafts : goal.returns-in-GetContentChanged-clause-drafts
+returns-in-GetContentChanged-clause-drafts g c = rw c.in-GetContentChanged.is c.get_content_changed.ensures.drafts
+
+pub returns-in-GetCorrespondingPath-clause-drafts : goal.returns-in-GetCorrespondingPath-clause-drafts
+returns-in-GetCorrespondingPath-clause-drafts g c = rw c.in-GetCorrespondingPath.is c.get_corresponding_path.ensures.drafts
+
 pub returns-in-Ask-clause-drafts : goal.returns-in-Ask-clause-drafts
 returns-in-Ask-clause-drafts g c = rw c.in-Ask.is c.ask.ensures.drafts
 

@@ -1,0 +1,193 @@
+-- Rosters by the ids of their revisions, and the ids of positions.
+use Rattle.std.specs.Prelude.{IfSome, IfErr, Contains, MatchBool, slice_get}
+use Rattle.std.specs.Int.{w64, to_be_bytes}
+use Rattle.std.specs.List.{AllZip}
+use Rattle.std.proofs.Common.{◌≡◌, ◌≢◌, ◌≤◌, ◌<◌, ◌+◌, ◌^◌, ℕ, zero, suc, Bool, true, false, List, [], ◌∷◌, ◌++◌, length, get_or, take, Option, Some, None, Result, Ok, Err, refl, sym, ap, ◌∙◌, subst, ◌⊎◌, inl, inr, arith}
+use Rattle.std.proofs.lemmas.List.{take_more}
+use Rattle.mtn_base.specs.declared.id.Id.{Id}
+use Rattle.mtn_chains.specs.Chain.{Entries}
+use Rattle.mtn_growth.specs.History.{Revision, IsPlaceOf}
+use Rattle.mtn_log.specs.Making.{place_of}
+use Rattle.mtn_log.proofs.Places.{within}
+use Rattle.mtn_log.proofs.Histories.{log_is_short}
+use Rattle.mtn_marking.specs.Graph.{IsMarkedAt}
+use Rattle.mtn_marking.specs.Marking.{MarkedTree}
+use Rattle.mtn_model.specs.State.{State}
+use Rattle.mtn_model.specs.Table.{Contents}
+use Rattle.mtn_ports.specs.Kept.{Same, with_all}
+use Rattle.mtn_records.specs.declared.record.LogRecord.{LogRecord}
+use Rattle.mtn_history.specs.declared.errors.Damage.{Damage}
+use Rattle.mtn_history.specs.declared.errors.StoreError.{StoreError}
+use Rattle.mtn_history.specs.declared.errors.StoreError.TheVariants.{Failed, Damaged, NoMemory}
+use Rattle.mtn_history.specs.declared.errors.HistoryError.{HistoryError}
+use Rattle.mtn_history.specs.declared.errors.HistoryError.TheVariants.{Refused, Store}
+use Rattle.mtn_history.specs.declared.pending.Pending.{Pending}
+use Rattle.mtn_history.specs.Damage.{IsDamage}
+use Rattle.mtn_history.specs.Errors.{IfDamage, IfStoreDamage}
+use Rattle.mtn_history.specs.Logs.{IsLogged, UnloggedAt}
+use Rattle.mtn_history.specs.Marked.{AreHeld, IsCounted}
+use Rattle.mtn_history.specs.Meta.{Counted, IsMetaOf, count_key}
+use Rattle.mtn_history.specs.Places.{IsPlaced, UnplacedBelow}
+use Rattle.mtn_history.specs.Rosters.{IsRebuilt, IsRosterHeld, UnmadeBelow}
+use Rattle.mtn_history.specs.Stands.{Stands, StandsFor, IsNew, IsDraft, IsFounded}
+use Rattle.mtn_history.proofs.FileLemmas.{draft_stands}
+use Rattle.mtn_history.proofs.Founding.{founded, told_of, own, counted, grown, texts_of, log_of, rosters_of}
+use Rattle.mtn_history.proofs.LogLemmas.{there, read_is}
+use Rattle.mtn_history.proofs.MetaLemmas.{held_count, held_version, none_held, told_back, opened_by}
+use Rattle.mtn_history.proofs.PlaceLemmas.{placed_is}
+use Rattle.mtn_history.proofs.RosterLemmas.{rebuilt_is}
+
+-- no revision stands in a history without any
+pub nothing_placed : (h : List Revision) (id : Id) → length h ≡ 0 → place_of h id ≡ None
+nothing_placed [] id e = refl
+nothing_placed (v ∷ h) id e = absurd (omega arith)
+
+module _ (f : List ℕ → List ℕ) (told : Option Contents) (p : Pending) (s : State) (d : IsFounded f told p s) where
+  pub place_is : (id : Id) (at : Option ℕ) (text : List ℕ) → p.count < 2 ^ 64 → IfSome told (λ c. IsPlaced (with_all c p.batch) p.count id at text) → at ≡ place_of d.stands.history id
+  place_is id at text fits found =
+      placed_is f s.files (own f told p s d 3) s.log d.stands.history d.stands.spelled (texts_of f told p s d) (own f told p s d) refl p.count fits d.count id at text
+      (told_of told d.records (λ c. IsPlaced (with_all c p.batch) p.count id at text) d.tells found)
+
+  pub marked_is : (r : ℕ) (es : Entries) (t : MarkedTree) (depth : ℕ) → r < p.count → IfSome told (λ c. IsRebuilt (with_all c p.batch) r es t depth) → IsMarkedAt d.stands.history r t
+  marked_is r es t depth lt found =
+      let low : r < length d.stands.history = subst (λ n. r < n) (counted f told p s d) lt in
+      let v = within d.stands.history r low in
+      let k = within d.stands.kept r (subst (λ n. r < n) (sym d.stands.revisions.long) low) in
+      (rebuilt_is (own f told p s d) d.stands.history d.stands.kept d.stands.revisions (rosters_of f told p s d) r v.0 k.0 es t depth v.1 k.1
+      (told_of told d.records (λ c. IsRebuilt (with_all c p.batch) r es t depth) d.tells found)).1
+
+  pub named_is : (r : ℕ) (log : LogRecord) → r < p.count → IfSome told (λ c. IsLogged (with_all c p.batch) r log) → IsPlaceOf d.stands.history log.id r
+  named_is r log lt found =
+      let low : r < length d.stands.history = subst (λ n. r < n) (counted f told p s d) lt in
+      let t = there (own f told p s d) d.stands.history d.stands.kept (grown f told p s d) d.stands.revisions.long (log_of f told p s d) r low in
+      let is = read_is (own f told p s d) d.stands.history d.stands.kept (grown f told p s d) d.stands.revisions.long (log_of f told p s d) r log
+      (told_of told d.records (λ c. IsLogged (with_all c p.batch) r log) d.tells found) low in
+      (t.0, t.3, sym is.0)
+
+-- the place of a revision is below the count
+pub below_count : (told : Option Contents) (f : List ℕ → List ℕ) (p : Pending) (s : State) (d : IsFounded f told p s) (id : Id) (r : ℕ) (text : List ℕ) →
+    IfSome told (λ c. IsPlaced (with_all c p.batch) p.count id (Some r) text) → r < p.count
+below_count told f p s d id r text found = (told_of told d.records (λ c. IsPlaced (with_all c p.batch) p.count id (Some r) text) d.tells found).1
+
+-- records that count some revisions have both records of table 1
+counted_some : (b : Bool) (c : Contents) (n : ℕ) → IsMetaOf c (record { count = n; is_new = b }) → n ≢ 0 → Counted c n
+counted_some true c n meta some = absurd (some meta.1)
+counted_some false c n meta some = meta
+
+-- a record of table 3 with no position, or a roster's that gives no tree, is damage
+pub unplaced_damage : (told : Option Contents) (p : Pending) (e : StoreError) → p.count ≢ 0 → IfSome told (λ c. IfDamage e (UnplacedBelow p.count (with_all c p.batch))) →
+    IfSome told (λ c. IsCounted p c → IfDamage e (IsDamage (with_all c p.batch)))
+unplaced_damage None p e some wrong = tt
+unplaced_damage (Some c) p Failed some wrong = λ counts. tt
+unplaced_damage (Some c) p NoMemory some wrong = λ counts. tt
+unplaced_damage (Some c) p (Damaged d) some wrong = λ counts.
+    inr (inr (inr (inr (inl (record { meta = record { count = p.count; is_new = p.is_new }; read = counts; wrong = wrong })))))
+
+-- a fact of told records, after calls that only read
+on_same : (mid new : Option Contents) (P : Contents → Type 0) → Same mid new → IfSome mid P → (c : Contents) → new ≡ Some c → P c
+on_same mid new P same holds c at = subst (λ o. IfSome o P) (same c at) holds
+
+pub unmade_damage : (mid told : Option Contents) (p : Pending) (id : Id) (r : ℕ) (text : List ℕ) (e : StoreError) → p.count ≢ 0 → Same mid told →
+    IfSome mid (λ c. IsPlaced (with_all c p.batch) p.count id (Some r) text) → IfSome told (λ c. IfDamage e (UnmadeBelow (r + 1) (with_all c p.batch))) →
+    IfSome told (λ c. IsCounted p c → IfDamage e (IsDamage (with_all c p.batch)))
+unmade_damage mid None p id r text e some same placed wrong = tt
+unmade_damage mid (Some c) p id r text Failed some same placed wrong = λ counts. tt
+unmade_damage mid (Some c) p id r text NoMemory some same placed wrong = λ counts. tt
+unmade_damage mid (Some c) p id r text (Damaged d) some same placed wrong = λ counts.
+    let low : r < p.count = (on_same mid (Some c) (λ x. IsPlaced (with_all x p.batch) p.count id (Some r) text) same placed c refl).1 in
+    inr (inr (inr (inl (record {
+      count = p.count;
+      counted = counted_some p.is_new (with_all c p.batch) p.count counts some;
+      wrong = record { place = wrong.place; below = omega (arith, wrong.below, low); wrong = wrong.wrong };
+    }))))
+
+not_none : (n at : ℕ) → at < n → n ≢ 0
+not_none n at lt e = omega (arith, lt, e)
+
+pub unlogged_damage : (told : Option Contents) (p : Pending) (at : ℕ) (e : StoreError) → at < p.count → IfSome told (λ c. IfDamage e (UnloggedAt (with_all c p.batch) at)) →
+    IfSome told (λ c. IsCounted p c → IfDamage e (IsDamage (with_all c p.batch)))
+unlogged_damage None p at e lt wrong = tt
+unlogged_damage (Some c) p at Failed lt wrong = λ counts. tt
+unlogged_damage (Some c) p at NoMemory lt wrong = λ counts. tt
+unlogged_damage (Some c) p at (Damaged d) lt wrong = λ counts.
+    inr (inr (inl (record { count = p.count; counted = counted_some p.is_new (with_all c p.batch) p.count counts (not_none p.count at lt); wrong = record { place = at; below = lt; wrong = inl wrong } })))
+
+-- records that say what the draft counts, and stand for a state, are a draft of it
+pub founded_stands : (f : List ℕ → List ℕ) (told : Option Contents) (c : Contents) (p : Pending) (s : State) → told ≡ Some c → IsCounted p c → Stands f (with_all c p.batch) s → IsFounded f told p s
+founded_stands f told c p s tells counts stands =
+    let o = opened_by p.is_new p.count f (with_all c p.batch) s counts stands in
+    founded f told c p s tells (record { count = o.0; stands = o.1 })
+
+-- a position that no state's log has
+pub past_damage : (told : Option Contents) (p : Pending) (r at : ℕ) (e : StoreError) → p.count ≤ at → IfSome told (λ c. IfDamage e (IsRosterHeld (with_all c p.batch) r)) →
+    IfSome told (λ c. IsCounted p c → AreHeld told p (at ∷ []) → IfDamage e (IsDamage (with_all c p.batch)))
+past_damage None p r at e far held = tt
+past_damage (Some c) p r at Failed far held = λ counts known. tt
+past_damage (Some c) p r at NoMemory far held = λ counts known. tt
+past_damage (Some c) p r at (Damaged d) far held = λ counts known.
+    inr (inr (inr (inr (inr (record {
+      place = r;
+      held = inr held;
+      unfit = λ f s stands. let low : at < p.count = known f s (founded_stands f (Some c) c p s refl counts stands) at (0, omega arith, refl) in omega (arith, low, far);
+    })))))
+
+-- the count of a draft is what its records say
+pub draft_counts : (f : List ℕ → List ℕ) (c : Contents) (p : Pending) (s : State) → IsDraft f c p s → IsCounted p c
+draft_counts f c p s draft = by p.is_new p.count (with_all c p.batch) draft.count draft.stands
+  where
+    eight : (n : ℕ) → length (to_be_bytes w64 n) ≡ 8
+    eight n = refl
+
+    by : (b : Bool) (n : ℕ) (x : Contents) → n ≡ length s.log → MatchBool b (IsNew x s) (StandsFor f x s) → IsMetaOf x (record { count = n; is_new = b })
+    by true n x long new = (none_held x s count_key new, long ∙ ap (λ (t : State). length t.log) new.state)
+    by false n x long stands = record {
+      body = to_be_bytes w64 (length s.log);
+      held = held_count f x s stands;
+      eight = eight (length s.log);
+      number = long ∙ sym (told_back (length s.log) (log_is_short f s.files s.log stands.history stands.spelled));
+      version = held_version f x s stands;
+    }
+
+-- an error of the store is one of the call
+pub as_error : {T : Type 0} (told : Option Contents) (p : Pending) (r : Result T HistoryError) (e : StoreError) → r ≡ Err (Store e) → IfSome told (λ c. IsCounted p c → IfDamage e (IsDamage (with_all c p.batch))) →
+    IfSome told (λ c. IsCounted p c → IfErr r (λ x. IfStoreDamage x (IsDamage (with_all c p.batch))))
+as_error told p r e is fact = subst (λ y. IfSome told (λ c. IsCounted p c → IfErr y (λ x. IfStoreDamage x (IsDamage (with_all c p.batch))))) (sym is) fact
+
+-- the same of an error within this crate, where a state's log has these positions
+pub held_error : {T : Type 0} (told : Option Contents) (p : Pending) (places : List ℕ) (r : Result T StoreError) (e : StoreError) → r ≡ Err e → IfSome told (λ c. IsCounted p c → AreHeld told p places → IfDamage e (IsDamage (with_all c p.batch))) →
+    IfSome told (λ c. IsCounted p c → AreHeld told p places → IfErr r (λ x. IfDamage x (IsDamage (with_all c p.batch))))
+held_error told p places r e is fact = subst (λ y. IfSome told (λ c. IsCounted p c → AreHeld told p places → IfErr y (λ x. IfDamage x (IsDamage (with_all c p.batch))))) (sym is) fact
+
+pub even_held : (told : Option Contents) (p : Pending) (places : List ℕ) (e : StoreError) → IfSome told (λ c. IsCounted p c → IfDamage e (IsDamage (with_all c p.batch))) →
+    IfSome told (λ c. IsCounted p c → AreHeld told p places → IfDamage e (IsDamage (with_all c p.batch)))
+even_held None p places e fact = tt
+even_held (Some c) p places e fact = λ counts known. fact counts
+
+-- one position of some
+one_held : (told : Option Contents) (p : Pending) (places : List ℕ) (i x : ℕ) → i < length places → x ≡ get_or places i x → AreHeld told p places → AreHeld told p (x ∷ [])
+one_held told p places i x lt is known f s d y (zero, low, at) = known f s d y (i, lt, subst (λ z. get_or places i z ≡ z) at (sym is))
+one_held told p places i x lt is known f s d y (suc k, low, at) = absurd (omega (arith, low))
+
+pub item_damage : (told : Option Contents) (p q : Pending) (places : List ℕ) (i x : ℕ) (e : StoreError) → q ≡ p → i < length places → x ≡ get_or places i x →
+    IfSome told (λ c. IsCounted q c → AreHeld told q (x ∷ []) → IfDamage e (IsDamage (with_all c q.batch))) →
+    IfSome told (λ c. IsCounted p c → AreHeld told p places → IfDamage e (IsDamage (with_all c p.batch)))
+item_damage told p q places i x e same lt is fact = by told (subst (λ (z : Pending). IfSome told (λ c. IsCounted z c → AreHeld told z (x ∷ []) → IfDamage e (IsDamage (with_all c z.batch)))) same fact)
+  where
+    by : (now : Option Contents) → IfSome now (λ c. IsCounted p c → AreHeld now p (x ∷ []) → IfDamage e (IsDamage (with_all c p.batch))) →
+        IfSome now (λ c. IsCounted p c → AreHeld now p places → IfDamage e (IsDamage (with_all c p.batch)))
+    by None h = tt
+    by (Some c) h = λ counts known. h counts (one_held (Some c) p places i x lt is known)
+
+zip_more : {A B : Type 0} (R : A → B → Type 0) (xs : List A) (ys : List B) (x : A) (y : B) → AllZip R xs ys → R x y → AllZip R (xs ++ x ∷ []) (ys ++ y ∷ [])
+zip_more R [] [] x y zip also = (also, tt)
+zip_more R [] (b ∷ ys) x y zip also = absurd zip
+zip_more R (a ∷ xs) [] x y zip also = absurd zip
+zip_more R (a ∷ xs) (b ∷ ys) x y zip also = (zip.0, zip_more R xs ys x y zip.1 also)
+
+-- one more position with its id
+pub named_more : (h : List Revision) (places : List ℕ) (i x : ℕ) (ids more : List Id) (id : Id) → i < length places → x ≡ get_or places i x → more ≡ ids ++ id ∷ [] →
+    AllZip (λ at n. IsPlaceOf h n at) (take i places) ids → IsPlaceOf h id x → AllZip (λ at n. IsPlaceOf h n at) (take (i + 1) places) more
+named_more h places i x ids more id lt is grown zip also =
+    subst (λ (ns : List Id). AllZip (λ at n. IsPlaceOf h n at) (take (i + 1) places) ns) (sym grown)
+    (subst (λ (ps : List ℕ). AllZip (λ at n. IsPlaceOf h n at) ps (ids ++ id ∷ [])) (ap (λ z. take i places ++ z ∷ []) is ∙ sym (take_more places i x lt))
+    (zip_more (λ at n. IsPlaceOf h n at) (take i places) ids x id zip also))

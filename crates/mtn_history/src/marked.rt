@@ -1,0 +1,75 @@
+// Rosters by the ids of their revisions, and the ids of what marks name.
+ghost use Rattle.std.specs.Prelude.{◌≡◌, ◌∷◌, [], List, ℕ, Err, IfOk, IfErr, IfSome};
+ghost use Rattle.std.specs.List.{AllZip};
+ghost use Rattle.mtn_growth.specs.History.{IsPlaceOf};
+ghost use Rattle.mtn_model.specs.State.{State};
+ghost use Rattle.mtn_ports.specs.Causes.{Rose};
+ghost use Rattle.mtn_ports.specs.Kept.{Stays, with_all};
+ghost use Rattle.mtn_history.specs.Damage.{IsDamage};
+ghost use Rattle.mtn_history.specs.Errors.{IfDamage, IfStoreDamage};
+ghost use Rattle.mtn_history.specs.Marked.{AreHeld, FindsRoster, IsCounted};
+ghost use Rattle.mtn_history.specs.Stands.{IsFounded};
+
+use crate::rosters::Rebuilt;
+use crate::{DraftOver, HistoryError, Pending, StoreError};
+use mtn_ancestry::Pos;
+use mtn_base::{Cause, Id};
+use mtn_marking::MarkedRoster;
+use mtn_ports::Keeper;
+
+impl<'a, K: Keeper> DraftOver<'a, K, Pending> {
+    /// Where a revision stands, and its roster with the marks; UnknownRevision where the log has no such id. It asks for the
+    /// record of its text and at most sixteen of rosters.
+    pub fn roster_of(&mut self, id: Id) -> Result<(Pos, MarkedRoster), HistoryError>
+        ensures same_reference { self.new.keeper.ghost_name ≡ self.old.keeper.ghost_name }
+        ensures stays { Stays K.contents K.leaves K.faults self.old.keeper.now self.new.keeper.now }
+        ensures pending { self.new.pending ≡ self.old.pending }
+        ensures found { (f : List ℕ → List ℕ) (s : State) (d : IsFounded f (K.contents self.new.keeper.now) self.old.pending s) → FindsRoster d.stands.history id result }
+        ensures damaged { IfSome (K.contents self.new.keeper.now) (λ c. IsCounted self.old.pending c → IfErr result (λ e. IfStoreDamage e (IsDamage (with_all c self.old.pending.batch)))) }
+        ensures failed { result ≡ Err (HistoryError.Store StoreError.Failed) → Rose (K.faults self.old.keeper.now) (K.faults self.new.keeper.now) }
+    {
+        if self.count() == 0 {
+            return Err(HistoryError::Refused(Cause::UnknownRevision { id }));
+        }
+        let mut text = Vec::new(self.pending.alloc);
+        let Some(at) = self.placed(id, &mut text)? else {
+            return Err(HistoryError::Refused(Cause::UnknownRevision { id }));
+        };
+        let Rebuilt { roster, .. } = self.roster_at(at)?;
+        Ok((at, roster))
+    }
+
+    // The id of the revision at a position that the roster at another names; a position that the log does not have is
+    // damage of that roster.
+    fn id_at(&mut self, roster: Pos, at: Pos) -> Result<Id, StoreError>
+        ensures same_reference { self.new.keeper.ghost_name ≡ self.old.keeper.ghost_name }
+        ensures stays { Stays K.contents K.leaves K.faults self.old.keeper.now self.new.keeper.now }
+        ensures pending { self.new.pending ≡ self.old.pending }
+        ensures found { (f : List ℕ → List ℕ) (s : State) (d : IsFounded f (K.contents self.new.keeper.now) self.old.pending s) → IfOk result (λ id. IsPlaceOf d.stands.history id at) }
+        ensures damaged { IfSome (K.contents self.new.keeper.now) (λ c. IsCounted self.old.pending c → AreHeld (K.contents self.new.keeper.now) self.old.pending (at ∷ [])
+            → IfErr result (λ e. IfDamage e (IsDamage (with_all c self.old.pending.batch)))) }
+        ensures failed { result ≡ Err StoreError.Failed → Rose (K.faults self.old.keeper.now) (K.faults self.new.keeper.now) }
+    {
+        if at.0 >= self.count() {
+            return Err(self.roster_held(roster));
+        }
+        Ok(self.logged(at)?.id)
+    }
+
+    /// The ids of the revisions at positions that the roster at another names, in their order. It asks for a record for each.
+    pub fn ids_at(&mut self, roster: Pos, places: &[Pos]) -> Result<Vec<Id>, StoreError>
+        ensures same_reference { self.new.keeper.ghost_name ≡ self.old.keeper.ghost_name }
+        ensures stays { Stays K.contents K.leaves K.faults self.old.keeper.now self.new.keeper.now }
+        ensures pending { self.new.pending ≡ self.old.pending }
+        ensures found { (f : List ℕ → List ℕ) (s : State) (d : IsFounded f (K.contents self.new.keeper.now) self.old.pending s) → IfOk result (λ ids. AllZip (λ at id. IsPlaceOf d.stands.history id at) places.now ids.items) }
+        ensures damaged { IfSome (K.contents self.new.keeper.now) (λ c. IsCounted self.old.pending c → AreHeld (K.contents self.new.keeper.now) self.old.pending places.now
+            → IfErr result (λ e. IfDamage e (IsDamage (with_all c self.old.pending.batch)))) }
+        ensures failed { result ≡ Err StoreError.Failed → Rose (K.faults self.old.keeper.now) (K.faults self.new.keeper.now) }
+    {
+        let mut ids = Vec::new(self.pending.alloc);
+        for at in places {
+            ids.push(self.id_at(roster, *at)?)?;
+        }
+        Ok(ids)
+    }
+}

@@ -1,0 +1,4 @@
+pub mod Sorting
+pub mod Marking
+pub mod Views
+pub mod Unique
