@@ -42,7 +42,7 @@ get_other m k b q differ = get_inserted m k b q ∙ by (bytes_eq q k) (bytes_eq-
     by true same = absurd (differ (same refl))
     by false same = refl
 
-get_itself : (m : Table) (k b : List ℕ) → get (insert m k b) k ≡ Some b
+pub get_itself : (m : Table) (k b : List ℕ) → get (insert m k b) k ≡ Some b
 get_itself m k b = get_inserted m k b k ∙ ap (λ t. cond t (Some b) (get m k)) ((bytes_eq-Decides k k).1 refl)
 
 found_in : (m : Table) (k b q x : List ℕ) → get (insert m k b) q ≡ Some x → (q ≡ k) ⊎ (get m q ≡ Some x)
@@ -119,7 +119,7 @@ below_more n t body only key x found = by (found_in t (number_text n) body key x
     by (inr old) = let o = only key x old in (o.0, omega (arith, o.1), o.2)
 
 -- what stood under an earlier position
-earlier_at : (n r : ℕ) (t : Table) (body : List ℕ) → r < n → n < 2 ^ 64 → get (insert t (number_text n) body) (number_text r) ≡ get t (number_text r)
+pub earlier_at : (n r : ℕ) (t : Table) (body : List ℕ) → r < n → n < 2 ^ 64 → get (insert t (number_text n) body) (number_text r) ≡ get t (number_text r)
 earlier_at n r t body lt fits = get_other t (number_text n) body (number_text r) (λ same. let e : r ≡ n = one_number r n (below r n lt fits) fits same in omega (arith, e, lt))
   where
     below : (r n : ℕ) → r < n → n < 2 ^ 64 → r < 2 ^ 64

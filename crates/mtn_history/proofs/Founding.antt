@@ -18,7 +18,7 @@ use Rattle.mtn_history.proofs.FileLemmas.{behind_meta, other_table}
 use Rattle.mtn_history.proofs.LogLemmas.{read_is, there}
 
 -- the records of table 1 leave every other table
-table_of : (b : Bool) (n : ℕ) (c : Contents) (t : ℕ) → t ≢ 1 → with_all c (meta_puts b n) t ≡ c t
+pub table_of : (b : Bool) (n : ℕ) (c : Contents) (t : ℕ) → t ≢ 1 → with_all c (meta_puts b n) t ≡ c t
 table_of true n c t other = other_table 1 t _ _ other ∙ other_table 1 t _ _ other
 table_of false n c t other = refl
 

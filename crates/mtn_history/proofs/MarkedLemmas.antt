@@ -1,8 +1,8 @@
 -- Rosters by the ids of their revisions, and the ids of positions.
-use Rattle.std.specs.Prelude.{IfSome, IfErr, Contains, MatchBool, slice_get}
+use Rattle.std.specs.Prelude.{IfSome, IfErr, MatchBool}
 use Rattle.std.specs.Int.{w64, to_be_bytes}
 use Rattle.std.specs.List.{AllZip}
-use Rattle.std.proofs.Common.{◌≡◌, ◌≢◌, ◌≤◌, ◌<◌, ◌+◌, ◌^◌, ℕ, zero, suc, Bool, true, false, List, [], ◌∷◌, ◌++◌, length, get_or, take, Option, Some, None, Result, Ok, Err, refl, sym, ap, ◌∙◌, subst, ◌⊎◌, inl, inr, arith}
+use Rattle.std.proofs.Common.{◌≡◌, ◌≢◌, ◌≤◌, ◌<◌, ◌+◌, ◌^◌, ℕ, zero, suc, Bool, true, false, List, [], ◌∷◌, ◌++◌, length, get_or, take, Option, Some, None, Result, Err, refl, sym, ap, ◌∙◌, subst, inl, inr, arith}
 use Rattle.std.proofs.lemmas.List.{take_more}
 use Rattle.mtn_base.specs.declared.id.Id.{Id}
 use Rattle.mtn_chains.specs.Chain.{Entries}
@@ -16,11 +16,10 @@ use Rattle.mtn_model.specs.State.{State}
 use Rattle.mtn_model.specs.Table.{Contents}
 use Rattle.mtn_ports.specs.Kept.{Same, with_all}
 use Rattle.mtn_records.specs.declared.record.LogRecord.{LogRecord}
-use Rattle.mtn_history.specs.declared.errors.Damage.{Damage}
 use Rattle.mtn_history.specs.declared.errors.StoreError.{StoreError}
 use Rattle.mtn_history.specs.declared.errors.StoreError.TheVariants.{Failed, Damaged, NoMemory}
 use Rattle.mtn_history.specs.declared.errors.HistoryError.{HistoryError}
-use Rattle.mtn_history.specs.declared.errors.HistoryError.TheVariants.{Refused, Store}
+use Rattle.mtn_history.specs.declared.errors.HistoryError.TheVariants.{Store}
 use Rattle.mtn_history.specs.declared.pending.Pending.{Pending}
 use Rattle.mtn_history.specs.Damage.{IsDamage}
 use Rattle.mtn_history.specs.Errors.{IfDamage, IfStoreDamage}
@@ -30,7 +29,6 @@ use Rattle.mtn_history.specs.Meta.{Counted, IsMetaOf, count_key}
 use Rattle.mtn_history.specs.Places.{IsPlaced, UnplacedBelow}
 use Rattle.mtn_history.specs.Rosters.{IsRebuilt, IsRosterHeld, UnmadeBelow}
 use Rattle.mtn_history.specs.Stands.{Stands, StandsFor, IsNew, IsDraft, IsFounded}
-use Rattle.mtn_history.proofs.FileLemmas.{draft_stands}
 use Rattle.mtn_history.proofs.Founding.{founded, told_of, own, counted, grown, texts_of, log_of, rosters_of}
 use Rattle.mtn_history.proofs.LogLemmas.{there, read_is}
 use Rattle.mtn_history.proofs.MetaLemmas.{held_count, held_version, none_held, told_back, opened_by}

@@ -204,13 +204,13 @@ one_deeper below depth is some = by (nat_lt below deepest) refl is
     by false test e = absurd (omega (arith, e, some))
 
 -- the chain of a revision's roster
-record Chained (c : Contents) (r depth : ℕ) (entries : Entries) : Type 0 where
-  chain : List RosterRecord
-  down : IsChainDown c r chain
-  made : rebuilt (reverse chain) ≡ Some entries
-  long : length chain ≡ suc depth
+pub record Chained (c : Contents) (r depth : ℕ) (entries : Entries) : Type 0 where
+  pub chain : List RosterRecord
+  pub down : IsChainDown c r chain
+  pub made : rebuilt (reverse chain) ≡ Some entries
+  pub long : length chain ≡ suc depth
 
-whole_chained : (c : Contents) (r : ℕ) (body : List ℕ) (es : Entries) → ascend es ≡ true → body_at c 5 (number_text r) ≡ Some body → IsRosterAt r body (Whole es) → Chained c r 0 es
+pub whole_chained : (c : Contents) (r : ℕ) (body : List ℕ) (es : Entries) → ascend es ≡ true → body_at c 5 (number_text r) ≡ Some body → IsRosterAt r body (Whole es) → Chained c r 0 es
 whole_chained c r body es rise held text = record {
   chain = Whole es ∷ [];
   down = (record { body = body; held = held; text = text }, refl);
@@ -218,7 +218,7 @@ whole_chained c r body es rise held text = record {
   long = refl;
 }
 
-delta_chained : (c : Contents) (r base depth below : ℕ) (body g : List ℕ) (ch es fs : Entries) → ascend fs ≡ true → body_at c 5 (number_text r) ≡ Some body → IsRosterAt r body (Delta base depth g ch) →
+pub delta_chained : (c : Contents) (r base depth below : ℕ) (body g : List ℕ) (ch es fs : Entries) → ascend fs ≡ true → body_at c 5 (number_text r) ≡ Some body → IsRosterAt r body (Delta base depth g ch) →
     Chained c base below es → IsDifference es fs g ch → below < 15 → depth ≡ below + 1 → Chained c r depth fs
 delta_chained c r base depth below body g ch es fs rise held text chained differ low is =
     let long : length (reverse chained.chain) ≡ depth = length-reverse chained.chain ∙ chained.long ∙ omega (arith, is) in

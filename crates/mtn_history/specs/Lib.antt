@@ -1,7 +1,9 @@
 pub mod Damage
+pub mod Drafts
 pub mod Errors
 pub mod Files
 pub mod Graph
+pub mod Known
 pub mod Logs
 pub mod Marked
 pub mod Meta

@@ -1,8 +1,6 @@
 -- The log: what is read of table 4, what it tells, and what is damage.
 use Rattle.std.specs.Prelude.{◌≡◌, ◌<◌, ◌⊎◌, ℕ, List, length, Some, None, slice_get}
-use Rattle.mtn_ancestry.specs.Log.{list_of}
 use Rattle.mtn_ancestry.specs.declared.pos.LogEntry.{LogEntry}
-use Rattle.mtn_growth.specs.History.{Revision}
 use Rattle.mtn_model.specs.Table.{Contents, body_at}
 use Rattle.mtn_records.specs.Bounds.{IsLogAt}
 use Rattle.mtn_records.specs.Fields.{number_text}

@@ -10,6 +10,7 @@ use Rattle.mtn_records.specs.declared.record.RosterRecord.{RosterRecord}
 use Rattle.mtn_records.specs.declared.record.RosterRecord.TheVariants.{Whole, Delta}
 use Rattle.mtn_history.specs.declared.errors.Damage.{Damage}
 use Rattle.mtn_history.specs.declared.errors.Damage.TheVariants.{Bad, Missing}
+use Rattle.mtn_history.specs.declared.rosters.Rebuilt.{Rebuilt}
 use Rattle.mtn_history.specs.Meta.{Counted}
 
 -- the record of table 5 at a position
@@ -67,6 +68,10 @@ pub record IsRebuilt (c : Contents) (r : ℕ) (es : Entries) (t : MarkedTree) (d
   pub entries : rebuilt (reverse chain) ≡ Some es
   pub spelled : Spells es t
   pub deltas : length chain ≡ depth + 1
+
+-- the same of what a call gives
+abbrev pub Rebuilds : Contents → ℕ → Rebuilt → Type 0
+Rebuilds c r found = IsRebuilt c r found.entries found.roster found.depth
 
 -- the same below `count`
 pub record RosterDamage (c : Contents) (d : Damage) : Type 0 where

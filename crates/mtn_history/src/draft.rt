@@ -1,43 +1,77 @@
 // A keeper with pending records.
-ghost use Rattle.std.specs.Prelude.{◌≡◌, ◌≤◌, ◌+◌, Err, IfOk, IfErr, IfSome, OnOk, OnErr};
+ghost use Rattle.std.specs.Prelude.{◌≡◌, ◌<◌, ◌≤◌, ◌+◌, ◌^◌, ◌++◌, false, Err, IfOk, IfErr, IfSome, OnOk, OnErr};
 ghost use Rattle.mtn_model.specs.Table.{body_at};
 ghost use Rattle.mtn_ports.specs.Causes.{Rose};
-ghost use Rattle.mtn_ports.specs.Kept.{Same, Stays, IsBody, with_all};
+ghost use Rattle.mtn_ports.specs.Kept.{Stays, IsBody, with_all};
 ghost use Rattle.mtn_history.specs.Errors.{IfDamage};
-ghost use Rattle.mtn_history.specs.Stands.{WasTold, Finishes, FinishLeaves};
+ghost use Rattle.mtn_history.specs.Logs.{IsLogged};
+ghost use Rattle.mtn_history.specs.Records.{record_puts, with_revision};
+ghost use Rattle.mtn_history.specs.Rosters.{Rebuilds};
+ghost use Rattle.mtn_records.specs.Bounds.{IsLogWithin};
 
-use crate::{Pending, StoreError};
+use crate::known::Known;
+use crate::{FILES, Pending, Rebuilt, StoreError};
+use mtn_ancestry::Pos;
+use mtn_base::{Bytes, Id, NoMemory};
 use mtn_ports::Keeper;
+use mtn_records::LogRecord;
+use std::alloc::Global;
+use std::marker::Model;
+use std::rc::Rc;
 
-/// A keeper with something that waits for it. `Draft` is the form that is used; the owning part stands
-/// behind a type parameter so that `finish` can take a draft apart.
-pub struct DraftOver<'a, K: Keeper, P> {
-    pub keeper: &'a mut K,
-    pub pending: P,
+/// A keeper with pending records. Its state is what both together stand for. It remembers the rosters of the revisions that
+/// it read or accepted last, and the records of the log that a walk asked for: these are what the records say.
+pub struct Draft<'a, K: Keeper> {
+    keeper: &'a mut K,
+    pending: Pending,
+    known: Known,
 }
 
-impl<K: Keeper, P: Drop> Drop for DraftOver<'_, K, P> {
-    fn drop(self)
-        ensures { self.exit.0.now ≡ self.entry.keeper.now }
-    {
-        let DraftOver {
-            keeper: _,
-            pending: _,
-        } = self;
-    }
+impl<'a, K: Keeper> Model for Draft<'a, K> {
+    ghost use Rattle.std.specs.Prelude.{IfSome};
+    ghost use Rattle.mtn_history.specs.Drafts.{DraftValue};
+    ghost use Rattle.mtn_history.specs.Known.{AreRecalled, AreWithin};
+    ghost use Rattle.mtn_ports.specs.Kept.{with_all};
+
+    ghost Value = { DraftValue K };
+
+    ghost view = { λ d. record { keeper = record { now = d.keeper.now; ghost_name = d.keeper.ghost_name }; pending = d.pending } };
+
+    ghost invariant = { λ d. IfSome (K.contents d.keeper.now) (λ c. AreRecalled (with_all c d.pending.batch) d.pending.count d.known) × AreWithin d.known };
 }
 
-/// A keeper with pending records. Its state is what both together stand for.
-pub type Draft<'a, K> = DraftOver<'a, K, Pending>;
-
-impl<'a, K: Keeper> DraftOver<'a, K, Pending> {
+impl<'a, K: Keeper> Draft<'a, K> {
     /// A draft over the keeper that `Pending::open` read. It takes no memory.
     pub fn new(keeper: &'a mut K, pending: Pending) -> Draft<'a, K>
         ensures same_reference { result.keeper.ghost_name ≡ keeper.entry.ghost_name }
         ensures keeper { result.keeper.now ≡ keeper.old }
         ensures pending { result.pending ≡ pending }
     {
-        DraftOver { keeper, pending }
+        let known = Known::new(pending.alloc);
+        Draft {
+            keeper,
+            pending,
+            known,
+        }
+    }
+
+    /// The keeper and what is pending. It takes no memory.
+    pub fn into_parts(self) -> (&'a mut K, Pending)
+        ensures same_reference { result.0.ghost_name ≡ self.entry.keeper.ghost_name }
+        ensures keeper { result.0.now ≡ self.entry.keeper.now }
+        ensures pending { result.1 ≡ self.entry.pending }
+    {
+        let Draft {
+            keeper,
+            pending,
+            known: _,
+        } = self;
+        (keeper, pending)
+    }
+
+    /// Where memory is taken from.
+    pub fn alloc(&self) -> Global {
+        self.pending.alloc
     }
 
     /// Replaces `out` by the body under a key, of the pending records or else of the keeper's. After
@@ -59,28 +93,80 @@ impl<'a, K: Keeper> DraftOver<'a, K, Pending> {
         Ok(self.keeper.get(table, key, out)?)
     }
 
+    /// Puts a file's record, behind both records of table 1 where there are none. An error leaves all as it was.
+    pub(crate) fn keep_file(&mut self, id: Id, bytes: &[u8]) -> Result<(), NoMemory>
+        ensures keeper { self.new.keeper ≡ self.old.keeper }
+        ensures ok { OnOk result (self.new.pending ≡ record self.old.pending { batch = self.old.pending.batch ++ record_puts self.old.pending.is_new self.old.pending.count 2 id.0 bytes.now; is_new = false }) }
+        ensures err { OnErr result (self.new.pending ≡ self.old.pending) }
+    {
+        self.pending.put(FILES, id.as_slice(), bytes)
+    }
+
+    /// Puts the records of one more revision, behind both records of table 1 where there are none: its text under its id,
+    /// and under its position its record of the log and its roster's; then there is one more revision. An error leaves all
+    /// as it was.
+    pub fn keep_revision(
+        &mut self,
+        id: Id,
+        text: &[u8],
+        log: Bytes,
+        roster: Bytes,
+        rebuilt: Rebuilt,
+    ) -> Result<(), NoMemory>
+        requires room { self.old.pending.count < 2 ^ 63 }
+        requires right { IfSome (K.contents self.old.keeper.now) (λ c. Rebuilds (with_all c (with_revision self.old.pending (record { id = id.0; text = text.now }) log roster).batch) self.old.pending.count rebuilt) }
+        ensures keeper { self.new.keeper ≡ self.old.keeper }
+        ensures ok { OnOk result (self.new.pending ≡ with_revision self.old.pending (record { id = id.0; text = text.now }) log roster) }
+        ensures err { OnErr result (self.new.pending ≡ self.old.pending) }
+    {
+        let at = Pos(self.pending.count);
+        self.pending.put_revision(id, text, log, roster)?;
+        if let Ok(rebuilt) = Rc::new(self.pending.alloc, rebuilt) {
+            self.known.add_roster(at, rebuilt);
+        }
+        Ok(())
+    }
+
+    /// The roster of the revision at a position, if it is remembered. It asks for no record.
+    pub(crate) fn recall(&self, at: Pos) -> Result<Option<Rc<Rebuilt>>, NoMemory>
+        ensures { IfSome (K.contents self.now.keeper.now) (λ c. IfOk result (λ found. IfSome found (λ r. Rebuilds (with_all c self.now.pending.batch) at r.value))) }
+    {
+        self.known.roster(at)
+    }
+
+    /// Remembers a roster, as its records give it.
+    pub(crate) fn remember(&mut self, at: Pos, rebuilt: Rc<Rebuilt>)
+        requires below { at < self.old.pending.count }
+        requires right { IfSome (K.contents self.old.keeper.now) (λ c. Rebuilds (with_all c self.old.pending.batch) at rebuilt.value) }
+        ensures keeper { self.new.keeper ≡ self.old.keeper }
+        ensures pending { self.new.pending ≡ self.old.pending }
+    {
+        self.known.add_roster(at, rebuilt);
+    }
+
+    /// The log's record at a position, if it is remembered. It asks for no record.
+    pub(crate) fn recall_log(&self, at: Pos) -> Option<LogRecord>
+        ensures right { IfSome (K.contents self.now.keeper.now) (λ c. IfSome result (IsLogged (with_all c self.now.pending.batch) at)) }
+        ensures within { IfSome result (IsLogWithin at) }
+    {
+        self.known.log(at)
+    }
+
+    /// Remembers a record of the log.
+    pub(crate) fn remember_log(&mut self, at: Pos, log: &LogRecord)
+        requires below { at < self.old.pending.count }
+        requires right { IfSome (K.contents self.old.keeper.now) (λ c. IsLogged (with_all c self.old.pending.batch) at log.now) }
+        requires within { IsLogWithin at log.now }
+        ensures keeper { self.new.keeper ≡ self.old.keeper }
+        ensures pending { self.new.pending ≡ self.old.pending }
+    {
+        self.known.add_log(at, log);
+    }
+
     /// The number of revisions. It takes no memory.
     pub fn count(&self) -> u64
         ensures { result ≡ self.now.pending.count }
     {
         self.pending.count
-    }
-
-    /// Puts the pending records, all of them or none; where none are pending the keeper is not called.
-    /// After an error the keeper's contents are as they were, and the draft is gone.
-    pub fn finish(self) -> Result<(), StoreError>
-        ensures told { WasTold (K.contents self.entry.keeper.now) (K.contents self.exit.0.now) }
-        ensures ok { OnOk result (Finishes self.entry.pending (K.contents self.entry.keeper.now) (K.contents self.exit.0.now)) }
-        ensures err { OnErr result (Same (K.contents self.entry.keeper.now) (K.contents self.exit.0.now)) }
-        ensures crash { FinishLeaves self.entry.pending (K.contents self.entry.keeper.now) (K.contents self.exit.0.now) (K.leaves self.entry.keeper.now) (K.leaves self.exit.0.now) }
-        ensures later { K.faults self.entry.keeper.now ≤ K.faults self.exit.0.now }
-        ensures failed { result ≡ Err StoreError.Failed → Rose (K.faults self.entry.keeper.now) (K.faults self.exit.0.now) }
-        ensures damaged { IfErr result (λ e. IfDamage e (λ _. ⊥)) }
-    {
-        let DraftOver { keeper, pending } = self;
-        if pending.batch.len() == 0 {
-            return Ok(());
-        }
-        Ok(keeper.apply(&pending.batch)?)
     }
 }

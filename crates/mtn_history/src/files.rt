@@ -8,11 +8,11 @@ ghost use Rattle.mtn_history.specs.Errors.{IfStoreDamage};
 ghost use Rattle.mtn_history.specs.Files.{AcceptsFile, FindsFile};
 ghost use Rattle.mtn_history.specs.Stands.{IsDraft};
 
-use crate::{DraftOver, FILES, HistoryError, Pending, StoreError};
+use crate::{Draft, FILES, HistoryError, StoreError};
 use mtn_base::{Cause, Id, MAX_TEXT};
 use mtn_ports::{Ident, Keeper};
 
-impl<'a, K: Keeper> DraftOver<'a, K, Pending> {
+impl<'a, K: Keeper> Draft<'a, K> {
     /// Keeps a file under its id, which it answers. A file that is held with the same bytes is kept
     /// already. It is refused as TextTooLong above 64 MiB, and as Collision where other bytes are held
     /// under the id. Any error leaves what is pending as it was.
@@ -32,9 +32,9 @@ impl<'a, K: Keeper> DraftOver<'a, K, Pending> {
         }
         let id = ident.id(bytes);
         let key = id.0.as_slice();
-        let mut held = Vec::new(self.pending.alloc);
+        let mut held = Vec::new(self.alloc());
         if !self.get(FILES, key, &mut held)? {
-            self.pending.put(FILES, key, bytes)?;
+            self.keep_file(id, bytes)?;
             return Ok(id);
         }
         if held.as_slice() != bytes {

@@ -14,6 +14,7 @@ mod damaged;
 mod draft;
 mod errors;
 mod files;
+mod known;
 mod logs;
 mod marked;
 mod meta;
@@ -24,7 +25,7 @@ mod rosters;
 mod tables;
 mod texts;
 
-pub use draft::{Draft, DraftOver};
+pub use draft::Draft;
 pub use errors::{Damage, HistoryError, StoreError};
 pub use meta::Meta;
 pub use pending::Pending;

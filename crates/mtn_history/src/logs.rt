@@ -7,12 +7,12 @@ ghost use Rattle.mtn_history.specs.Errors.{IfDamage};
 ghost use Rattle.mtn_history.specs.Logs.{IsHeldAt, IsLogged, UnloggedAt, WrongBelow, IsReadTo};
 
 use crate::damaged::{bad, missing};
-use crate::{DraftOver, LOG, Pending, StoreError};
+use crate::{Draft, LOG, StoreError};
 use mtn_ancestry::{Graph, Pos};
 use mtn_ports::Keeper;
 use mtn_records::{LogRecord, read_log};
 
-impl<'a, K: Keeper> DraftOver<'a, K, Pending> {
+impl<'a, K: Keeper> Draft<'a, K> {
     /// The log's record at a position. It asks for one record.
     pub fn logged(&mut self, at: Pos) -> Result<LogRecord, StoreError>
         ensures same_reference { self.new.keeper.ghost_name ≡ self.old.keeper.ghost_name }
@@ -25,13 +25,48 @@ impl<'a, K: Keeper> DraftOver<'a, K, Pending> {
         ensures reads { K.reads self.new.keeper.now ≤ K.reads self.old.keeper.now + 1 }
     {
         let key = at.0.to_be_bytes();
-        let mut body = Vec::new(self.pending.alloc);
+        let mut body = Vec::new(self.alloc());
         if !self.get(LOG, &key, &mut body)? {
-            return Err(missing(self.pending.alloc, LOG, &key));
+            return Err(missing(self.alloc(), LOG, &key));
         }
         match read_log(at, &body) {
             Ok(log) => Ok(log),
-            Err(_) => Err(bad(self.pending.alloc, LOG, &key, &body)),
+            Err(_) => Err(bad(self.alloc(), LOG, &key, &body)),
+        }
+    }
+
+    // The log's record at a position, read and remembered.
+    fn read_log_at(&mut self, at: Pos) -> Result<LogRecord, StoreError>
+        ensures same_reference { self.new.keeper.ghost_name ≡ self.old.keeper.ghost_name }
+        ensures stays { Stays K.contents K.leaves K.faults self.old.keeper.now self.new.keeper.now }
+        ensures pending { self.new.pending ≡ self.old.pending }
+        ensures read { IfSome (K.contents self.new.keeper.now) (λ c. IfOk result (IsLogged (with_all c self.old.pending.batch) at)) }
+        ensures below { IfOk result (IsLogWithin at) }
+        ensures damaged { IfSome (K.contents self.new.keeper.now) (λ c. IfErr result (λ e. IfDamage e (UnloggedAt (with_all c self.old.pending.batch) at))) }
+        ensures failed { result ≡ Err StoreError.Failed → Rose (K.faults self.old.keeper.now) (K.faults self.new.keeper.now) }
+        ensures reads { K.reads self.new.keeper.now ≤ K.reads self.old.keeper.now + 1 }
+    {
+        let log = self.logged(at)?;
+        if at.0 < self.count() {
+            self.remember_log(at, &log);
+        }
+        Ok(log)
+    }
+
+    /// The log's record at a position, which is remembered: it asks for one record where this was not called before.
+    pub fn log_at(&mut self, at: Pos) -> Result<LogRecord, StoreError>
+        ensures same_reference { self.new.keeper.ghost_name ≡ self.old.keeper.ghost_name }
+        ensures stays { Stays K.contents K.leaves K.faults self.old.keeper.now self.new.keeper.now }
+        ensures pending { self.new.pending ≡ self.old.pending }
+        ensures read { IfSome (K.contents self.new.keeper.now) (λ c. IfOk result (IsLogged (with_all c self.old.pending.batch) at)) }
+        ensures below { IfOk result (IsLogWithin at) }
+        ensures damaged { IfSome (K.contents self.new.keeper.now) (λ c. IfErr result (λ e. IfDamage e (UnloggedAt (with_all c self.old.pending.batch) at))) }
+        ensures failed { result ≡ Err StoreError.Failed → Rose (K.faults self.old.keeper.now) (K.faults self.new.keeper.now) }
+        ensures reads { K.reads self.new.keeper.now ≤ K.reads self.old.keeper.now + 1 }
+    {
+        match self.recall_log(at) {
+            Some(log) => Ok(log),
+            None => self.read_log_at(at),
         }
     }
 
@@ -44,10 +79,10 @@ impl<'a, K: Keeper> DraftOver<'a, K, Pending> {
         ensures failed { result ≡ StoreError.Failed → Rose (K.faults self.old.keeper.now) (K.faults self.new.keeper.now) }
     {
         let key = at.0.to_be_bytes();
-        let mut body = Vec::new(self.pending.alloc);
+        let mut body = Vec::new(self.alloc());
         match self.get(LOG, &key, &mut body) {
-            Ok(true) => bad(self.pending.alloc, LOG, &key, &body),
-            Ok(false) => missing(self.pending.alloc, LOG, &key),
+            Ok(true) => bad(self.alloc(), LOG, &key, &body),
+            Ok(false) => missing(self.alloc(), LOG, &key),
             Err(error) => error,
         }
     }
@@ -61,8 +96,8 @@ impl<'a, K: Keeper> DraftOver<'a, K, Pending> {
         ensures damaged { IfSome (K.contents self.new.keeper.now) (λ c. IfErr result (λ e. IfDamage e (WrongBelow self.old.pending.count (with_all c self.old.pending.batch)))) }
         ensures failed { result ≡ Err StoreError.Failed → Rose (K.faults self.old.keeper.now) (K.faults self.new.keeper.now) }
     {
-        let mut graph = Graph::new(self.pending.alloc);
-        for at in 0..self.pending.count {
+        let mut graph = Graph::new(self.alloc());
+        for at in 0..self.count() {
             let log = self.logged(Pos(at))?;
             if graph.find(log.id).is_some() {
                 return Err(self.log_held(Pos(at)));

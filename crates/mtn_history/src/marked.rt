@@ -11,32 +11,32 @@ ghost use Rattle.mtn_history.specs.Marked.{AreHeld, FindsRoster, IsCounted};
 ghost use Rattle.mtn_history.specs.Stands.{IsFounded};
 
 use crate::rosters::Rebuilt;
-use crate::{DraftOver, HistoryError, Pending, StoreError};
+use crate::{Draft, HistoryError, StoreError};
 use mtn_ancestry::Pos;
 use mtn_base::{Cause, Id};
-use mtn_marking::MarkedRoster;
 use mtn_ports::Keeper;
+use std::rc::Rc;
 
-impl<'a, K: Keeper> DraftOver<'a, K, Pending> {
+impl<'a, K: Keeper> Draft<'a, K> {
     /// Where a revision stands, and its roster with the marks; UnknownRevision where the log has no such id. It asks for the
-    /// record of its text and at most sixteen of rosters.
-    pub fn roster_of(&mut self, id: Id) -> Result<(Pos, MarkedRoster), HistoryError>
+    /// record of its text and, where the roster is not remembered, at most sixteen of rosters.
+    pub fn roster_of(&mut self, id: Id) -> Result<(Pos, Rc<Rebuilt>), HistoryError>
         ensures same_reference { self.new.keeper.ghost_name ≡ self.old.keeper.ghost_name }
         ensures stays { Stays K.contents K.leaves K.faults self.old.keeper.now self.new.keeper.now }
         ensures pending { self.new.pending ≡ self.old.pending }
-        ensures found { (f : List ℕ → List ℕ) (s : State) (d : IsFounded f (K.contents self.new.keeper.now) self.old.pending s) → FindsRoster d.stands.history id result }
+        ensures found { (f : List ℕ → List ℕ) (s : State) (d : IsFounded f (K.contents self.new.keeper.now) self.old.pending s) → FindsRoster (λ r. r.value.roster) d.stands.history id result }
         ensures damaged { IfSome (K.contents self.new.keeper.now) (λ c. IsCounted self.old.pending c → IfErr result (λ e. IfStoreDamage e (IsDamage (with_all c self.old.pending.batch)))) }
         ensures failed { result ≡ Err (HistoryError.Store StoreError.Failed) → Rose (K.faults self.old.keeper.now) (K.faults self.new.keeper.now) }
     {
         if self.count() == 0 {
             return Err(HistoryError::Refused(Cause::UnknownRevision { id }));
         }
-        let mut text = Vec::new(self.pending.alloc);
+        let mut text = Vec::new(self.alloc());
         let Some(at) = self.placed(id, &mut text)? else {
             return Err(HistoryError::Refused(Cause::UnknownRevision { id }));
         };
-        let Rebuilt { roster, .. } = self.roster_at(at)?;
-        Ok((at, roster))
+        let rebuilt = self.roster_at(at)?;
+        Ok((at, rebuilt))
     }
 
     // The id of the revision at a position that the roster at another names; a position that the log does not have is
@@ -53,7 +53,7 @@ impl<'a, K: Keeper> DraftOver<'a, K, Pending> {
         if at.0 >= self.count() {
             return Err(self.roster_held(roster));
         }
-        Ok(self.logged(at)?.id)
+        Ok(self.log_at(at)?.id)
     }
 
     /// The ids of the revisions at positions that the roster at another names, in their order. It asks for a record for each.
@@ -66,7 +66,7 @@ impl<'a, K: Keeper> DraftOver<'a, K, Pending> {
             → IfErr result (λ e. IfDamage e (IsDamage (with_all c self.old.pending.batch)))) }
         ensures failed { result ≡ Err StoreError.Failed → Rose (K.faults self.old.keeper.now) (K.faults self.new.keeper.now) }
     {
-        let mut ids = Vec::new(self.pending.alloc);
+        let mut ids = Vec::new(self.alloc());
         for at in places {
             ids.push(self.id_at(roster, *at)?)?;
         }

@@ -1,10 +1,10 @@
 // A draft as whoever can be asked for the parents of a revision.
 
-use crate::{DraftOver, Pending, StoreError};
+use crate::{Draft, StoreError};
 use mtn_ancestry::{ParentList, Parents, Pos};
 use mtn_ports::Keeper;
 
-impl<K: Keeper> Parents for DraftOver<'_, K, Pending> {
+impl<K: Keeper> Parents for Draft<'_, K> {
     type Error = StoreError;
 
     ghost use Rattle.std.proofs.Common.{◌≡◌, ◌∙◌, refl};
@@ -23,7 +23,7 @@ impl<K: Keeper> Parents for DraftOver<'_, K, Pending> {
         if at.0 >= self.count() {
             return Err(StoreError::NoMemory);
         }
-        Ok(self.logged(at)?.parents)
+        Ok(self.log_at(at)?.parents)
     }
 
     ghost earlier = { λ d n g tells. tells.earlier };

@@ -26,11 +26,11 @@ impl Pending {
     ghost use Rattle.mtn_history.specs.Records.{revision_puts, with_revision};
     ghost use Rattle.mtn_model.specs.State.{State};
     ghost use Rattle.mtn_ports.specs.Causes.{Rose};
-    ghost use Rattle.mtn_ports.specs.Kept.{Stays};
+    ghost use Rattle.mtn_ports.specs.Kept.{Same, Stays};
     ghost use Rattle.mtn_history.specs.Errors.{IfDamage};
     ghost use Rattle.mtn_history.specs.Damage.{IsDamage};
     ghost use Rattle.mtn_history.specs.Meta.{IsMetaOf};
-    ghost use Rattle.mtn_history.specs.Stands.{Stands, Opens};
+    ghost use Rattle.mtn_history.specs.Stands.{Stands, Opens, WasTold, Finishes, FinishLeaves};
 
     /// The first half of beginning a draft: reads of table 1 what the keeper stands for, with nothing
     /// pending. A keeper without `count` is an empty store. It asks the keeper for two records at most.
@@ -44,6 +44,23 @@ impl Pending {
     {
         let meta = read_meta(alloc, keeper)?;
         Ok(Pending::new(alloc, meta))
+    }
+
+    /// Puts the pending records, all of them or none; where none are pending the keeper is not called.
+    /// After an error the keeper's contents are as they were.
+    pub fn finish<K: Keeper>(&self, keeper: &mut K) -> Result<(), StoreError>
+        ensures told { WasTold (K.contents keeper.old) (K.contents keeper.new) }
+        ensures ok { OnOk result (Finishes self.now (K.contents keeper.old) (K.contents keeper.new)) }
+        ensures err { OnErr result (Same (K.contents keeper.old) (K.contents keeper.new)) }
+        ensures crash { FinishLeaves self.now (K.contents keeper.old) (K.contents keeper.new) (K.leaves keeper.old) (K.leaves keeper.new) }
+        ensures later { K.faults keeper.old ≤ K.faults keeper.new }
+        ensures failed { result ≡ Err StoreError.Failed → Rose (K.faults keeper.old) (K.faults keeper.new) }
+        ensures damaged { IfErr result (λ e. IfDamage e (λ _. ⊥)) }
+    {
+        if self.batch.len() == 0 {
+            return Ok(());
+        }
+        Ok(keeper.apply(&self.batch)?)
     }
 
     fn new(alloc: Global, meta: Meta) -> Pending

@@ -6,13 +6,13 @@ ghost use Rattle.mtn_history.specs.Errors.{IfDamage};
 ghost use Rattle.mtn_history.specs.Places.{IsPlaced, UnplacedBelow};
 
 use crate::damaged::bad;
-use crate::{DraftOver, Pending, StoreError, TEXTS};
+use crate::{Draft, StoreError, TEXTS};
 use mtn_ancestry::Pos;
 use mtn_base::Id;
 use mtn_ports::Keeper;
 use mtn_records::{Field, RecordError};
 
-impl<'a, K: Keeper> DraftOver<'a, K, Pending> {
+impl<'a, K: Keeper> Draft<'a, K> {
     /// Where a revision stands; None where the log has no such id. Where there is one `body` is replaced by its record: eight
     /// bytes of the position, and its text.
     pub fn placed(&mut self, id: Id, body: &mut Vec<u8>) -> Result<Option<Pos>, StoreError>
@@ -29,13 +29,13 @@ impl<'a, K: Keeper> DraftOver<'a, K, Pending> {
         if !self.get(TEXTS, key, body)? {
             return Ok(None);
         }
-        let at = match Pos::read(self.pending.alloc, body) {
+        let at = match Pos::read(self.alloc(), body) {
             Ok((at, _)) => at,
-            Err(RecordError::Bad) => return Err(bad(self.pending.alloc, TEXTS, key, body)),
+            Err(RecordError::Bad) => return Err(bad(self.alloc(), TEXTS, key, body)),
             Err(RecordError::NoMemory) => return Err(StoreError::NoMemory),
         };
         if at.0 >= count {
-            return Err(bad(self.pending.alloc, TEXTS, key, body));
+            return Err(bad(self.alloc(), TEXTS, key, body));
         }
         Ok(Some(at))
     }

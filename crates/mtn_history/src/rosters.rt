@@ -4,15 +4,16 @@ ghost use Rattle.mtn_ports.specs.Causes.{Rose};
 ghost use Rattle.mtn_ports.specs.Kept.{Stays, with_all};
 ghost use Rattle.mtn_records.specs.Bounds.{IsWithin};
 ghost use Rattle.mtn_history.specs.Errors.{IfDamage};
-ghost use Rattle.mtn_history.specs.Rosters.{IsRostered, IsChainOf, IsRosterHeld, UnrosteredAt, UnmadeBelow, IsRebuilt, base_of as base_in};
+ghost use Rattle.mtn_history.specs.Rosters.{IsRostered, IsChainOf, IsRosterHeld, UnrosteredAt, UnmadeBelow, Rebuilds, base_of as base_in};
 
 use crate::damaged::{bad, missing};
-use crate::{DraftOver, Pending, ROSTERS, StoreError};
+use crate::{Draft, ROSTERS, StoreError};
 use mtn_ancestry::Pos;
 use mtn_chains::{DEEPEST, rebuild};
 use mtn_marking::MarkedRoster;
 use mtn_ports::Keeper;
 use mtn_records::{Numbered, RecordError, RosterRecord, read_roster};
+use std::rc::Rc;
 
 /// A roster as its records give it: its entries under their numbers, the roster with its marks, and how many deltas its
 /// record stands above a whole one.
@@ -30,7 +31,7 @@ struct Chain {
     depth: u8,
 }
 
-impl<'a, K: Keeper> DraftOver<'a, K, Pending> {
+impl<'a, K: Keeper> Draft<'a, K> {
     // The roster's record at a position.
     fn rostered(&mut self, at: Pos) -> Result<RosterRecord, StoreError>
         ensures same_reference { self.new.keeper.ghost_name ≡ self.old.keeper.ghost_name }
@@ -42,13 +43,13 @@ impl<'a, K: Keeper> DraftOver<'a, K, Pending> {
         ensures failed { result ≡ Err StoreError.Failed → Rose (K.faults self.old.keeper.now) (K.faults self.new.keeper.now) }
     {
         let key = at.0.to_be_bytes();
-        let mut body = Vec::new(self.pending.alloc);
+        let mut body = Vec::new(self.alloc());
         if !self.get(ROSTERS, &key, &mut body)? {
-            return Err(missing(self.pending.alloc, ROSTERS, &key));
+            return Err(missing(self.alloc(), ROSTERS, &key));
         }
-        match read_roster(self.pending.alloc, at, &body) {
+        match read_roster(self.alloc(), at, &body) {
             Ok(roster) => Ok(roster),
-            Err(RecordError::Bad) => Err(bad(self.pending.alloc, ROSTERS, &key, &body)),
+            Err(RecordError::Bad) => Err(bad(self.alloc(), ROSTERS, &key, &body)),
             Err(RecordError::NoMemory) => Err(StoreError::NoMemory),
         }
     }
@@ -62,10 +63,10 @@ impl<'a, K: Keeper> DraftOver<'a, K, Pending> {
         ensures failed { result ≡ StoreError.Failed → Rose (K.faults self.old.keeper.now) (K.faults self.new.keeper.now) }
     {
         let key = at.0.to_be_bytes();
-        let mut body = Vec::new(self.pending.alloc);
+        let mut body = Vec::new(self.alloc());
         match self.get(ROSTERS, &key, &mut body) {
-            Ok(true) => bad(self.pending.alloc, ROSTERS, &key, &body),
-            Ok(false) => missing(self.pending.alloc, ROSTERS, &key),
+            Ok(true) => bad(self.alloc(), ROSTERS, &key, &body),
+            Ok(false) => missing(self.alloc(), ROSTERS, &key),
             Err(error) => error,
         }
     }
@@ -79,7 +80,7 @@ impl<'a, K: Keeper> DraftOver<'a, K, Pending> {
         ensures damaged { IfSome (K.contents self.new.keeper.now) (λ c. IfErr result (λ e. IfDamage e (UnmadeBelow (at + 1) (with_all c self.old.pending.batch)))) }
         ensures failed { result ≡ Err StoreError.Failed → Rose (K.faults self.old.keeper.now) (K.faults self.new.keeper.now) }
     {
-        let mut chain = Vec::new(self.pending.alloc);
+        let mut chain = Vec::new(self.alloc());
         let mut next = at;
         for depth in 0..RECORDS {
             let record = self.rostered(next)?;
@@ -99,20 +100,19 @@ impl<'a, K: Keeper> DraftOver<'a, K, Pending> {
         Ok(None)
     }
 
-    /// A revision's roster. It asks for at most sixteen
-    /// records.
-    pub fn roster_at(&mut self, at: Pos) -> Result<Rebuilt, StoreError>
+    // A revision's roster, rebuilt from its records.
+    fn rebuilt_at(&mut self, at: Pos) -> Result<Rebuilt, StoreError>
         ensures same_reference { self.new.keeper.ghost_name ≡ self.old.keeper.ghost_name }
         ensures stays { Stays K.contents K.leaves K.faults self.old.keeper.now self.new.keeper.now }
         ensures pending { self.new.pending ≡ self.old.pending }
-        ensures rebuilt { IfSome (K.contents self.new.keeper.now) (λ c. IfOk result (λ r. IsRebuilt (with_all c self.old.pending.batch) at r.entries r.roster r.depth)) }
+        ensures rebuilt { IfSome (K.contents self.new.keeper.now) (λ c. IfOk result (Rebuilds (with_all c self.old.pending.batch) at)) }
         ensures damaged { IfSome (K.contents self.new.keeper.now) (λ c. IfErr result (λ e. IfDamage e (UnmadeBelow (at + 1) (with_all c self.old.pending.batch)))) }
         ensures failed { result ≡ Err StoreError.Failed → Rose (K.faults self.old.keeper.now) (K.faults self.new.keeper.now) }
     {
         let Some(Chain { records, depth }) = self.chain(at)? else {
             return Err(self.roster_held(at));
         };
-        match rebuild(self.pending.alloc, records) {
+        match rebuild(self.alloc(), records) {
             Ok((entries, roster)) => Ok(Rebuilt {
                 entries,
                 roster,
@@ -120,6 +120,38 @@ impl<'a, K: Keeper> DraftOver<'a, K, Pending> {
             }),
             Err(RecordError::Bad) => Err(self.roster_held(at)),
             Err(RecordError::NoMemory) => Err(StoreError::NoMemory),
+        }
+    }
+
+    // The same, and it is remembered.
+    fn read_roster_at(&mut self, at: Pos) -> Result<Rc<Rebuilt>, StoreError>
+        ensures same_reference { self.new.keeper.ghost_name ≡ self.old.keeper.ghost_name }
+        ensures stays { Stays K.contents K.leaves K.faults self.old.keeper.now self.new.keeper.now }
+        ensures pending { self.new.pending ≡ self.old.pending }
+        ensures rebuilt { IfSome (K.contents self.new.keeper.now) (λ c. IfOk result (λ r. Rebuilds (with_all c self.old.pending.batch) at r.value)) }
+        ensures damaged { IfSome (K.contents self.new.keeper.now) (λ c. IfErr result (λ e. IfDamage e (UnmadeBelow (at + 1) (with_all c self.old.pending.batch)))) }
+        ensures failed { result ≡ Err StoreError.Failed → Rose (K.faults self.old.keeper.now) (K.faults self.new.keeper.now) }
+    {
+        let rebuilt = Rc::new(self.alloc(), self.rebuilt_at(at)?)?;
+        if at.0 < self.count() {
+            self.remember(at, Rc::clone(&rebuilt)?);
+        }
+        Ok(rebuilt)
+    }
+
+    /// A revision's roster. One of those that were read or accepted last is remembered; else it asks for at most sixteen
+    /// records.
+    pub fn roster_at(&mut self, at: Pos) -> Result<Rc<Rebuilt>, StoreError>
+        ensures same_reference { self.new.keeper.ghost_name ≡ self.old.keeper.ghost_name }
+        ensures stays { Stays K.contents K.leaves K.faults self.old.keeper.now self.new.keeper.now }
+        ensures pending { self.new.pending ≡ self.old.pending }
+        ensures rebuilt { IfSome (K.contents self.new.keeper.now) (λ c. IfOk result (λ r. Rebuilds (with_all c self.old.pending.batch) at r.value)) }
+        ensures damaged { IfSome (K.contents self.new.keeper.now) (λ c. IfErr result (λ e. IfDamage e (UnmadeBelow (at + 1) (with_all c self.old.pending.batch)))) }
+        ensures failed { result ≡ Err StoreError.Failed → Rose (K.faults self.old.keeper.now) (K.faults self.new.keeper.now) }
+    {
+        match self.recall(at)? {
+            Some(rebuilt) => Ok(rebuilt),
+            None => self.read_roster_at(at),
         }
     }
 }

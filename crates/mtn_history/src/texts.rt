@@ -9,14 +9,14 @@ ghost use Rattle.mtn_history.specs.Stands.{IsDraft};
 ghost use Rattle.mtn_history.specs.Texts.{FindsText, TextDamage};
 
 use crate::damaged::bad;
-use crate::{DraftOver, HistoryError, Pending, StoreError, TEXTS};
+use crate::{Draft, HistoryError, StoreError, TEXTS};
 use mtn_base::{Cause, Id};
 use mtn_ports::Keeper;
 
 /// The bytes of the position that stands before each text of table 3.
 pub const POSITION: usize = 8;
 
-impl<'a, K: Keeper> DraftOver<'a, K, Pending> {
+impl<'a, K: Keeper> Draft<'a, K> {
     /// Replaces `out` by the text of a revision; UnknownRevision where the log has no such id. After an error `out` may
     /// hold anything. What is pending stays.
     pub fn text_of(&mut self, id: Id, out: &mut Vec<u8>) -> Result<(), HistoryError>
@@ -34,7 +34,7 @@ impl<'a, K: Keeper> DraftOver<'a, K, Pending> {
         }
         let len = out.len();
         if len < POSITION {
-            return Err(HistoryError::Store(bad(self.pending.alloc, TEXTS, key, out)));
+            return Err(HistoryError::Store(bad(self.alloc(), TEXTS, key, out)));
         }
         out.copy_within(POSITION.., 0);
         out.truncate(len - POSITION);

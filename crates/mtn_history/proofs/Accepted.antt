@@ -1,0 +1,45 @@
+-- The roster of a new revision is what its record gives.
+use Rattle.std.proofs.Common.{◌≡◌, ◌<◌, ◌+◌, ◌^◌, ℕ, List, Some, refl, ap, ◌∙◌, arith}
+use Rattle.mtn_chains.specs.Chain.{Entries}
+use Rattle.mtn_chains.specs.Difference.{IsDifference}
+use Rattle.mtn_chains.specs.Spelled.{Spells}
+use Rattle.mtn_marking.specs.Marking.{MarkedTree}
+use Rattle.mtn_model.specs.State.{Logged}
+use Rattle.mtn_model.specs.Table.{Contents, body_at}
+use Rattle.mtn_ports.specs.Kept.{with_all}
+use Rattle.mtn_records.specs.Bounds.{IsRosterAt}
+use Rattle.mtn_records.specs.Fields.{number_text}
+use Rattle.mtn_records.specs.declared.record.RosterRecord.TheVariants.{Whole, Delta}
+use Rattle.mtn_history.specs.Records.{meta_puts, with_revision}
+use Rattle.mtn_history.specs.Rosters.{IsRebuilt}
+use Rattle.mtn_history.specs.declared.pending.Pending.{Pending}
+use Rattle.mtn_history.proofs.Extending.{get_itself}
+use Rattle.mtn_history.proofs.Knowing.{chain_kept, grown_is, same_rosters}
+use Rattle.mtn_history.proofs.RosterLemmas.{Chained, whole_chained, delta_chained}
+
+module _ (c : Contents) (p : Pending) (l : Logged) (log roster : List ℕ) (room : p.count < 2 ^ 63) (es : Entries) (t : MarkedTree) (spells : Spells es t) where
+  abbrev pub grown : Contents
+  grown = with_all c (with_revision p l log roster).batch
+
+  held : body_at grown 5 (number_text p.count) ≡ Some roster
+  held = ap (λ (d : Contents). body_at d 5 (number_text p.count)) (grown_is c p l log roster)
+      ∙ get_itself (with_all (with_all c p.batch) (meta_puts p.is_new p.count) 5) (number_text p.count) roster
+
+  from_chain : (depth : ℕ) → Chained grown p.count depth es → IsRebuilt grown p.count es t depth
+  from_chain depth x = record { chain = x.chain; down = x.down; entries = x.made; spelled = spells; deltas = x.long ∙ omega arith }
+
+  -- whole
+  pub whole_accepted : IsRosterAt p.count roster (Whole es) → IsRebuilt grown p.count es t 0
+  whole_accepted text = from_chain 0 (whole_chained grown p.count roster es spells.ascending held text)
+
+  -- what differs from the first parent's
+  pub delta_accepted : (base depth : ℕ) (below : Entries) (under : MarkedTree) (gone : List ℕ) (changed : Entries) → base < p.count → depth < 15 → IsRebuilt (with_all c p.batch) base below under depth →
+      IsDifference below es gone changed → IsRosterAt p.count roster (Delta base (depth + 1) gone changed) → IsRebuilt grown p.count es t (depth + 1)
+  delta_accepted base depth below under gone changed lt low is differ text =
+      let chained : Chained grown base depth below = record {
+        chain = is.chain;
+        down = chain_kept (with_all c p.batch) grown p.count base is.chain (same_rosters c p l log roster (omega (arith, room))) lt is.down;
+        made = is.entries;
+        long = is.deltas ∙ omega arith;
+      } in
+      from_chain (depth + 1) (delta_chained grown p.count base (depth + 1) depth roster gone changed below es spells.ascending held text chained differ low refl)
