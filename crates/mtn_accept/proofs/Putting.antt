@@ -1,5 +1,7 @@
 -- The records of a new revision lead to its state.
-use Rattle.std.specs.Prelude.{slice_get, Contains, IsSome, is_some, nat_lt, IsTrue, MatchBool}
+use Rattle.std.specs.List.{All}
+use Rattle.std.proofs.lemmas.Bool.Decides.{nat_tests}
+use Rattle.std.specs.Prelude.{IfSome, slice_get, Contains, IsSome, is_some, nat_lt, IsTrue, MatchBool}
 use Rattle.std.specs.Option.{option_map_or}
 use Rattle.std.proofs.lemmas.List.Elements.{Contains-append_right}
 use Rattle.std.proofs.Common.{◌≡◌, ◌<◌, ◌+◌, ◌^◌, ℕ, Bool, true, false, cond, List, [], ◌∷◌, ◌++◌, length, Option, Some, None, refl, sym, ap, ◌∙◌, subst, arith, inl, inr}
@@ -27,17 +29,37 @@ use Rattle.mtn_chains.specs.Difference.{IsDeltaTo, IsDifference}
 use Rattle.mtn_chains.specs.Numbering.{all_of, fresh, number_among, AreKnown, IsNumbering}
 use Rattle.mtn_chains.proofs.Known.{known_is, there_spelled, spelled_there, numbering_over, same_fresh}
 use Rattle.mtn_chains.proofs.Places.{among_was, contains_cons}
+use Rattle.mtn_chains.specs.Spelled.{Spells}
+use Rattle.mtn_ports.specs.Kept.{with_all}
 use Rattle.mtn_history.specs.Records.{with_revision}
+use Rattle.mtn_history.specs.Rosters.{IsRebuilt}
+use Rattle.mtn_history.proofs.Accepted.{whole_accepted, delta_accepted}
 use Rattle.mtn_history.specs.Revisions.{Kept, next_of, all_entries, deeper, depth_on, IsRosterOf, IsRosterBody, IsLogBody}
 use Rattle.mtn_history.specs.Stands.{IsDraft, IsFounded}
 use Rattle.mtn_history.specs.declared.pending.Pending.{Pending}
 use Rattle.mtn_history.proofs.Extending.{Adds, draft_more}
-use Rattle.mtn_accept.specs.Keeping.{AreKeptAt, AreParents, IsFirstDepth, IsLogBodyOf, IsMade, IsRecordOn, with_text}
+use Rattle.mtn_accept.specs.Keeping.{AreKeptAt, AreParents, IsDeltaBody, IsFirstDepth, IsFirstRebuilt, IsLogBodyOf, IsMade, IsRecordOn, with_text}
 use Rattle.mtn_accept.proofs.Numbers.{all_are_known, parents_known, kept_among, among_entries, entries_of, in_kept, sub_all}
+
+-- a record on the first parent's, or a whole one
+abbrev IsOn : List ℕ → List Entries → ℕ → Entries → RosterRecord → Type 0
+IsOn (p ∷ ps) (below ∷ more) depth entries r = MatchBool (nat_lt depth deepest) (IsTrue (ascend below) → IsTrue (ascend entries) → IsDeltaTo below p (depth + 1) entries r) (r ≡ Whole entries)
+IsOn _ _ depth entries r = r ≡ Whole entries
+
+-- the record of a body
+on_of : (places : List ℕ) (known : List Entries) (depth : ℕ) (entries : Entries) (at : ℕ) (body : List ℕ) (deep : ℕ) → IsRecordOn places known depth entries at body deep → (r : RosterRecord) × IsOn places known depth entries r × IsRosterAt at body r
+on_of [] known depth entries at body deep is = (Whole entries, refl, is.0)
+on_of (p ∷ ps) [] depth entries at body deep is = (Whole entries, refl, is.0)
+on_of (p ∷ ps) (below ∷ more) depth entries at body deep is = by (nat_lt depth deepest) is
+  where
+    by : (b : Bool) → MatchBool b (IsDeltaBody below p (depth + 1) entries at body × (deep ≡ depth + 1)) (IsRosterAt at body (Whole entries) × (deep ≡ 0)) →
+        (r : RosterRecord) × MatchBool b (IsTrue (ascend below) → IsTrue (ascend entries) → IsDeltaTo below p (depth + 1) entries r) (r ≡ Whole entries) × IsRosterAt at body r
+    by true h = (h.0.roster, h.0.delta, h.0.text)
+    by false h = (Whole entries, refl, h.0)
 
 -- a roster stands on the first parent's, or whole
 roster_on : (ks : List Kept) (places : List ℕ) (known : List Entries) (depth : ℕ) (k : Kept) (r : RosterRecord) → AreKeptAt ks places known → IsFirstDepth ks places depth → k.depth ≡ depth_on ks places →
-    ((es : Entries) → Contains known es → ascend es ≡ true) → ascend k.entries ≡ true → IsRecordOn places known depth k.entries r → IsRosterOf ks places k r
+    ((es : Entries) → Contains known es → ascend es ≡ true) → ascend k.entries ≡ true → IsOn places known depth k.entries r → IsRosterOf ks places k r
 roster_on ks [] [] depth k r are first deep up rises is = subst (IsRosterOf ks [] k) (sym is) (deep, refl)
 roster_on ks [] (es ∷ more) depth k r are first deep up rises is = absurd are
 roster_on ks (p ∷ ps) [] depth k r are first deep up rises is = absurd are
@@ -156,11 +178,13 @@ small n lt = omega (arith, lt)
 
 -- the draft with the records of a revision stands for the state with its text
 pub kept_draft : (f : List ℕ → List ℕ) (told : Option Contents) (p : Pending) (s : State) (d : IsFounded f told p s) (id : Id) (text : List ℕ) (edges : List Edge) (t : MarkedTree) (places : List ℕ) (known : List Entries)
-    (depth next free : ℕ) (entries : Entries) (r : RosterRecord) (roster log : List ℕ) (q : Pending) → p.count < 2147483648 → next ≡ next_of d.stands.kept →
-    (AreKnown known next → IsNumbering known next t entries) → (AreKnown known next → free ≡ next + length (fresh known t.tree)) → IsRecordOn places known depth entries r → IsRosterAt p.count roster r →
+    (depth next free deep : ℕ) (entries : Entries) (roster log : List ℕ) (q : Pending) → p.count < 2147483648 → next ≡ next_of d.stands.kept →
+    (AreKnown known next → IsNumbering known next t entries) → (AreKnown known next → free ≡ next + length (fresh known t.tree)) → IsRecordOn places known depth entries p.count roster deep →
     IsLogBodyOf id free places p.count log → q ≡ with_revision p (record { id = id.0; text = text }) log roster → IsMade d.stands.history edges id t → AreParents d.stands.history d.stands.kept edges places known depth →
     IsNext f s.files d.stands.history (record { id = id.0; text = text }) (made d.stands.history id edges) → IsDraft f d.records q (with_text s (record { id = id.0; text = text }))
-kept_draft f told p s d id text edges t places known depth next free entries r roster log q low is_next numbers is_free recorded roster_at log_at put made_is parents accepted =
+kept_draft f told p s d id text edges t places known depth next free deep entries roster log q low is_next numbers is_free written log_at put made_is parents accepted =
+    let record_is = on_of places known depth entries p.count roster deep written in
+    let r = record_is.0 in
     let hist = d.stands.history in
     let kepts = d.stands.kept in
     let l : Logged = record { id = id.0; text = text } in
@@ -181,8 +205,8 @@ kept_draft f told p s d id text edges t places known depth next free entries r r
     } in
     let up = λ (es : Entries) (c : Contains known es). rises es c in
     let on = subst (λ ps. IsRosterOf kepts ps new r) parents.stand
-    (roster_on kepts places known depth new r parents.kept parents.deep (ap (depth_on kepts) (sym parents.stand)) up numbered.spells.ascending recorded) in
-    let body : IsRosterBody kepts (length s.log) v new roster = record { roster = r; is = on; text = subst (λ n. IsRosterAt n roster r) d.count roster_at } in
+    (roster_on kepts places known depth new r parents.kept parents.deep (ap (depth_on kepts) (sym parents.stand)) up numbered.spells.ascending record_is.1) in
+    let body : IsRosterBody kepts (length s.log) v new roster = record { roster = r; is = on; text = subst (λ n. IsRosterAt n roster r) d.count record_is.2 } in
     let line : IsLogBody (length s.log) v new log = record { parents = log_at.parents; same = log_at.same ∙ parents.stand; text = subst (λ n. IsLogAt n log (record { id = id; next_node = free; parents = log_at.parents })) d.count log_at.text } in
     subst (λ (x : Pending). IsDraft f d.records x (with_text s l)) (sym put)
     (draft_more f told p s l v new log roster d (subst (λ n. n < 2 ^ 64) d.count (small p.count low)) accepted adds line body)
@@ -193,3 +217,30 @@ kept_draft f told p s d id text edges t places known depth next free entries r r
         let k = entries_of d.stands.kept es all in
         let w = within d.stands.history k.0 (subst (λ m. k.0 < m) d.stands.revisions.long (inside d.stands.kept k.0 k.1 k.2)) in
         subst (λ (x : Entries). ascend x ≡ true) k.3 (d.stands.revisions.each k.0 w.0 k.1 w.1 k.2).numbered.spells.ascending
+
+-- the roster of the new revision is what the records give with it
+pub new_rebuilt : (told : Option Contents) (p : Pending) (l : Logged) (log roster : List ℕ) (places : List ℕ) (known : List Entries) (depth deep : ℕ) (entries : Entries) (t : MarkedTree) → p.count < 2147483648 →
+    All (λ q. q < p.count) places → Spells entries t → IsRecordOn places known depth entries p.count roster deep → IfSome told (λ c. IsFirstRebuilt (with_all c p.batch) places known depth) →
+    IfSome told (λ c. IsRebuilt (with_all c (with_revision p l log roster).batch) p.count entries t deep)
+new_rebuilt None p l log roster places known depth deep entries t low below spells written first = tt
+new_rebuilt (Some c) p l log roster places known depth deep entries t low below spells written first = by places known below first written
+  where
+    room : p.count < 2 ^ 63
+    room = omega (arith, low)
+
+    all_whole : IsRosterAt p.count roster (Whole entries) × (deep ≡ 0) → IsRebuilt (with_all c (with_revision p l log roster).batch) p.count entries t deep
+    all_whole w = subst (IsRebuilt (with_all c (with_revision p l log roster).batch) p.count entries t) (sym w.1) (whole_accepted c p l log roster room entries t spells w.0)
+
+    on_delta : (q : ℕ) (es : Entries) (u : MarkedTree) → q < p.count → IsRebuilt (with_all c p.batch) q es u depth → (b : Bool) → nat_lt depth deepest ≡ b →
+        MatchBool b (IsDeltaBody es q (depth + 1) entries p.count roster × (deep ≡ depth + 1)) (IsRosterAt p.count roster (Whole entries) × (deep ≡ 0)) → IsRebuilt (with_all c (with_revision p l log roster).batch) p.count entries t deep
+    on_delta q es u lt is true test w =
+        let delta = w.0.delta is.spelled.ascending spells.ascending in
+        subst (IsRebuilt (with_all c (with_revision p l log roster).batch) p.count entries t) (sym w.1)
+        (delta_accepted c p l log roster room entries t spells q depth es u delta.gone delta.changed lt (grind (arith, nat_tests)) is delta.difference (subst (IsRosterAt p.count roster) delta.is w.0.text))
+    on_delta q es u lt is false test w = all_whole w
+
+    by : (places : List ℕ) (known : List Entries) → All (λ q. q < p.count) places → IsFirstRebuilt (with_all c p.batch) places known depth → IsRecordOn places known depth entries p.count roster deep →
+        IsRebuilt (with_all c (with_revision p l log roster).batch) p.count entries t deep
+    by [] known below first w = all_whole w
+    by (q ∷ qs) [] below first w = all_whole w
+    by (q ∷ qs) (es ∷ more) below first w = on_delta q es first.0 (below 0 0 (omega arith)) first.1 (nat_lt depth deepest) refl w

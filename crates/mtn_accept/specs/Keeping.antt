@@ -1,5 +1,5 @@
 -- The records that are kept of a new revision.
-use Rattle.std.specs.Prelude.{◌≡◌, ◌≤◌, ◌+◌, ℕ, List, [], ◌∷◌, ◌++◌, length, nat_lt, MatchBool, Some, None, slice_get, IsTrue}
+use Rattle.std.specs.Prelude.{◌≡◌, ◌≤◌, ◌+◌, ℕ, List, [], ◌∷◌, ◌++◌, length, nat_lt, MatchBool, ⊤, Some, None, slice_get, IsTrue}
 use Rattle.mtn_ancestry.specs.Log.{list_of}
 use Rattle.mtn_ancestry.specs.declared.pos.ParentList.{ParentList}
 use Rattle.mtn_base.specs.declared.id.Id.{Id}
@@ -8,6 +8,7 @@ use Rattle.mtn_chains.specs.Chain.{Entries, ascend, deepest}
 use Rattle.mtn_chains.specs.Difference.{IsDeltaTo}
 use Rattle.mtn_growth.specs.History.{Revision}
 use Rattle.mtn_history.specs.Revisions.{Kept}
+use Rattle.mtn_history.specs.Rosters.{IsRebuilt}
 use Rattle.mtn_log.specs.Lawful.{Spells}
 use Rattle.mtn_log.specs.Making.{made, made_tree, parents_of, place_of, log_full, unknown_parent, refusal_of}
 use Rattle.mtn_marking.specs.Graph.{IsMarkedAt}
@@ -16,17 +17,38 @@ use Rattle.mtn_history.specs.Stands.{IsDraft}
 use Rattle.mtn_history.specs.declared.pending.Pending.{Pending}
 use Rattle.mtn_model.specs.State.{Logged, State}
 use Rattle.mtn_model.specs.Table.{Contents}
-use Rattle.mtn_records.specs.Bounds.{IsLogAt}
+use Rattle.mtn_records.specs.Bounds.{IsLogAt, IsRosterAt}
 use Rattle.mtn_records.specs.declared.record.RosterRecord.{RosterRecord}
-use Rattle.mtn_records.specs.declared.record.RosterRecord.TheVariants.{Whole}
+use Rattle.mtn_records.specs.declared.record.RosterRecord.TheVariants.{Whole, Delta}
 use Rattle.mtn_accept.specs.Finding.{made_refusal_of}
 use Rattle.mtn_accept.specs.declared.over.Fresh.{Fresh}
+use Rattle.mtn_accept.specs.declared.records.Written.{Written}
 
--- a delta on the first parent's entries, or whole where there is none or a chain would get too deep
-abbrev pub IsRecordOn : List ℕ → List Entries → ℕ → Entries → RosterRecord → Type 0
-IsRecordOn (p ∷ ps) (below ∷ more) depth entries r =
-    MatchBool (nat_lt depth deepest) (IsTrue (ascend below) → IsTrue (ascend entries) → IsDeltaTo below p (depth + 1) entries r) (r ≡ Whole entries)
-IsRecordOn _ _ depth entries r = r ≡ Whole entries
+-- a record with all entries
+abbrev pub IsWhole : RosterRecord → Type 0
+IsWhole (Whole entries) = ⊤
+IsWhole (Delta base depth gone changed) = ⊥
+
+-- the body of a delta on these entries
+pub record IsDeltaBody (below : Entries) (base depth : ℕ) (entries : Entries) (at : ℕ) (body : List ℕ) : Type 0 where
+  pub roster : RosterRecord
+  pub delta : IsTrue (ascend below) → IsTrue (ascend entries) → IsDeltaTo below base depth entries roster
+  pub text : IsRosterAt at body roster
+
+-- a delta on the first parent's entries, or whole where there is none or a chain would get too deep; and how deep it stands
+abbrev pub IsRecordOn : List ℕ → List Entries → ℕ → Entries → ℕ → List ℕ → ℕ → Type 0
+IsRecordOn (p ∷ ps) (below ∷ more) depth entries at body deep =
+    MatchBool (nat_lt depth deepest) (IsDeltaBody below p (depth + 1) entries at body × (deep ≡ depth + 1)) (IsRosterAt at body (Whole entries) × (deep ≡ 0))
+IsRecordOn _ _ depth entries at body deep = IsRosterAt at body (Whole entries) × (deep ≡ 0)
+
+-- what was written of these entries
+abbrev pub IsWrittenOn : List ℕ → List Entries → ℕ → Entries → ℕ → Written → Type 0
+IsWrittenOn places known depth entries at w = IsRecordOn places known depth entries at w.body w.depth × (w.entries ≡ entries)
+
+-- the first parent's entries are what its record gives, and so is its depth
+abbrev pub IsFirstRebuilt : Contents → List ℕ → List Entries → ℕ → Type 0
+IsFirstRebuilt c (p ∷ ps) (below ∷ more) depth = (t : MarkedTree) × IsRebuilt c p below t depth
+IsFirstRebuilt c _ _ depth = ⊤
 
 -- the body of the log's record
 pub record IsLogBodyOf (id : Id) (next : ℕ) (places : List ℕ) (at : ℕ) (body : List ℕ) : Type 0 where

@@ -18,5 +18,6 @@ mod put;
 mod records;
 mod tree;
 mod uncommon;
+mod unfit;
 
 pub use put::{MAX_LOG, put_revision};

@@ -1,5 +1,6 @@
 // A revision accepted over its parents, by how many there are.
 ghost use Rattle.std.specs.Prelude.{◌≡◌, ◌<◌, ◌≤◌, All, List, ℕ, [], ◌∷◌, length, Err, IfErr, IfSome, OnOk, OnErr};
+ghost use Rattle.mtn_chains.specs.Numbering.{shown};
 ghost use Rattle.mtn_changes.specs.RevisionText.{AreEdges};
 ghost use Rattle.mtn_making.specs.Basis.{Underlies};
 ghost use Rattle.mtn_model.specs.State.{State};
@@ -8,7 +9,7 @@ ghost use Rattle.mtn_ports.specs.Kept.{Stays, with_all};
 ghost use Rattle.mtn_history.specs.Errors.{IfStoreDamage};
 ghost use Rattle.mtn_history.specs.Stands.{IsFounded};
 ghost use Rattle.mtn_accept.specs.Finding.{IsFound, IsRefusal, made_refusal_of};
-ghost use Rattle.mtn_accept.specs.Keeping.{Accepts, AreParents, IsNew, AreOn};
+ghost use Rattle.mtn_accept.specs.Keeping.{Accepts, AreParents, IsFirstRebuilt, IsNew, AreOn};
 
 use crate::keep::keep;
 use crate::records::Known;
@@ -44,7 +45,8 @@ fn over<I: Ident, K: Keeper>(
     requires few { length known.now.places.now ≤ 2 }
     requires below { All (λ p. p < draft.old.pending.count) known.now.places.now }
     requires based { (f : List ℕ → List ℕ) (s : State) → (d : IsFounded f (K.contents draft.old.keeper.now) draft.old.pending s) →
-        Underlies d.stands.history fresh.now.read.now.edges basis.now fresh.now.id × AreParents d.stands.history d.stands.kept fresh.now.read.now.edges known.now.places.now known.now.entries.now known.now.depth }
+        Underlies d.stands.history fresh.now.read.now.edges basis.now fresh.now.id × AreParents d.stands.history d.stands.kept fresh.now.read.now.edges known.now.places.now (shown known.now.entries.now) known.now.depth }
+    requires first { IfSome (K.contents draft.old.keeper.now) (λ c. IsFirstRebuilt (with_all c draft.old.pending.batch) known.now.places.now (shown known.now.entries.now) known.now.depth) }
     ensures same_reference { draft.new.keeper.ghost_name ≡ draft.old.keeper.ghost_name }
     ensures stays { Stays K.contents K.leaves K.faults draft.old.keeper.now draft.new.keeper.now }
     ensures accepts { (s : State) → (d : IsFounded (I.meaning ident.now) (K.contents draft.new.keeper.now) draft.old.pending s) →
@@ -60,7 +62,7 @@ fn over<I: Ident, K: Keeper>(
     let first = known.places.first().copied();
     let roster = tree_of(alloc, ident, draft, fresh.read, basis, first, fresh.id)?;
     let marked = mark(alloc, roster, basis, at)?;
-    keep(alloc, draft, fresh.id, fresh.text, &marked, known)?;
+    keep(alloc, draft, fresh.id, fresh.text, marked, known)?;
     Ok(())
 }
 
@@ -90,8 +92,9 @@ fn over_one<I: Ident, K: Keeper>(
         (IsFound (K.contents draft.new.keeper.now) draft.old.pending (with_all c draft.old.pending.batch)))) }
     ensures failed { result ≡ Err (HistoryError.Store StoreError.Failed) → Rose (K.faults draft.old.keeper.now) (K.faults draft.new.keeper.now) }
 {
-    let parent = draft.roster_at(at)?;
-    let entries = [parent.entries];
+    let held = draft.roster_at(at)?;
+    let parent = held.as_ref();
+    let entries = [&parent.entries];
     let known = Known {
         places,
         entries: entries.as_slice(),
@@ -134,10 +137,12 @@ fn over_two<I: Ident, K: Keeper>(
         (IsFound (K.contents draft.new.keeper.now) draft.old.pending (with_all c draft.old.pending.batch)))) }
     ensures failed { result ≡ Err (HistoryError.Store StoreError.Failed) → Rose (K.faults draft.old.keeper.now) (K.faults draft.new.keeper.now) }
 {
-    let first = draft.roster_at(left)?;
-    let second = draft.roster_at(right)?;
+    let held_left = draft.roster_at(left)?;
+    let held_right = draft.roster_at(right)?;
     let (only_left, only_right) = uncommon_of(alloc, draft, left, right)?;
-    let entries = [first.entries, second.entries];
+    let first = held_left.as_ref();
+    let second = held_right.as_ref();
+    let entries = [&first.entries, &second.entries];
     let basis = Basis::Two {
         left: &first.roster,
         right: &second.roster,

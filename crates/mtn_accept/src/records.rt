@@ -1,16 +1,18 @@
 // The records of a new revision.
 ghost use Rattle.std.specs.Prelude.{◌≡◌, ◌<◌, ◌≤◌, ◌+◌, All, List, ℕ, length, Err, IfOk, IfErr, IfSome};
 ghost use Rattle.mtn_ancestry.specs.Log.{list_of};
-ghost use Rattle.mtn_chains.specs.Numbering.{fresh, AreKnown, IsNumbering};
+ghost use Rattle.mtn_chains.specs.Numbering.{fresh, shown, AreKnown, IsNumbering};
+ghost use Rattle.mtn_chains.specs.Spelled.{Spells};
 ghost use Rattle.mtn_model.specs.State.{State};
 ghost use Rattle.mtn_ports.specs.Causes.{Rose};
 ghost use Rattle.mtn_ports.specs.Kept.{Stays, with_all};
 ghost use Rattle.mtn_records.specs.Bounds.{IsRosterAt};
+ghost use Rattle.mtn_records.specs.declared.record.RosterRecord.TheVariants.{Whole};
 ghost use Rattle.mtn_history.specs.Errors.{IfDamage};
 ghost use Rattle.mtn_history.specs.Revisions.{next_of};
 ghost use Rattle.mtn_history.specs.Stands.{IsFounded};
 ghost use Rattle.mtn_accept.specs.Finding.{IsFound};
-ghost use Rattle.mtn_accept.specs.Keeping.{IsRecordOn, IsLogBodyOf};
+ghost use Rattle.mtn_accept.specs.Keeping.{IsDeltaBody, IsLogBodyOf, IsWhole, IsWrittenOn};
 
 use mtn_ancestry::{ParentList, Pos};
 use mtn_base::{Bytes, Id, List as Items, NoMemory};
@@ -30,7 +32,7 @@ const LAST_NUMBER: u64 = 214_748_364_800_001;
 #[derive(Clone, Copy)]
 pub struct Known<'a> {
     pub places: &'a [Pos],
-    pub entries: &'a [Numbered],
+    pub entries: &'a [&'a Numbered],
     pub depth: u8,
 }
 
@@ -63,44 +65,31 @@ pub fn next_number<K: Keeper>(draft: &mut Draft<'_, K>) -> Result<u64, StoreErro
 pub fn numbered(
     alloc: Global,
     roster: &MarkedRoster,
-    known: &[Numbered],
+    known: &[&Numbered],
     next: u64,
-) -> Result<(Numbered, u64), NoMemory>
+) -> Result<(Numbered, u64), NumberError>
     requires { next ≤ 214748364800001 }
-    ensures numbers { AreKnown known.now next → IfOk result (λ r. IsNumbering known.now next roster.now r.0) }
-    ensures next { AreKnown known.now next → IfOk result (λ r. r.1 ≡ next + length (fresh known.now roster.now.tree)) }
+    ensures spells { IfOk result (λ r. Spells r.0 roster.now) }
+    ensures numbers { AreKnown (shown known.now) next → IfOk result (λ r. IsNumbering (shown known.now) next roster.now r.0) }
+    ensures next { AreKnown (shown known.now) next → IfOk result (λ r. r.1 ≡ next + length (fresh (shown known.now) roster.now.tree)) }
+    ensures clash { result ≡ Err NumberError.Clash → AreKnown (shown known.now) next → ⊥ }
 {
     if roster.roster().len() > MAX_NODES {
-        return Err(NoMemory);
+        return Err(NumberError::NoMemory);
     }
-    match number(alloc, roster, known, next) {
-        Ok(numbered) => Ok(numbered),
-        Err(NumberError::Clash | NumberError::NoMemory) => Err(NoMemory),
-    }
+    number(alloc, roster, known, next)
 }
 
-/// The record of a roster: what differs from the first parent's, or whole where there is none or a chain would get too deep.
-pub fn record_of(
-    alloc: Global,
-    known: &Known<'_>,
-    entries: Numbered,
-) -> Result<RosterRecord, NoMemory>
-    ensures { IfOk result (IsRecordOn known.now.places.now known.now.entries.now known.now.depth entries) }
-{
-    match (known.places, known.entries) {
-        ([at, ..], [below, ..]) => {
-            if known.depth < DEEPEST {
-                delta(alloc, below, *at, known.depth + 1, &entries)
-            } else {
-                Ok(RosterRecord::Whole(entries))
-            }
-        }
-        _ => Ok(RosterRecord::Whole(entries)),
-    }
+/// The body of a roster's record, with the entries that it tells and how many deltas it stands above a whole one.
+#[derive(Drop)]
+pub struct Written {
+    pub body: Bytes,
+    pub entries: Numbered,
+    pub depth: u8,
 }
 
-/// The body of a roster's record under its position. A field that is longer than its record can tell wants memory.
-pub fn roster_body(alloc: Global, roster: &RosterRecord, at: Pos) -> Result<Bytes, NoMemory>
+// The body of a roster's record under its position. A field that is longer than its record can tell wants memory.
+fn record_body(alloc: Global, roster: &RosterRecord, at: Pos) -> Result<Bytes, NoMemory>
     ensures { IfOk result (λ body. IsRosterAt at body roster.now) }
 {
     if !is_record_at(roster, at) {
@@ -109,6 +98,71 @@ pub fn roster_body(alloc: Global, roster: &RosterRecord, at: Pos) -> Result<Byte
     let mut body = Vec::new(alloc);
     write_roster(roster, &mut body)?;
     Ok(Items::from_vec(body))
+}
+
+// The entries of a whole record.
+fn into_entries(roster: RosterRecord) -> Numbered
+    requires { IsWhole roster }
+    ensures { roster ≡ Whole result }
+{
+    match roster {
+        RosterRecord::Whole(entries) => entries,
+        RosterRecord::Delta { .. } => unreachable!(),
+    }
+}
+
+// The record has all entries.
+fn whole(alloc: Global, entries: Numbered, at: Pos) -> Result<Written, NoMemory>
+    ensures { IfOk result (λ w. IsRosterAt at w.body (Whole entries) × (w.entries ≡ entries) × (w.depth ≡ 0)) }
+{
+    let record = RosterRecord::Whole(entries);
+    let body = record_body(alloc, &record, at)?;
+    Ok(Written {
+        body,
+        entries: into_entries(record),
+        depth: 0,
+    })
+}
+
+// The record has what differs from the entries of another.
+fn differing(
+    alloc: Global,
+    below: &Numbered,
+    base: Pos,
+    depth: u8,
+    entries: Numbered,
+    at: Pos,
+) -> Result<Written, NoMemory>
+    ensures { IfOk result (λ w. IsDeltaBody below.now base depth entries at w.body × (w.entries ≡ entries) × (w.depth ≡ depth)) }
+{
+    let record = delta(alloc, below, base, depth, &entries)?;
+    let body = record_body(alloc, &record, at)?;
+    Ok(Written {
+        body,
+        entries,
+        depth,
+    })
+}
+
+/// The record of a roster: what differs from the first parent's, or whole where there is none or a chain would get too deep.
+pub fn write_record(
+    alloc: Global,
+    known: &Known<'_>,
+    entries: Numbered,
+    at: Pos,
+) -> Result<Written, NoMemory>
+    ensures { IfOk result (λ w. IsWrittenOn known.now.places.now (shown known.now.entries.now) known.now.depth entries at w) }
+{
+    match (known.places, known.entries) {
+        ([base, ..], [below, ..]) => {
+            if known.depth < DEEPEST {
+                differing(alloc, below, *base, known.depth + 1, entries, at)
+            } else {
+                whole(alloc, entries, at)
+            }
+        }
+        _ => whole(alloc, entries, at),
+    }
 }
 
 // The parents of a record of the log.

@@ -13,6 +13,7 @@ ghost use Rattle.mtn_history.specs.Stands.{IsFounded};
 ghost use Rattle.mtn_accept.specs.Finding.{IsFound, IsRefusal, IsUnfounded, made_refusal_of};
 
 use crate::contents::unknown_content;
+use crate::unfit::unfit;
 use mtn_ancestry::Pos;
 use mtn_base::{Cause, Id, NoMemory};
 use mtn_changes::Revision;
@@ -30,21 +31,6 @@ fn manifest_id<I: Ident>(alloc: Global, ident: &I, roster: &Roster) -> Result<Id
     let mut text = Vec::new(alloc);
     write(roster, &mut text)?;
     Ok(ident.id(&text))
-}
-
-// The record of a parent's roster, from which no history goes on; a root has none, and nothing but want of memory.
-fn unfit<K: Keeper>(draft: &mut Draft<'_, K>, parent: Option<Pos>) -> StoreError
-    ensures same_reference { draft.new.keeper.ghost_name ≡ draft.old.keeper.ghost_name }
-    ensures stays { Stays K.contents K.leaves K.faults draft.old.keeper.now draft.new.keeper.now }
-    ensures pending { draft.new.pending ≡ draft.old.pending }
-    ensures damaged { IsUnfounded (K.contents draft.old.keeper.now) draft.old.pending → IfSome (K.contents draft.new.keeper.now) (λ c. IfDamage result
-        (IsFound (K.contents draft.new.keeper.now) draft.old.pending (with_all c draft.old.pending.batch))) }
-    ensures failed { result ≡ StoreError.Failed → Rose (K.faults draft.old.keeper.now) (K.faults draft.new.keeper.now) }
-{
-    match parent {
-        Some(at) => draft.roster_held(at),
-        None => StoreError::NoMemory,
-    }
 }
 
 /// The tree that a text's edges make over the basis, or the first refusal that is not the parents': of a change, of joining,

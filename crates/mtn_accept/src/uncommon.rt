@@ -35,7 +35,7 @@ fn id_at<K: Keeper>(draft: &mut Draft<'_, K>, at: Pos) -> Result<Id, StoreError>
     if at.0 >= draft.count() {
         return Err(StoreError::NoMemory);
     }
-    Ok(draft.logged(at)?.id)
+    Ok(draft.log_at(at)?.id)
 }
 
 // One more id.
@@ -46,7 +46,7 @@ fn add_id(ids: &mut BTreeSet<Id>, id: Id) -> Result<(), NoMemory>
     Ok(())
 }
 
-// The ids of revisions. It asks for one record for each.
+// The ids of revisions. It asks for one record for each that the draft does not remember.
 fn ids_of<K: Keeper>(
     alloc: Global,
     draft: &mut Draft<'_, K>,
@@ -69,7 +69,7 @@ fn ids_of<K: Keeper>(
 }
 
 /// What each of two revisions has above it that the other lacks. It asks for the records of the log that the walk between
-/// them asks for, and once more for those of what it finds.
+/// them asks for, which the draft remembers, and for those that the walk found without asking.
 pub fn uncommon_of<K: Keeper>(
     alloc: Global,
     draft: &mut Draft<'_, K>,

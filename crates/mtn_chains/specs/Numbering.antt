@@ -1,5 +1,6 @@
 -- The numbers that the nodes of a marked tree get.
 use Rattle.std.specs.Prelude.{◌≡◌, ℕ, ◌+◌, ◌<◌, not, List, map, find, filter, Option, Some, None, is_some, option_map, Contains}
+use Rattle.std.specs.Borrow.{Bor}
 use Rattle.std.specs.List.{AllByRecursion, flat_map, position_from}
 use Rattle.mtn_base.specs.Names.{same_name}
 use Rattle.mtn_base.specs.declared.name.NodeName.{NodeName}
@@ -14,6 +15,10 @@ use Rattle.mtn_chains.specs.Spelled.{Spells}
 -- all entries of some lists
 abbrev pub all_of : List Entries → Entries
 all_of known = flat_map (λ es. es) known
+
+-- entries behind references
+abbrev pub shown : List (Bor Entries) → List Entries
+shown known = map (λ (b : Bor Entries). b.now) known
 
 -- the number that a node has among some entries
 abbrev pub number_among : Entries → NodeName → Option ℕ

@@ -6,7 +6,7 @@ ghost use Rattle.mtn_marking.specs.declared.node.NodeMarks.{NodeMarks};
 ghost use Rattle.mtn_roster.specs.Tree.{rises};
 ghost use Rattle.mtn_roster.specs.declared.entry.Entry.{Entry};
 ghost use Rattle.mtn_chains.specs.Chain.{Entries};
-ghost use Rattle.mtn_chains.specs.Numbering.{all_of, fresh, AreKnown};
+ghost use Rattle.mtn_chains.specs.Numbering.{all_of, fresh, shown, AreKnown};
 ghost use Rattle.mtn_chains.specs.Noting.{AreFilled, AreNoted, AreOne, HaveNumbers};
 
 use mtn_base::NoMemory;
@@ -51,9 +51,9 @@ fn note(numbers: &mut [u64], marks: &MarkMap, entries: &[NumberedEntry])
 }
 
 /// The numbers that nodes have already.
-fn known_numbers(alloc: Global, marks: &MarkMap, known: &[Numbered]) -> Result<Vec<u64>, NoMemory>
+fn known_numbers(alloc: Global, marks: &MarkMap, known: &[&Numbered]) -> Result<Vec<u64>, NoMemory>
     ensures long { IfOk result (λ v. length v.items ≡ length marks.now) }
-    ensures noted { AreOne (all_of known.now) → IfOk result (λ v. AreNoted (all_of known.now) (map (λ (m : NodeMarks). m.name) marks.now) v.items) }
+    ensures noted { AreOne (all_of (shown known.now)) → IfOk result (λ v. AreNoted (all_of (shown known.now)) (map (λ (m : NodeMarks). m.name) marks.now) v.items) }
 {
     let mut numbers = zeros(alloc, marks.len() as usize)?;
     for list in known {
@@ -81,13 +81,13 @@ fn fill_one(numbers: &mut [u64], place: usize, next: u64) -> u64
 pub fn numbers_of(
     alloc: Global,
     roster: &MarkedRoster,
-    known: &[Numbered],
+    known: &[&Numbered],
     next: u64,
 ) -> Result<(Vec<u64>, u64), NoMemory>
     requires room { next + length roster.now.tree < 2 ^ 63 }
     ensures long { IfOk result (λ r. length r.0.items ≡ length roster.now.tree) }
-    ensures numbers { AreKnown known.now next → IfOk result (λ r. HaveNumbers known.now next roster.now.tree r.0.items) }
-    ensures next { AreKnown known.now next → IfOk result (λ r. r.1 ≡ next + length (fresh known.now roster.now.tree)) }
+    ensures numbers { AreKnown (shown known.now) next → IfOk result (λ r. HaveNumbers (shown known.now) next roster.now.tree r.0.items) }
+    ensures next { AreKnown (shown known.now) next → IfOk result (λ r. r.1 ≡ next + length (fresh (shown known.now) roster.now.tree)) }
 {
     let mut numbers = known_numbers(alloc, roster.marks(), known)?;
     let tree = roster.roster();

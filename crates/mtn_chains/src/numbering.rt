@@ -5,7 +5,7 @@ ghost use Rattle.mtn_roster.specs.Tree.{is_dir_body};
 ghost use Rattle.mtn_roster.specs.declared.entry.Attr.{Attr};
 ghost use Rattle.mtn_roster.specs.declared.entry.Entry.{Entry};
 ghost use Rattle.mtn_marking.specs.declared.node.AttrMarks.{AttrMarks};
-ghost use Rattle.mtn_chains.specs.Numbering.{fresh, AreKnown, IsNumbering};
+ghost use Rattle.mtn_chains.specs.Numbering.{fresh, shown, AreKnown, IsNumbering};
 ghost use Rattle.mtn_chains.specs.Noting.{AreNumbered, IsNumberedOf, IsNumberedSlot};
 ghost use Rattle.mtn_chains.specs.Spelled.{attr_of, attr_marks_of, body_of, content_marks_of, Spells};
 
@@ -149,14 +149,14 @@ fn numbered_entries(
 pub fn number(
     alloc: Global,
     roster: &MarkedRoster,
-    known: &[Numbered],
+    known: &[&Numbered],
     next: u64,
 ) -> Result<(Numbered, u64), NumberError>
     requires room { next + length roster.now.tree < 2 ^ 63 }
     ensures spells { IfOk result (λ r. Spells r.0 roster.now) }
-    ensures numbers { AreKnown known.now next → IfOk result (λ r. IsNumbering known.now next roster.now r.0) }
-    ensures next { AreKnown known.now next → IfOk result (λ r. r.1 ≡ next + length (fresh known.now roster.now.tree)) }
-    ensures clash { result ≡ Err NumberError.Clash → AreKnown known.now next → ⊥ }
+    ensures numbers { AreKnown (shown known.now) next → IfOk result (λ r. IsNumbering (shown known.now) next roster.now r.0) }
+    ensures next { AreKnown (shown known.now) next → IfOk result (λ r. r.1 ≡ next + length (fresh (shown known.now) roster.now.tree)) }
+    ensures clash { result ≡ Err NumberError.Clash → AreKnown (shown known.now) next → ⊥ }
 {
     let (numbers, free) = numbers_of(alloc, roster, known, next)?;
     let _sane = roster.roster().len();

@@ -17,6 +17,14 @@ fn name(alloc: Global, text: &[u8]) -> Result<NodeName, Fail> {
     })
 }
 
+fn shown<'a>(alloc: Global, lists: &'a [Numbered]) -> Result<Vec<&'a Numbered>, Fail> {
+    let mut all = Vec::new(alloc);
+    for list in lists {
+        all.push(list)?;
+    }
+    Ok(all)
+}
+
 // The entries of one tree, if there is one, and the least number that is free behind them.
 #[derive(Drop)]
 struct Known {
@@ -37,7 +45,7 @@ impl Known {
         if 100 < self.next || 100 < tree.roster().len() {
             return Err(Fail::from("too many nodes"));
         }
-        let (entries, next) = number(alloc, tree, &self.lists, self.next)?;
+        let (entries, next) = number(alloc, tree, &shown(alloc, &self.lists)?, self.next)?;
         let mut lists = Vec::new(alloc);
         lists.push(entries)?;
         Ok(Known { lists, next })
@@ -319,7 +327,7 @@ fn is_clash(alloc: Global, lists: &[&[Row]], next: u64) -> Result<bool, Fail> {
     for rows in lists {
         known.push(numbered(alloc, rows)?)?;
     }
-    let answer = number(alloc, &tree, &known, next);
+    let answer = number(alloc, &tree, &shown(alloc, &known)?, next);
     Ok(matches!(answer, Err(NumberError::Clash)))
 }
 

@@ -57,11 +57,11 @@ recalled_kept c d n m k le logs rosters known = record {
 }
 
 -- what was told before
-told_back : (old new : Option Contents) (P : Contents → Type 0) → Same old new → IfSome old P → IfSome new P
+pub told_back : (old new : Option Contents) (P : Contents → Type 0) → Same old new → IfSome old P → IfSome new P
 told_back old None P same fact = tt
 told_back old (Some c) P same fact = subst (λ o. IfSome o P) (same c refl) fact
 
-mapped : (told : Option Contents) (P Q : Contents → Type 0) → ((c : Contents) → P c → Q c) → IfSome told P → IfSome told Q
+pub mapped : (told : Option Contents) (P Q : Contents → Type 0) → ((c : Contents) → P c → Q c) → IfSome told P → IfSome told Q
 mapped None P Q f fact = tt
 mapped (Some c) P Q f fact = f c fact
 

@@ -7,7 +7,7 @@ use Rattle.mtn_roster.specs.Tree.{Tree, IsSane}
 use Rattle.mtn_roster.specs.Walk.{by_path, AreStops}
 use Rattle.mtn_marking.proofs.Fitting.{for_long}
 use Rattle.mtn_marking.proofs.Zips.{got_at}
-use Rattle.mtn_chains.specs.Numbering.{all_of}
+use Rattle.mtn_chains.specs.Numbering.{all_of, shown}
 use Rattle.mtn_chains.specs.Noting.{AreNoted, AreFilled}
 use Rattle.mtn_chains.proofs.Places.{marked_names, tree_names, get_map, fills_begin, back_is}
 use Rattle.mtn_chains.proofs.Visiting.{same_names, names_up, stop_is, stops_long, once, met_more, all_filled, all_met}
@@ -18,8 +18,8 @@ pub loop-stop-init : goal.loop-stop-init
 loop-stop-init c = (
   c.in_ok-numbers.ensures.long ∙ ap length c.marks.ensures ∙ sym (for_long c.args.roster.now.tree c.args.roster.now.marks c.roster-tree.ensures.fits),
   omega arith,
-  λ known. fills_begin (all_of c.args.known.now) c.args.next (tree_names c.args.roster.now.tree) c.in_ok-numbers.numbers.items
-      (subst (λ (l : List NodeName). AreNoted (all_of c.args.known.now) l c.in_ok-numbers.numbers.items) (ap marked_names c.marks.ensures ∙ same_names c.args.roster.now.tree c.args.roster.now.marks c.roster-tree.ensures.fits)
+  λ known. fills_begin (all_of (shown c.args.known.now)) c.args.next (tree_names c.args.roster.now.tree) c.in_ok-numbers.numbers.items
+      (subst (λ (l : List NodeName). AreNoted (all_of (shown c.args.known.now)) l c.in_ok-numbers.numbers.items) (ap marked_names c.marks.ensures ∙ same_names c.args.roster.now.tree c.args.roster.now.marks c.roster-tree.ensures.fits)
       (c.in_ok-numbers.ensures.noted (record { number = known.one_number; above = known.from_one }))),
 )
 
@@ -39,7 +39,7 @@ fill_one-free-requires-clause-room c =
 pub loop-stop-preserved : goal.loop-stop-preserved
 loop-stop-preserved c =
     let t = c.args.roster.now.tree in
-    let es = all_of c.args.known.now in
+    let es = all_of (shown c.args.known.now) in
     let i = c.loop-stop.stop-index in
     let w = by_path t in
     let are = subst (λ (u : Tree). AreStops u c.deref-stop-items.result.now) c.roster-tree.ensures.tree (subst (AreStops c.roster-tree.result.now) (sym c.deref-stop-items.ensures.value) c.in_ok-stops.ensures) in
@@ -60,12 +60,12 @@ returns-clause-numbers c = λ known.
     let t = c.args.roster.now.tree in
     let are = subst (λ (u : Tree). AreStops u c.deref-stop-items.result.now) c.roster-tree.ensures.tree (subst (AreStops c.roster-tree.result.now) (sym c.deref-stop-items.ensures.value) c.in_ok-stops.ensures) in
     let sane = subst IsSane c.roster-tree.ensures.tree c.len-sane.ensures.sane in
-    all_filled c.args.known.now c.args.next t c.loop-stop.numbers.items c.loop-stop.free c.loop-stop.stop-index sane
+    all_filled (shown c.args.known.now) c.args.next t c.loop-stop.numbers.items c.loop-stop.free c.loop-stop.stop-index sane
     (omega (arith, stops_long t c.deref-stop-items.result.now are, c.loop-stop-test.false)) c.loop-stop.invariant.0 (c.loop-stop.invariant.2 known)
 
 pub returns-clause-next : goal.returns-clause-next
 returns-clause-next c = λ known.
     let t = c.args.roster.now.tree in
     let are = subst (λ (u : Tree). AreStops u c.deref-stop-items.result.now) c.roster-tree.ensures.tree (subst (AreStops c.roster-tree.result.now) (sym c.deref-stop-items.ensures.value) c.in_ok-stops.ensures) in
-    all_met c.args.known.now c.args.next t c.loop-stop.numbers.items c.loop-stop.free c.loop-stop.stop-index
+    all_met (shown c.args.known.now) c.args.next t c.loop-stop.numbers.items c.loop-stop.free c.loop-stop.stop-index
     (omega (arith, stops_long t c.deref-stop-items.result.now are, c.loop-stop-test.false)) (c.loop-stop.invariant.2 known)

@@ -1,5 +1,5 @@
 use Rattle.mtn_accept.proofs.Grounds.{unfounded_on, unfit_roster}
-use Rattle.mtn_accept.proofs.tree.unfit.Goals as goal
+use Rattle.mtn_accept.proofs.unfit.unfit.Goals as goal
 
 pub returns-in-Some-clause-damaged : goal.returns-in-Some-clause-damaged
 returns-in-Some-clause-damaged g c = λ unfit.
