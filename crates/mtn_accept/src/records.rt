@@ -14,7 +14,7 @@ ghost use Rattle.mtn_accept.specs.Keeping.{IsRecordOn, IsLogBodyOf};
 
 use mtn_ancestry::{ParentList, Pos};
 use mtn_base::{Bytes, Id, List as Items, NoMemory};
-use mtn_chains::{DEEPEST, delta, number};
+use mtn_chains::{DEEPEST, NumberError, delta, number};
 use mtn_history::{Draft, StoreError};
 use mtn_making::MAX_NODES;
 use mtn_marking::MarkedRoster;
@@ -73,7 +73,10 @@ pub fn numbered(
     if roster.roster().len() > MAX_NODES {
         return Err(NoMemory);
     }
-    number(alloc, roster, known, next)
+    match number(alloc, roster, known, next) {
+        Ok(numbered) => Ok(numbered),
+        Err(NumberError::Clash | NumberError::NoMemory) => Err(NoMemory),
+    }
 }
 
 /// The record of a roster: what differs from the first parent's, or whole where there is none or a chain would get too deep.

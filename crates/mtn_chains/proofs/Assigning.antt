@@ -25,10 +25,10 @@ use Rattle.mtn_roster.proofs.Finding.{found}
 use Rattle.mtn_roster.proofs.Looking.{names_total, exact_names}
 use Rattle.mtn_roster.proofs.Members.{any_default, taken}
 use Rattle.mtn_roster.proofs.Ordered.{distinct_of}
-use Rattle.mtn_roster.proofs.Sorting.{rising_by, rising_differ, sorted_is}
+use Rattle.mtn_roster.proofs.Sorting.{rec_at, rising_by, rising_differ, sorted_is}
 use Rattle.mtn_roster.proofs.Tests.{same_name-is, same_name-self}
 use Rattle.mtn_chains.specs.Chain.{Entries, ascend, entry_at, number_of}
-use Rattle.mtn_chains.specs.Spelled.{IsSlotOf, IsEntryOf, by_node, marks_of, node_of}
+use Rattle.mtn_chains.specs.Spelled.{IsSlotOf, IsEntryOf, Spells, by_node, marks_of, node_of}
 use Rattle.mtn_chains.specs.Numbering.{all_of, fresh, number_among, number_in, or_next, AreKnown, IsNumbering}
 use Rattle.mtn_chains.specs.Noting.{HaveNumbers, AreNumbered, IsNumberedOf, IsNumberedSlot}
 use Rattle.mtn_chains.proofs.Ascending.{cut_of, place_by}
@@ -109,10 +109,13 @@ module _ (known : List Entries) (next : ℕ) (t : Tree) (are : AreKnown known ne
       go None e (Some j) ep h None f None er g = absurd cc
       go None e None ep h q f r er g = absurd cc
 
+pub each_by : (P : NumberedEntry → Type 0) (xs : Entries) → ((e : NumberedEntry) → Contains xs e → P e) → AllByRecursion P xs
+each_by P [] h = tt
+each_by P (x ∷ xs) h = (h x (0, omega arith, refl), each_by P xs (λ e c. h e (Contains-append_right (x ∷ []) xs e c)))
+
 -- all of what the steps made
-module _ (known : List Entries) (next : ℕ) (t : MarkedTree) (ns : List ℕ) (raw new : Entries) (are : AreKnown known next) (fits : AreFor t.tree t.marks) (sane : IsSane t.tree)
-    (have : HaveNumbers known next t.tree ns) (long : length raw ≡ length t.tree) (all : AreNumbered t ns raw) (moved : IsPermutation raw new)
-    (sorted : IsSortedBy (λ x y. is_lt (nat_cmp x.number y.number)) new) where
+module _ (t : MarkedTree) (ns : List ℕ) (raw new : Entries) (fits : AreFor t.tree t.marks) (sane : IsSane t.tree)
+    (long : length raw ≡ length t.tree) (all : AreNumbered t ns raw) (moved : IsPermutation raw new) where
   -- what stands at a place
   at : (k : ℕ) → k < length t.tree → (n : Entry) × (m : NodeMarks) × (e : NumberedEntry) × (slice_get t.tree k ≡ Some n) × (slice_get t.marks k ≡ Some m) × (slice_get raw k ≡ Some e) × IsNumberedOf t.tree ns (get_or ns k 0) n m e
   at k lt =
@@ -125,14 +128,6 @@ module _ (known : List Entries) (next : ℕ) (t : MarkedTree) (ns : List ℕ) (r
   of_raw e c =
       let g = taken raw c.0 c.1 in
       (c.0, subst (λ l. c.0 < l) long c.1, g.1 ∙ ap Some (sym (g.3 e) ∙ c.2))
-
-  numbered : (e : NumberedEntry) → Contains raw e → number_in known next t.tree e.node ≡ Some e.number
-  numbered e c =
-      let k = of_raw e c in
-      let a = at k.0 k.1 in
-      let same : a.2 ≡ e = some_is (sym a.5 ∙ k.2) in
-      subst (λ (x : NumberedEntry). number_in known next t.tree x.node ≡ Some x.number) same
-      (ap (number_in known next t.tree) (sym a.6.name) ∙ have.each k.0 a.0 a.3 ∙ ap Some (sym a.6.number_is))
 
   into_new : (e : NumberedEntry) → Contains raw e → Contains new e
   into_new e c = Contains-permutation raw new e moved c
@@ -175,70 +170,11 @@ module _ (known : List Entries) (next : ℕ) (t : MarkedTree) (ns : List ℕ) (r
   by_node_is =
       sym (sorted_is name_cmp node_of names_total same_name same_name-is same_name-self exact_names new raw (IsPermutation-sym raw new moved) new_apart raw_rises)
 
-  new_up : ascend new ≡ true
-  new_up = steps_up number_of new sorted (λ i j d lt low same.
-      let x = taken new i (omega arith) in
-      let y = taken new j low in
-      let cx = contains_got new i x.0 x.1 in
-      let cy = contains_got new j y.0 y.1 in
-      let nx = numbered x.0 (of_new x.0 cx) in
-      let ny = numbered y.0 (of_new y.0 cy) in
-      let eq : x.0.number ≡ y.0.number = ap number_of (sym (x.3 d)) ∙ same ∙ ap number_of (y.3 d) in
-      let node : x.0.node ≡ y.0.node = number_tells known next t.tree are x.0.node y.0.node x.0.number nx (ny ∙ ap Some (sym eq)) in
-      apart_at new i j x.0 y.0 new_apart lt low x.1 y.1 node)
-    where
-      apart_at : (xs : Entries) (i j : ℕ) (x y : NumberedEntry) → IsDistinct one_node xs → i < j → j < length xs → slice_get xs i ≡ Some x → slice_get xs j ≡ Some y → x.node ≡ y.node → ⊥
-      apart_at xs i j x y d lt low p q same =
-          let gx = got_at xs i x p in
-          let gy = got_at xs j y q in
-          let z : one_node (get_or xs i x) (get_or xs j x) ≡ false = apart_from_distinct one_node xs i j x d lt low in
-          let gy' : y ≡ get_or xs j x = gy.1 ∙ any_default xs j y x low in
-          let w : one_node x y ≡ false = (λ k. one_node (gx.1 k) (gy' k)) ∙ z in
-          let v = ap (same_name x.node) (sym same) ∙ same_name-self x.node in cc
-
-  -- the parent's number leads to its entry
-  slot_is : (e : NumberedEntry) (s : Slot) → ((parent : NodeName) (name : List ℕ) → s ≡ Below parent name → (d : Entry) × (entry_of t.tree parent ≡ Some d)) → IsNumberedSlot t.tree ns s e.parent e.name → IsSlotOf new e s
-  slot_is e Root up h = h
-  slot_is e (Below parent name) up h =
-      let d = up parent name refl in
-      let f = found (λ (x : Entry). same_name x.name parent) t.tree d.0 d.1 in
-      let c = place_by t.tree d.0 f.at in
-      let g = taken t.tree c.0 c.1 in
-      let is : slice_get t.tree c.0 ≡ Some d.0 = g.1 ∙ ap Some (sym (g.3 d.0) ∙ c.2) in
-      let named : d.0.name ≡ parent = same_name-is d.0.name parent f.passes in
-      let a = at c.0 c.1 in
-      let dn : a.0 ≡ d.0 = some_is (sym a.3 ∙ is) in
-      let num : e.parent ≡ get_or ns c.0 0 = h.0 c.0 d.0 is named in
-      let told : number_in known next t.tree d.0.name ≡ Some e.parent = have.each c.0 d.0 is ∙ ap Some (sym num) in
-      let there : Contains new a.2 = into_new a.2 (contains_got raw c.0 a.2 a.5) in
-      let got : entry_at new e.parent ≡ Some a.2 = entry_is new new_up e.parent a.2 there (a.6.number_is ∙ sym num) in (
-        number_above known next t.tree are d.0.name e.parent told,
-        ap (option_map node_of) got ∙ ap Some (sym a.6.name ∙ ap (λ (x : Entry). x.name) dn ∙ named),
-        h.1,
-        h.2,
-      )
-
   zipped : (xs : Entries) (u : Tree) → length xs ≡ length u → ((k : ℕ) (n : Entry) (e : NumberedEntry) → slice_get u k ≡ Some n → slice_get xs k ≡ Some e → IsEntryOf new e n) → AllZip (IsEntryOf new) xs u
   zipped [] [] l h = tt
   zipped [] (n ∷ u) l h = absurd (omega (arith, l))
   zipped (x ∷ xs) [] l h = absurd (omega (arith, l))
   zipped (x ∷ xs) (n ∷ u) l h = (h 0 n x refl refl, zipped xs u (omega (arith, l)) (λ k m e p q. h (suc k) m e p q))
-
-  entry_told : (k : ℕ) (n : Entry) (e : NumberedEntry) → slice_get t.tree k ≡ Some n → slice_get raw k ≡ Some e → IsEntryOf new e n
-  entry_told k n e p q =
-      let a = at k (got_at t.tree k n p).0 in
-      let sn : a.0 ≡ n = some_is (sym a.3 ∙ p) in
-      let se : a.2 ≡ e = some_is (sym a.5 ∙ q) in
-      let own : IsEntryOf new a.2 a.0 = record {
-        name = a.6.name;
-        slot = slot_is a.2 a.0.slot (λ parent name is. let r = sane.sane.parents a.0.name parent a.0 name (own_entry a.0 (contains_got t.tree k a.0 a.3)) is in (r.0, r.1)) a.6.slot;
-        body = a.6.body;
-        attrs = a.6.attrs;
-      } in
-      subst (λ (x : Entry). IsEntryOf new e x) sn (subst (λ (x : NumberedEntry). IsEntryOf new x a.0) se own)
-    where
-      own_entry : (d : Entry) → Contains t.tree d → entry_of t.tree d.name ≡ Some d
-      own_entry d c = distinct_of t.tree (first_so _ _ sane.ordered) d (cut_of t.tree d c)
 
   marks_are : (xs : Entries) (ms : List NodeMarks) → length xs ≡ length ms → ((k : ℕ) (m : NodeMarks) (e : NumberedEntry) → slice_get ms k ≡ Some m → slice_get xs k ≡ Some e → m ≡ marks_of e) → ms ≡ map marks_of xs
   marks_are [] [] l h = refl
@@ -246,15 +182,50 @@ module _ (known : List Entries) (next : ℕ) (t : MarkedTree) (ns : List ℕ) (r
   marks_are (x ∷ xs) [] l h = absurd (omega (arith, l))
   marks_are (x ∷ xs) (m ∷ ms) l h = λ i. h 0 m x refl refl i ∷ marks_are xs ms (omega (arith, l)) (λ k n e p q. h (suc k) n e p q) i
 
-  each_by : (P : NumberedEntry → Type 0) (xs : Entries) → ((e : NumberedEntry) → Contains xs e → P e) → AllByRecursion P xs
-  each_by P [] h = tt
-  each_by P (x ∷ xs) h = (h x (0, omega arith, refl), each_by P xs (λ e c. h e (Contains-append_right (x ∷ []) xs e c)))
+  -- numbers in order tell the nodes apart
+  module _ (up : ascend new ≡ true) (one : AllByRecursion (λ (e : NumberedEntry). 0 < e.number) new) where
+    -- the parent's number leads to its entry
+    slot_is : (e : NumberedEntry) (s : Slot) → ((parent : NodeName) (name : List ℕ) → s ≡ Below parent name → (d : Entry) × (entry_of t.tree parent ≡ Some d)) → IsNumberedSlot t.tree ns s e.parent e.name → IsSlotOf new e s
+    slot_is e Root there h = h
+    slot_is e (Below parent name) parents h =
+        let d = parents parent name refl in
+        let f = found (λ (x : Entry). same_name x.name parent) t.tree d.0 d.1 in
+        let c = place_by t.tree d.0 f.at in
+        let g = taken t.tree c.0 c.1 in
+        let is : slice_get t.tree c.0 ≡ Some d.0 = g.1 ∙ ap Some (sym (g.3 d.0) ∙ c.2) in
+        let named : d.0.name ≡ parent = same_name-is d.0.name parent f.passes in
+        let a = at c.0 c.1 in
+        let dn : a.0 ≡ d.0 = some_is (sym a.3 ∙ is) in
+        let num : e.parent ≡ get_or ns c.0 0 = h.0 c.0 d.0 is named in
+        let there : Contains new a.2 = into_new a.2 (contains_got raw c.0 a.2 a.5) in
+        let above : 0 < a.2.number = rec_at (λ (x : NumberedEntry). 0 < x.number) new a.2 one (cut_of new a.2 there) in
+        let got : entry_at new e.parent ≡ Some a.2 = entry_is new up e.parent a.2 there (a.6.number_is ∙ sym num) in (
+          omega (arith, above, a.6.number_is, num),
+          ap (option_map node_of) got ∙ ap Some (sym a.6.name ∙ ap (λ (x : Entry). x.name) dn ∙ named),
+          h.1,
+          h.2,
+        )
 
-  pub assigned : IsNumbering known next t new
-  assigned = record {
-    spells = record {
-      ascending = new_up;
-      from_one = each_by (λ (e : NumberedEntry). 0 < e.number) new (λ e c. number_above known next t.tree are e.node e.number (numbered e (of_new e c)));
+    entry_told : (k : ℕ) (n : Entry) (e : NumberedEntry) → slice_get t.tree k ≡ Some n → slice_get raw k ≡ Some e → IsEntryOf new e n
+    entry_told k n e p q =
+        let a = at k (got_at t.tree k n p).0 in
+        let sn : a.0 ≡ n = some_is (sym a.3 ∙ p) in
+        let se : a.2 ≡ e = some_is (sym a.5 ∙ q) in
+        let own : IsEntryOf new a.2 a.0 = record {
+          name = a.6.name;
+          slot = slot_is a.2 a.0.slot (λ parent name is. let r = sane.sane.parents a.0.name parent a.0 name (own_entry a.0 (contains_got t.tree k a.0 a.3)) is in (r.0, r.1)) a.6.slot;
+          body = a.6.body;
+          attrs = a.6.attrs;
+        } in
+        subst (λ (x : Entry). IsEntryOf new e x) sn (subst (λ (x : NumberedEntry). IsEntryOf new x a.0) se own)
+      where
+        own_entry : (d : Entry) → Contains t.tree d → entry_of t.tree d.name ≡ Some d
+        own_entry d c = distinct_of t.tree (first_so _ _ sane.ordered) d (cut_of t.tree d c)
+
+    pub spelled : Spells new t
+    spelled = record {
+      ascending = up;
+      from_one = one;
       apart = new_apart;
       tree = subst (λ xs. AllZip (IsEntryOf new) xs t.tree) (sym by_node_is) (zipped raw t.tree long entry_told);
       marks = marks_are raw t.marks (long ∙ for_long t.tree t.marks fits) (λ k m e p q.
@@ -263,6 +234,45 @@ module _ (known : List Entries) (next : ℕ) (t : MarkedTree) (ns : List ℕ) (r
           let se : a.2 ≡ e = some_is (sym a.5 ∙ q) in
           sym sm ∙ a.6.marks ∙ ap marks_of se) ∙ ap (map marks_of) (sym by_node_is);
       sane = sane;
-    };
-    numbers = each_by (λ (e : NumberedEntry). number_in known next t.tree e.node ≡ Some e.number) new (λ e c. numbered e (of_new e c));
-  }
+    }
+
+  -- known numbers and the next ones
+  module _ (known : List Entries) (next : ℕ) (have : HaveNumbers known next t.tree ns) where
+    numbered : (e : NumberedEntry) → Contains raw e → number_in known next t.tree e.node ≡ Some e.number
+    numbered e c =
+        let k = of_raw e c in
+        let a = at k.0 k.1 in
+        let same : a.2 ≡ e = some_is (sym a.5 ∙ k.2) in
+        subst (λ (x : NumberedEntry). number_in known next t.tree x.node ≡ Some x.number) same
+        (ap (number_in known next t.tree) (sym a.6.name) ∙ have.each k.0 a.0 a.3 ∙ ap Some (sym a.6.number_is))
+
+    pub assigned : Spells new t → IsNumbering known next t new
+    assigned spells = record {
+      spells = spells;
+      numbers = each_by (λ (e : NumberedEntry). number_in known next t.tree e.node ≡ Some e.number) new (λ e c. numbered e (of_new e c));
+    }
+
+    module _ (are : AreKnown known next) (sorted : IsSortedBy (λ x y. is_lt (nat_cmp x.number y.number)) new) where
+      up : ascend new ≡ true
+      up = steps_up number_of new sorted (λ i j d lt low same.
+          let x = taken new i (omega arith) in
+          let y = taken new j low in
+          let cx = contains_got new i x.0 x.1 in
+          let cy = contains_got new j y.0 y.1 in
+          let nx = numbered x.0 (of_new x.0 cx) in
+          let ny = numbered y.0 (of_new y.0 cy) in
+          let eq : x.0.number ≡ y.0.number = ap number_of (sym (x.3 d)) ∙ same ∙ ap number_of (y.3 d) in
+          let node : x.0.node ≡ y.0.node = number_tells known next t.tree are x.0.node y.0.node x.0.number nx (ny ∙ ap Some (sym eq)) in
+          apart_at new i j x.0 y.0 new_apart lt low x.1 y.1 node)
+        where
+          apart_at : (xs : Entries) (i j : ℕ) (x y : NumberedEntry) → IsDistinct one_node xs → i < j → j < length xs → slice_get xs i ≡ Some x → slice_get xs j ≡ Some y → x.node ≡ y.node → ⊥
+          apart_at xs i j x y d lt low p q same =
+              let gx = got_at xs i x p in
+              let gy = got_at xs j y q in
+              let z : one_node (get_or xs i x) (get_or xs j x) ≡ false = apart_from_distinct one_node xs i j x d lt low in
+              let gy' : y ≡ get_or xs j x = gy.1 ∙ any_default xs j y x low in
+              let w : one_node x y ≡ false = (λ k. one_node (gx.1 k) (gy' k)) ∙ z in
+              let v = ap (same_name x.node) (sym same) ∙ same_name-self x.node in cc
+
+      pub in_order : (ascend new ≡ true) × AllByRecursion (λ (e : NumberedEntry). 0 < e.number) new
+      in_order = (up, each_by (λ (e : NumberedEntry). 0 < e.number) new (λ e c. number_above known next t.tree are e.node e.number (numbered e (of_new e c))))

@@ -1,6 +1,6 @@
 -- Known numbers with those of one more tree, and numbers among more lists.
 use Rattle.std.specs.Prelude.{map, filter, not, is_some, option_map, Contains, IsSome}
-use Rattle.std.specs.List.{AllZip, AllByRecursion, position_from}
+use Rattle.std.specs.List.{AllZip, position_from}
 use Rattle.std.specs.FinMap.Entries.{by_order}
 use Rattle.std.specs.declared.cmp.Ordering.{Ordering}
 use Rattle.std.specs.declared.cmp.Ordering.TheVariants.{Less, Equal, Greater}
@@ -22,7 +22,7 @@ use Rattle.mtn_chains.specs.Chain.{Entries, number_of}
 use Rattle.mtn_chains.specs.Spelled.{IsEntryOf, Spells, by_node, node_of}
 use Rattle.mtn_chains.specs.Numbering.{all_of, fresh, number_among, number_in, or_next, AreKnown, IsNumbering}
 use Rattle.mtn_chains.proofs.Ascending.{cut_of, place_by}
-use Rattle.mtn_chains.proofs.Assigning.{number_above, number_tells}
+use Rattle.mtn_chains.proofs.Assigning.{each_by, number_above, number_tells}
 use Rattle.mtn_chains.proofs.Places.{among_was, contains_cons, is_name, some_is, tree_names}
 
 pub none_known : AreKnown [] 1
@@ -150,10 +150,6 @@ module _ (known all : List Entries) (t : Tree) (same : (n : NodeName) → IsSome
 
   pub same_number : (next : ℕ) (n : NodeName) → IsSome (entry_of t n) → number_in known next t n ≡ number_in all next t n
   same_number next n there = λ i. or_next next (same n there i) (position_from (is_name n) 0 (same_fresh i))
-
-each_by : (P : NumberedEntry → Type 0) (xs : Entries) → ((e : NumberedEntry) → Contains xs e → P e) → AllByRecursion P xs
-each_by P [] h = tt
-each_by P (x ∷ xs) h = (h x (0, omega arith, refl), each_by P xs (λ e c. h e (Contains-append_right (x ∷ []) xs e c)))
 
 pub numbering_over : (known all : List Entries) (next : ℕ) (t : MarkedTree) (new : Entries) → ((n : NodeName) → IsSome (entry_of t.tree n) → number_among (all_of known) n ≡ number_among (all_of all) n) →
     IsNumbering known next t new → IsNumbering all next t new

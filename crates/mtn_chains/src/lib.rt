@@ -7,15 +7,18 @@
 //!
 //! The crates above rely on this: [`rebuild`] answers the entries at the chain's end and the marked tree that they spell, and
 //! is `Bad` exactly where there is none; a chain with [`delta`]'s record behind it gives the new entries; what [`number`]
-//! gives spells the marked tree that it was given, known nodes keep their numbers, and new ones get the next.
+//! gives spells the marked tree that it was given, whatever lists it was given: where two nodes would get one number it is a
+//! `Clash`. Where the known numbers are from 1 and below the next, one for each node, there is no clash, known nodes keep their
+//! numbers, and new ones get the next.
 //!
 //! Cost: rebuilding is one merge for each delta and one build of the tree; a delta is one walk over two lists; numbering is a
-//! look-up by name for each known entry, one walk and one sort of numbers.
+//! look-up by name for each known entry, one walk, one sort of numbers and one look along them.
 #![tactic(auto)]
 
 mod chain;
 mod copies;
 mod difference;
+mod error;
 pub mod laws;
 mod merge;
 mod noting;
@@ -29,6 +32,7 @@ mod spelled;
 
 pub use chain::DEEPEST;
 pub use difference::delta;
+pub use error::NumberError;
 pub use numbering::number;
 pub use rebuilding::rebuild;
 

@@ -1,5 +1,5 @@
 // The entries of a marked tree under numbers.
-ghost use Rattle.std.specs.Prelude.{◌≡◌, ◌<◌, ◌+◌, ◌^◌, ℕ, map, not, is_some, length, slice_get, slice_index, Some, IfOk};
+ghost use Rattle.std.specs.Prelude.{◌≡◌, ◌<◌, ◌+◌, ◌^◌, ℕ, map, not, is_some, length, slice_get, slice_index, Some, Err, IfOk};
 ghost use Rattle.mtn_marking.specs.Marking.{IsFor};
 ghost use Rattle.mtn_roster.specs.Tree.{is_dir_body};
 ghost use Rattle.mtn_roster.specs.declared.entry.Attr.{Attr};
@@ -7,10 +7,12 @@ ghost use Rattle.mtn_roster.specs.declared.entry.Entry.{Entry};
 ghost use Rattle.mtn_marking.specs.declared.node.AttrMarks.{AttrMarks};
 ghost use Rattle.mtn_chains.specs.Numbering.{fresh, AreKnown, IsNumbering};
 ghost use Rattle.mtn_chains.specs.Noting.{AreNumbered, IsNumberedOf, IsNumberedSlot};
-ghost use Rattle.mtn_chains.specs.Spelled.{attr_of, attr_marks_of, body_of, content_marks_of};
+ghost use Rattle.mtn_chains.specs.Spelled.{attr_of, attr_marks_of, body_of, content_marks_of, Spells};
 
 use crate::copies::copy_value;
+use crate::error::NumberError;
 use crate::noting::numbers_of;
+use crate::order::are_in_order;
 use mtn_ancestry::PosSet;
 use mtn_base::{Bytes, List, NoMemory, NodeName};
 use mtn_marking::{AttrMarks, MarkedRoster, NodeMarks};
@@ -142,22 +144,27 @@ fn numbered_entries(
 }
 
 /// The entries of a marked tree, by ascending numbers: known nodes keep their numbers, and new ones get `next`, `next + 1`
-/// and so on, as the walk meets them; and the least number that is free then. This is so where the known numbers are from 1 and below `next`, one for each node; the
-/// numbers of other lists are no one's promise.
+/// and so on, as the walk meets them; and the least number that is free then. Where two nodes would get one number, or one
+/// would get 0, it is a Clash. There is none where the known numbers are from 1 and below `next`, one for each node.
 pub fn number(
     alloc: Global,
     roster: &MarkedRoster,
     known: &[Numbered],
     next: u64,
-) -> Result<(Numbered, u64), NoMemory>
+) -> Result<(Numbered, u64), NumberError>
     requires room { next + length roster.now.tree < 2 ^ 63 }
+    ensures spells { IfOk result (λ r. Spells r.0 roster.now) }
     ensures numbers { AreKnown known.now next → IfOk result (λ r. IsNumbering known.now next roster.now r.0) }
     ensures next { AreKnown known.now next → IfOk result (λ r. r.1 ≡ next + length (fresh known.now roster.now.tree)) }
+    ensures clash { result ≡ Err NumberError.Clash → AreKnown known.now next → ⊥ }
 {
     let (numbers, free) = numbers_of(alloc, roster, known, next)?;
     let _sane = roster.roster().len();
     let mut entries = numbered_entries(alloc, roster, &numbers)?;
     entries.sort_by(|first, second| first.number.cmp(&second.number))?;
+    if !are_in_order(&entries) {
+        return Err(NumberError::Clash);
+    }
     let entries = List::from_vec(entries);
     Ok((Numbered { entries }, free))
 }

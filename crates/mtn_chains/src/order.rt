@@ -1,7 +1,8 @@
 // Lists by ascending numbers.
-ghost use Rattle.std.specs.Prelude.{◌≡◌, ◌==◌, ◌<◌, length, option_copied, option_and_then, slice_get, IsTrue, IfSome};
-ghost use Rattle.std.specs.List.{list_all, list_any};
+ghost use Rattle.std.specs.Prelude.{◌≡◌, ◌↔◌, ◌==◌, ◌<◌, length, option_copied, option_and_then, slice_get, IsTrue, IfSome};
+ghost use Rattle.std.specs.List.{list_all, list_any, AllByRecursion};
 ghost use Rattle.std.specs.Ordering.{nat_cmp};
+ghost use Rattle.mtn_records.specs.declared.entry.NumberedEntry.{NumberedEntry};
 ghost use Rattle.mtn_roster.specs.Tree.{rises};
 ghost use Rattle.mtn_chains.specs.Chain.{ascend, entry_at, is_there};
 
@@ -12,6 +13,20 @@ pub fn entries_ascend(entries: &[NumberedEntry]) -> bool
     ensures { result ≡ ascend entries.now }
 {
     entries.is_sorted_by(|first, second| first.number < second.number)
+}
+
+/// Whether all numbers are above 0.
+pub fn are_from_one(entries: &[NumberedEntry]) -> bool
+    ensures { IsTrue result ↔ AllByRecursion (λ (e : NumberedEntry). 0 < e.number) entries.now }
+{
+    entries.iter().all(|entry| 0 < entry.number)
+}
+
+/// Whether the numbers of entries ascend from 1 on.
+pub fn are_in_order(entries: &[NumberedEntry]) -> bool
+    ensures { IsTrue result ↔ IsTrue (ascend entries.now) × AllByRecursion (λ (e : NumberedEntry). 0 < e.number) entries.now }
+{
+    entries_ascend(entries) && are_from_one(entries)
 }
 
 /// Whether numbers ascend.

@@ -1,6 +1,6 @@
 // The marked tree that entries spell.
-ghost use Rattle.std.specs.Prelude.{◌≡◌, ◌↔◌, ◌<◌, List, map, IfOk, OnOk, IsErrOf, IsTrue};
-ghost use Rattle.std.specs.List.{AllByRecursion, AllZip};
+ghost use Rattle.std.specs.Prelude.{◌≡◌, List, map, IfOk, OnOk, IsErrOf, IsTrue};
+ghost use Rattle.std.specs.List.{AllZip};
 ghost use Rattle.mtn_marking.specs.Marking.{MarkedTree};
 ghost use Rattle.mtn_records.specs.declared.entry.NumberedEntry.{NumberedEntry};
 ghost use Rattle.mtn_roster.specs.declared.entry.Entry.{Entry};
@@ -9,6 +9,7 @@ ghost use Rattle.mtn_chains.specs.Chain.{ascend};
 ghost use Rattle.mtn_chains.specs.Parts.{IsKeyedEntryOf};
 ghost use Rattle.mtn_chains.specs.Spelled.{marks_of, Spells};
 
+use crate::order::are_from_one;
 use crate::sorted::sorted_of;
 use crate::spell::{node_marks, plain_entry};
 use mtn_base::NoMemory;
@@ -43,13 +44,6 @@ fn all_marks(alloc: Global, sorted: &[&NumberedEntry]) -> Result<Vec<NodeMarks>,
         marks.push(node_marks(alloc, entry)?)?;
     }
     Ok(marks)
-}
-
-/// Whether all numbers are above 0.
-fn are_from_one(entries: &[NumberedEntry]) -> bool
-    ensures { IsTrue result ↔ AllByRecursion (λ (e : NumberedEntry). 0 < e.number) entries.now }
-{
-    entries.iter().all(|entry| 0 < entry.number)
 }
 
 /// The tree of entries; Bad where it is not sane.

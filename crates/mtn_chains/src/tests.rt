@@ -1,7 +1,7 @@
 // Small trees by hand: a root at number 1 and files in it.
 use crate::copies::copy_entry;
 use crate::same::are_same;
-use crate::{DEEPEST, delta, number, rebuild};
+use crate::{DEEPEST, NumberError, delta, number, rebuild};
 use mtn_ancestry::{Pos, PosSet};
 use mtn_base::{Bytes, Comp, Id, List, NodeName, Path};
 use mtn_marking::{MarkedRoster, mark_one, mark_root};
@@ -93,10 +93,14 @@ fn tree_of(alloc: Global, files: &[(u8, u8)]) -> Result<Roster, Fail> {
     Ok(Roster::build(alloc, entries)?)
 }
 
-fn root_link(alloc: Global, files: &[(u8, u8)]) -> Result<Link, Fail> {
+fn root_tree(alloc: Global, files: &[(u8, u8)]) -> Result<MarkedRoster, Fail> {
     let new = tree_of(alloc, files)?;
     let marks = mark_root(alloc, &new, Pos(0))?;
-    let tree = MarkedRoster::new(new, marks);
+    Ok(MarkedRoster::new(new, marks))
+}
+
+fn root_link(alloc: Global, files: &[(u8, u8)]) -> Result<Link, Fail> {
+    let tree = root_tree(alloc, files)?;
     let known = Known::none(alloc).child(alloc, &tree)?;
     Ok(Link {
         tree,
@@ -303,6 +307,39 @@ fn numbered(alloc: Global, rows: &[Row]) -> Result<Numbered, Fail> {
     Ok(Numbered {
         entries: List::from_vec(entries),
     })
+}
+
+// Whether numbering a root, `f` and `g` over these lists is a clash.
+fn is_clash(alloc: Global, lists: &[&[Row]], next: u64) -> Result<bool, Fail> {
+    let tree = root_tree(alloc, &[(b'f', 1), (b'g', 1)])?;
+    if 100 < next || 100 < tree.roster().len() {
+        return Err(Fail::from("too many nodes"));
+    }
+    let mut known = Vec::new(alloc);
+    for rows in lists {
+        known.push(numbered(alloc, rows)?)?;
+    }
+    let answer = number(alloc, &tree, &known, next);
+    Ok(matches!(answer, Err(NumberError::Clash)))
+}
+
+const G: Row = Row(2, b"g", 1, b"g");
+
+// One number for two nodes in two lists, a next number that a node has, and 0 as the next.
+const CLASHES: [(&[&[Row]], u64); 3] = [
+    (&[&[ROOT, F], &[ROOT, G]], 3),
+    (&[&[ROOT, F]], 2),
+    (&[], 0),
+];
+
+#[test]
+fn numbers_that_clash(rt: HostRuntime) -> Result<(), Fail> {
+    let alloc = rt.alloc();
+    assert!(rt; !is_clash(alloc, &[&[ROOT, F], &[ROOT, F]], 3)?);
+    for (lists, next) in CLASHES {
+        assert!(rt; is_clash(alloc, lists, next)?, "next {next}");
+    }
+    Ok(())
 }
 
 // A delta in which no entry is changed.
