@@ -46,6 +46,7 @@ row "an end of options is dropped" 0 abc "$abc\n" - put_file --
 row "a store in memory begins empty" 1 '' "refused UnknownFile $abc\n" - get_file "$abc"
 row "and has no revision" 1 '' "refused UnknownRevision $abc\n" - get_revision "$abc"
 row "nor a manifest" 1 '' "refused UnknownRevision $abc\n" - get_manifest_of "$abc"
+row "nor a roster" 1 '' "refused UnknownRevision $abc\n" - get_roster "$abc"
 row "nor marks" 1 '' "refused UnknownRevision $abc\n" - get_content_changed "$abc" a/b
 row "nor a place for its root" 1 '' "refused UnknownRevision $abc\n" - get_corresponding_path "$abc" '' "$nothing"
 
@@ -59,7 +60,7 @@ for query in erase_ancestors toposort leaves roots graph; do
     row "$query of nothing" 0 'unread' '' - $query
 done
 
-for words in '' 'heads' 'put_file x' 'put_file --x' 'put_file --x=' 'put_file --resolve' 'put_file -- x' 'put_file -- --' 'get_file' 'get_revision' 'get_revision ABC' 'get_manifest_of' 'get_manifest_of ABC' "get_manifest_of $abc x" "get_content_changed $abc" "get_content_changed $abc a//b" "get_content_changed $abc ./a" "get_content_changed a $abc" "get_corresponding_path $abc a" "get_corresponding_path $abc a/.. $abc" "get_corresponding_path $abc a ABC" "get_revision $abc $abc" 'get_file ABC' "get_file $abc x" "get_file $abc --" "get_file --x= $abc" 'get_file --' 'PUT_FILE' '-- put_file' parents "parents $abc $abc" children ancestors descendents common_ancestors ancestry_difference 'toposort x' "leaves $abc" "roots $abc" "graph $abc"; do
+for words in '' 'heads' 'put_file x' 'put_file --x' 'put_file --x=' 'put_file --resolve' 'put_file -- x' 'put_file -- --' 'get_file' 'get_revision' 'get_revision ABC' 'get_manifest_of' 'get_manifest_of ABC' "get_manifest_of $abc x" 'get_roster' 'get_roster ABC' "get_roster $abc x" "get_content_changed $abc" "get_content_changed $abc a//b" "get_content_changed $abc ./a" "get_content_changed a $abc" "get_corresponding_path $abc a" "get_corresponding_path $abc a/.. $abc" "get_corresponding_path $abc a ABC" "get_revision $abc $abc" 'get_file ABC' "get_file $abc x" "get_file $abc --" "get_file --x= $abc" 'get_file --' 'PUT_FILE' '-- put_file' parents "parents $abc $abc" children ancestors descendents common_ancestors ancestry_difference 'toposort x' "leaves $abc" "roots $abc" "graph $abc"; do
     # shellcheck disable=SC2086
     row "outside the grammar: '$words'" 2 'never read' 'usage\n' - $words
 done
@@ -195,7 +196,7 @@ for round in $(seq 20); do verdict "killed, round $round" killed; done
 # ---- help, version and the walk in docs/USING.md
 
 ./mtn --help >"$work/help"
-verdict "help has status 0 and names each command" test $? = 0 -a "$(grep -c '^  put_file \|^  get_file \|^  get_revision \|^  get_manifest_of \|^  get_content_changed \|^  get_corresponding_path ' "$work/help")" = 6
+verdict "help has status 0 and names each command" test $? = 0 -a "$(grep -c '^  put_file \|^  get_file \|^  get_revision \|^  get_manifest_of \|^  get_roster \|^  get_content_changed \|^  get_corresponding_path ' "$work/help")" = 7
 verdict "and each query" test "$(grep -c '^  parents \|^  children \|^  ancestors \|^  descendents \|^  common_ancestors \|^  erase_ancestors \|^  toposort \|^  ancestry_difference \|^  leaves \|^  roots \|^  graph ' "$work/help")" = 11
 row "the version" 0 '' 'mtn 0.1.0 (Sonnavil)\n' --version
 row "help with more words is a store of that name" 2 '' 'usage\n' --help heads

@@ -47,13 +47,34 @@ def spell(stanzas):
 HEAD = [('format_version', '"1"')]
 
 
-def manifest(tree):
-    """`tree` maps paths to None for a directory and to a content otherwise."""
+def manifest(tree, attributes={}):
+    """`tree` maps paths to None for a directory and to a content otherwise, `attributes` to lists of keys and values."""
     stanzas = [HEAD]
     for path in sorted(tree, key=lambda p: [c.encode() for c in p.split('/')] if p else []):
         content = tree[path]
-        stanzas.append([('dir', quoted(path))] if content is None else [('file', quoted(path)), ('content', bracketed(content))])
+        stanza = [('dir', quoted(path))] if content is None else [('file', quoted(path)), ('content', bracketed(content))]
+        stanzas.append(stanza + [('attr', quoted(key), quoted(value)) for key, value in attributes.get(path, [])])
     return spell(stanzas)
+
+
+def marks(*ids):
+    return tuple(bracketed(of) for of in sorted(set(ids)))
+
+
+def roster(*nodes):
+    """The text of a roster, by nodes in the order of their paths: (path, content or None, (birth, path at birth), marks of
+    the path, marks of the content, [(key, value or None, marks), ..])."""
+    stanzas = [HEAD]
+    for path, content, birth, path_marks, content_marks, attributes in nodes:
+        stanza = [('dir', quoted(path))] if content is None else [('file', quoted(path)), ('content', bracketed(content))]
+        stanza += [('birth', bracketed(birth[0]), quoted(birth[1])), ('path_mark', *marks(*path_marks))]
+        if content is not None:
+            stanza.append(('content_mark', *marks(*content_marks)))
+        for key, value, key_marks in attributes:
+            stanza.append(('dormant_attr', quoted(key)) if value is None else ('attr', quoted(key), quoted(value)))
+            stanza.append(('attr_mark', quoted(key), *marks(*key_marks)))
+        stanzas.append(stanza)
+    return spell(stanzas).decode()
 
 
 def delete(path):
@@ -76,9 +97,17 @@ def patch(path, old, new):
     return [('patch', quoted(path)), ('from', bracketed(old)), ('to', bracketed(new))]
 
 
-def revision(tree, *edges):
+def set_attr(path, key, value):
+    return [('set', quoted(path)), ('attr', quoted(key)), ('value', quoted(value))]
+
+
+def clear(path, key):
+    return [('clear', quoted(path)), ('attr', quoted(key))]
+
+
+def revision(tree, *edges, attributes={}):
     """The text of a revision; an edge is its parent's id, empty for none, and its changes."""
-    stanzas = [HEAD, [('new_manifest', bracketed(sha(manifest(tree))))]]
+    stanzas = [HEAD, [('new_manifest', bracketed(sha(manifest(tree, attributes))))]]
     for parent, changes in edges:
         stanzas.append([('old_revision', bracketed(parent))])
         stanzas.extend(changes)
@@ -163,6 +192,9 @@ def lone_root(folder):
     store.answers('the manifest of a revision', ['get_manifest_of', one], 0, manifest({'': None, 'f': content}).decode())
     store.shows('what changed a content', ['get_content_changed', one, 'f'], [[('content_mark', bracketed(one))]])
     store.answers('a directory has no content', ['get_content_changed', one, ''], 1, 'refused NotAFile ""\n')
+    store.answers('the roster of the root', ['get_roster', root], 0, roster(('', None, (root, ''), [root], [], [])))
+    store.answers('the roster of its child', ['get_roster', one], 0, roster(('', None, (root, ''), [root], [], []), ('f', content, (one, 'f'), [one], [one], [])))
+    store.answers('the roster of a revision that is not held', ['get_roster', '5' * 40], 1, 'refused UnknownRevision ' + '5' * 40 + '\n')
     store.answers('no node is there', ['get_content_changed', one, 'g'], 1, 'refused NoSuchPath "g"\n')
     store.shows('a node in its own revision', ['get_corresponding_path', one, 'f', one], [[('file', '"f"')]])
     store.answers('a node that is not yet there', ['get_corresponding_path', one, 'f', root], 0, '')
@@ -226,6 +258,8 @@ def merges(folder):
     u = store.accepted('U adds', revision({**f(h), 'g': h}, (r0, [add_file('g', h)])))
     m = store.accepted('a merge of Q and U', revision({**f(h), 'g': h}, *two((q, [add_file('g', h)]), (u, []))))
     store.shows('a content from both sides', ['get_content_changed', m, 'f'], [[('content_mark', bracketed(of))] for of in sorted([r0, q])])
+    store.answers('its roster has the marks of both', ['get_roster', m], 0,
+                  roster(('', None, (r0, ''), [r0], [], []), ('f', h, (r0, 'f'), [r0], [r0, q], []), ('g', h, (u, 'g'), [u], [u], [])))
     edges = {r0: [], p: [r0], q: [p], u: [r0], m: [q, u]}
     store.says('the graph of a merge', ['graph'], graph_of(edges))
     store.says('parents of a merge', ['parents', m], sorted([q, u]))
@@ -250,14 +284,37 @@ def merges(folder):
     store.shows('a content that the merge alone made', ['get_content_changed', back, 'f'], [[('content_mark', bracketed(back))]])
 
 
+def attributes(folder):
+    store = Store(folder, 'attributes')
+    tree, key = {'': None}, lambda value: {'': [('k', value)]}
+    base = store.accepted('a root with an attribute', revision(tree, ('', [add_dir(''), set_attr('', 'k', 'v')]), attributes=key('v')))
+    live = [('k', 'v', [base])]
+    store.answers('an attribute has its mark', ['get_roster', base], 0, roster(('', None, (base, ''), [base], [], live)))
+    h = store.file(b'abc')
+    gone = store.accepted('it is cleared', revision(tree, (base, [clear('', 'k')])))
+    cleared = store.accepted('and cleared elsewhere', revision({**tree, 'x': h}, (base, [add_file('x', h), clear('', 'k')])))
+    store.answers('a cleared attribute keeps its marks', ['get_roster', gone], 0, roster(('', None, (base, ''), [base], [], [('k', None, [gone])])))
+    both = store.accepted('a merge of both', revision({**tree, 'x': h}, *two((gone, [add_file('x', h)]), (cleared, []))))
+    store.answers('a merge has the marks of both', ['get_roster', both], 0,
+                  roster(('', None, (base, ''), [base], [], [('k', None, [gone, cleared])]), ('x', h, (cleared, 'x'), [cleared], [cleared], [])))
+    moved = store.accepted('a node gets another name', revision({**tree, 'y': h}, (both, [rename('x', 'y')])))
+    store.answers('its birth stays, its path is marked', ['get_roster', moved], 0,
+                  roster(('', None, (base, ''), [base], [], [('k', None, [gone, cleared])]), ('y', h, (cleared, 'x'), [moved], [cleared], [])))
+    anew = store.accepted('it is set anew', revision({**tree, 'y': h}, (moved, [set_attr('', 'k', 'w')]), attributes=key('w')))
+    store.answers('a live attribute again', ['get_roster', anew], 0,
+                  roster(('', None, (base, ''), [base], [], [('k', 'w', [anew])]), ('y', h, (cleared, 'x'), [moved], [cleared], [])))
+
+
 def chains(folder):
     store = Store(folder, 'chains')
     contents = [store.file(b'text %d' % i) for i in range(18)]
     tree = {'': None, 'f': contents[0]}
-    last = store.accepted('the first of a line', revision(tree, ('', [add_dir(''), add_file('f', contents[0])])))
+    first = last = store.accepted('the first of a line', revision(tree, ('', [add_dir(''), add_file('f', contents[0])])))
     for i in range(1, 18):
         tree = {'': None, 'f': contents[i]}
         last = store.accepted('number %d of a line' % i, revision(tree, (last, [patch('f', contents[i - 1], contents[i])])))
+        if i in (15, 16, 17):
+            store.answers('the roster of number %d' % i, ['get_roster', last], 0, roster(('', None, (first, ''), [first], [], []), ('f', contents[i], (first, 'f'), [first], [last], [])))
     kinds = [store.body(5, at)[0] for at in range(18)]
     verdict('sixteen records are a chain, and the next is whole', kinds == [0] + [1] * 15 + [0, 1])
     verdict('the last of a chain stands fifteen above the whole', store.body(5, 15)[9] == 15)
@@ -268,7 +325,7 @@ def chains(folder):
 
 def main():
     with tempfile.TemporaryDirectory() as folder:
-        for test in (lone_root, faulty_texts, changes, merges, chains):
+        for test in (lone_root, faulty_texts, changes, merges, attributes, chains):
             test(folder)
     print('%d passed, %d failed' % (passed, failed))
     return 1 if failed else 0

@@ -14,6 +14,7 @@ Commands:
   get_file FILE        prints the bytes of the file with this id
   get_revision REV     prints the text of the revision with this id
   get_manifest_of REV  prints the manifest of its tree
+  get_roster REV       prints its tree with births and marks
   get_content_changed REV PATH
                        prints the ids of the revisions that last changed the
                        content of the file at PATH

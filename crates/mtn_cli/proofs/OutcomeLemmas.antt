@@ -3,12 +3,12 @@ use Rattle.std.proofs.Common.{◌≡◌, ℕ, List, Option, Some, None, sym, ap,
 use Rattle.mtn_model.specs.State.{State}
 use Rattle.mtn_log.specs.Lawful.{IsLawful}
 use Rattle.mtn_cli.specs.declared.command.Call.{Call}
-use Rattle.mtn_cli.specs.declared.command.Call.TheVariants.{PutFile, PutRevision, GetFile, GetRevision, GetManifestOf, GetContentChanged, GetCorrespondingPath, Ask, Graph}
+use Rattle.mtn_cli.specs.declared.command.Call.TheVariants.{PutFile, PutRevision, GetFile, GetRevision, GetManifestOf, GetRoster, GetContentChanged, GetCorrespondingPath, Ask, Graph}
 use Rattle.mtn_growth.specs.History.{Revision}
 use Rattle.mtn_log.proofs.Histories.{one_history}
 use Rattle.mtn_views.specs.Answers.{Answer}
-use Rattle.mtn_views.specs.Views.{IsContentChanged, corresponding_at}
-use Rattle.mtn_views.proofs.Unique.{one_content}
+use Rattle.mtn_views.specs.Views.{IsContentChanged, IsRoster, corresponding_at}
+use Rattle.mtn_views.proofs.Unique.{one_content, one_roster}
 use Rattle.mtn_cli.specs.Step.{Asked, Graphed, OfHistory, Outcome, Steps, Tells, SessionOf, done, id_lines, line_text, takes_payload, fed, told}
 use Rattle.std.specs.List.{flat_map}
 use Rattle.mtn_base.specs.declared.id.Id.{Id}
@@ -42,6 +42,7 @@ one_of_step f s PutRevision payload o p lawful is also = is.is ∙ one_decided f
 one_of_step f s (GetFile id) payload o p lawful is also = is ∙ sym also
 one_of_step f s (GetRevision id) payload o p lawful is also = is ∙ sym also
 one_of_step f s (GetManifestOf id) payload o p lawful is also = one_told f s _ o p (λ h a b x y. x ∙ sym y) is also
+one_of_step f s (GetRoster id) payload o p lawful is also = one_told f s (λ h answer. IsRoster h id answer) o p (λ h a b x y. one_roster h id a b x y) is also
 one_of_step f s (GetContentChanged id path) payload o p lawful is also = one_told f s (λ h answer. IsContentChanged h id path answer) o p (λ h a b x y. one_content h id path a b x y) is also
 one_of_step f s (GetCorrespondingPath id path other) payload o p lawful is also = one_told f s (λ h answer. answer ≡ corresponding_at h id path other) o p (λ h a b x y. x ∙ sym y) is also
 one_of_step f s (Ask query) payload o p lawful is also =

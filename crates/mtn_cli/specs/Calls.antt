@@ -8,7 +8,7 @@ use Rattle.mtn_base.specs.Hex.{read_id}
 use Rattle.mtn_base.specs.Paths.{pieces_of}
 use Rattle.mtn_base.specs.declared.id.Id.{Id}
 use Rattle.mtn_cli.specs.declared.command.Call.{Call}
-use Rattle.mtn_cli.specs.declared.command.Call.TheVariants.{PutFile, PutRevision, GetFile, GetRevision, GetManifestOf, GetContentChanged, GetCorrespondingPath, Ask, Graph}
+use Rattle.mtn_cli.specs.declared.command.Call.TheVariants.{PutFile, PutRevision, GetFile, GetRevision, GetManifestOf, GetRoster, GetContentChanged, GetCorrespondingPath, Ask, Graph}
 use Rattle.mtn_queries.specs.declared.query.Query.{Query}
 use Rattle.mtn_queries.specs.declared.query.Query.TheVariants.{Parents, Children, Ancestors, Descendents, CommonAncestors, EraseAncestors, Toposort, AncestryDifference, Leaves, Roots}
 use Rattle.mtn_cli.specs.declared.words.Command.{Command}
@@ -90,6 +90,7 @@ call_named name words =
     else if bytes_eq name (codes "get_file") then option_map GetFile (one_id words)
     else if bytes_eq name (codes "get_revision") then option_map GetRevision (one_id words)
     else if bytes_eq name (codes "get_manifest_of") then option_map GetManifestOf (one_id words)
+    else if bytes_eq name (codes "get_roster") then option_map GetRoster (one_id words)
     else if bytes_eq name (codes "get_content_changed") then content_changed words
     else if bytes_eq name (codes "get_corresponding_path") then corresponding_path words
     else if bytes_eq name (codes "graph") then option_map (λ _. Graph) (no_words words)

@@ -14,10 +14,10 @@ use Rattle.mtn_history.specs.Texts.{text_under}
 use Rattle.mtn_growth.specs.History.{Revision}
 use Rattle.mtn_log.specs.Lawful.{IsHistory}
 use Rattle.mtn_views.specs.Answers.{Answer}
-use Rattle.mtn_views.specs.Views.{manifest_at, corresponding_at, IsContentChanged}
+use Rattle.mtn_views.specs.Views.{manifest_at, corresponding_at, IsContentChanged, IsRoster}
 use Rattle.mtn_cli.specs.Calls.{call_of}
 use Rattle.mtn_cli.specs.declared.command.Call.{Call}
-use Rattle.mtn_cli.specs.declared.command.Call.TheVariants.{PutFile, PutRevision, GetFile, GetRevision, GetManifestOf, GetContentChanged, GetCorrespondingPath, Ask, Graph}
+use Rattle.mtn_cli.specs.declared.command.Call.TheVariants.{PutFile, PutRevision, GetFile, GetRevision, GetManifestOf, GetRoster, GetContentChanged, GetCorrespondingPath, Ask, Graph}
 use Rattle.mtn_queries.specs.Lines.{IsGraph}
 use Rattle.mtn_queries.specs.Queries.{IsAnswer, first_unknown, ids_of}
 use Rattle.mtn_queries.specs.declared.query.Line.{Line}
@@ -110,6 +110,7 @@ Steps f PutRevision payload s o = PutsRevision f payload s o
 Steps f (GetFile id) payload s o = o ≡ found (UnknownFile id) s (get s.files id.0)
 Steps f (GetRevision id) payload s o = o ≡ found (UnknownRevision id) s (text_under s.log id.0)
 Steps f (GetManifestOf id) payload s o = Tells f s (λ h answer. answer ≡ manifest_at h id) o
+Steps f (GetRoster id) payload s o = Tells f s (λ h answer. IsRoster h id answer) o
 Steps f (GetContentChanged id path) payload s o = Tells f s (λ h answer. IsContentChanged h id path answer) o
 Steps f (GetCorrespondingPath id path other) payload s o = Tells f s (λ h answer. answer ≡ corresponding_at h id path other) o
 Steps f (Ask query) payload s o = OfHistory f s (λ h. Asked h query s (first_unknown h (ids_of query)) o)
@@ -125,6 +126,7 @@ takes_payload PutRevision = true
 takes_payload (GetFile id) = false
 takes_payload (GetRevision id) = false
 takes_payload (GetManifestOf id) = false
+takes_payload (GetRoster id) = false
 takes_payload (GetContentChanged id path) = false
 takes_payload (GetCorrespondingPath id path other) = false
 takes_payload (Ask query) = false

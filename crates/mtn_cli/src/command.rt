@@ -22,6 +22,8 @@ pub enum Call {
     GetRevision { id: Id },
     /// `get_manifest_of ID`: answers the manifest of a revision's tree.
     GetManifestOf { id: Id },
+    /// `get_roster ID`: answers a revision's tree with its marks.
+    GetRoster { id: Id },
     /// `get_content_changed ID PATH`: answers the marks of a file's content.
     GetContentChanged { id: Id, path: Path },
     /// `get_corresponding_path ID PATH ID`: answers where the node at a path stands in another revision.
@@ -42,7 +44,7 @@ impl Call {
         match self {
             Call::PutFile | Call::PutRevision => true,
             Call::GetFile { .. } | Call::GetRevision { .. } => false,
-            Call::GetManifestOf { .. } => false,
+            Call::GetManifestOf { .. } | Call::GetRoster { .. } => false,
             Call::GetContentChanged { .. } => false,
             Call::GetCorrespondingPath { .. } => false,
             Call::Ask { .. } | Call::Graph => false,
@@ -85,6 +87,7 @@ fn call_named(alloc: Global, name: &str, words: &[Bytes]) -> Result<Call, WordsE
         "get_file" => one_id(words).map(|id| Call::GetFile { id }),
         "get_revision" => one_id(words).map(|id| Call::GetRevision { id }),
         "get_manifest_of" => one_id(words).map(|id| Call::GetManifestOf { id }),
+        "get_roster" => one_id(words).map(|id| Call::GetRoster { id }),
         "get_content_changed" => content_changed(alloc, words),
         "get_corresponding_path" => corresponding_path(alloc, words),
         "graph" => no_words(words).map(|()| Call::Graph),

@@ -19,6 +19,7 @@ mod get_corresponding_path;
 mod get_file;
 mod get_manifest_of;
 mod get_revision;
+mod get_roster;
 mod laws;
 mod payload;
 mod put_file;

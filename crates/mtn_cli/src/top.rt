@@ -17,6 +17,7 @@ use crate::get_corresponding_path::get_corresponding_path;
 use crate::get_file::get_file;
 use crate::get_manifest_of::get_manifest_of;
 use crate::get_revision::get_revision;
+use crate::get_roster::get_roster;
 use crate::payload::{ReadStop, read_payload};
 use crate::put_file::put_file;
 use crate::put_revision::put_revision;
@@ -48,6 +49,7 @@ fn on_draft<R: Threads + Sync, I: Ident, K: Keeper>(
         Call::GetFile { id } => get_file(alloc, ident, *id, payload, draft),
         Call::GetRevision { id } => get_revision(alloc, ident, *id, payload, draft),
         Call::GetManifestOf { id } => get_manifest_of(ident, *id, payload, draft),
+        Call::GetRoster { id } => get_roster(ident, *id, payload, draft),
         Call::GetContentChanged { id, path } => {
             get_content_changed(ident, *id, path, payload, draft)
         }

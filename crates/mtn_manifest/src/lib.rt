@@ -17,9 +17,10 @@ ghost use Rattle.mtn_manifest.specs.Manifest.{node_stanza, manifest_of, text_at,
 
 mod printing;
 
-use crate::printing::{write_head, write_node};
+use crate::printing::write_node;
 use mtn_base::{Bytes, NoMemory};
 use mtn_roster::{Entry, Roster, Slot};
+pub use printing::{write_body, write_head};
 use std::alloc::Global;
 
 /// Two texts as one.
@@ -32,8 +33,14 @@ fn joined(alloc: Global, front: &[u8], end: &[u8]) -> Result<Bytes, NoMemory>
     Ok(Bytes::from_vec(text))
 }
 
-/// Makes the text of the path of what hangs there, by what is kept of the nodes before.
-fn put_text(kept: &[Bytes], slot: &Slot, above: usize, text: &mut Vec<u8>) -> Result<(), NoMemory>
+/// Makes the text of the path of what hangs there, by what is kept of the nodes before: for a caller that walks
+/// over a tree as `write` does.
+pub fn put_text(
+    kept: &[Bytes],
+    slot: &Slot,
+    above: usize,
+    text: &mut Vec<u8>,
+) -> Result<(), NoMemory>
     requires { IsMet kept.now slot.now above }
     ensures { OnOk result (text.new.items ≡ text_at kept.now slot.now above) }
 {
@@ -46,7 +53,7 @@ fn put_text(kept: &[Bytes], slot: &Slot, above: usize, text: &mut Vec<u8>) -> Re
 }
 
 /// What is kept of a node at a path for its children: what stands before their components. A file has none.
-fn kept_of(alloc: Global, text: &[u8], entry: &Entry) -> Result<Bytes, NoMemory>
+pub fn kept_of(alloc: Global, text: &[u8], entry: &Entry) -> Result<Bytes, NoMemory>
     ensures { IfOk result (λ kept. kept ≡ kept_at text.now entry.now) }
 {
     if entry.body.is_dir() && !entry.slot.is_root() {

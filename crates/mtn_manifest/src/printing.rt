@@ -34,8 +34,13 @@ fn column_of(entry: &Entry) -> usize
     }
 }
 
-/// Appends the lines of a body at a path.
-fn write_body(column: usize, path: &[u8], body: &Body, out: &mut Vec<u8>) -> Result<(), NoMemory>
+/// Appends the lines of a body at a path, whose symbols end at a column. An error leaves what was there in front.
+pub fn write_body(
+    column: usize,
+    path: &[u8],
+    body: &Body,
+    out: &mut Vec<u8>,
+) -> Result<(), NoMemory>
     requires { longest (body_lines path.now body.now) ≤ column }
     ensures ok { OnOk result (out.new.items ≡ out.old.items ++ flat_map (line_text column) (body_lines path.now body.now)) }
     ensures kept { IsFront out.old.items out.new.items }
@@ -85,7 +90,7 @@ pub fn write_node(path: &[u8], entry: &Entry, out: &mut Vec<u8>) -> Result<(), N
     Ok(())
 }
 
-/// Appends the first stanza.
+/// Appends the first stanza. An error leaves what was there in front.
 pub fn write_head(out: &mut Vec<u8>) -> Result<(), NoMemory>
     ensures ok { OnOk result (out.new.items ≡ out.old.items ++ spelling (head_stanza ∷ [])) }
     ensures kept { IsFront out.old.items out.new.items }

@@ -18,6 +18,10 @@ const CHILD: &str =
 const BOTH: &str =
     "format_version \"1\"\n\nnew_manifest [000000000000000000000000000000000000005b]\n\nold_revision []\n\nadd_dir \"\"\n\nadd_file \"f\"\n content [0000000000000000000000000000000000000003]\n";
 
+/// The roster of the child.
+const ROSTER: &str =
+    "format_version \"1\"\n\n      dir \"\"\n    birth [0000000000000000000000000000000000000069] \"\"\npath_mark [0000000000000000000000000000000000000069]\n\n        file \"f\"\n     content [0000000000000000000000000000000000000003]\n       birth [00000000000000000000000000000000000000c7] \"f\"\n   path_mark [00000000000000000000000000000000000000c7]\ncontent_mark [00000000000000000000000000000000000000c7]\n";
+
 /// A lone root that names a manifest of 26 bytes.
 const OTHER: &str =
     "format_version \"1\"\n\nnew_manifest [000000000000000000000000000000000000001a]\n\nold_revision []\n\nadd_dir \"\"\n";
@@ -88,6 +92,64 @@ fn a_root_and_its_child_are_accepted(rt: HostRuntime) -> Result<(), Fail> {
                 "",
                 Status::Ok,
                 CHILD,
+            ),
+            (
+                "get_manifest_of 0000000000000000000000000000000000000069",
+                "",
+                Status::Ok,
+                "format_version \"1\"\n\ndir \"\"\n",
+            ),
+            (
+                "get_roster 00000000000000000000000000000000000000c7",
+                "",
+                Status::Ok,
+                ROSTER,
+            ),
+            (
+                "get_content_changed 00000000000000000000000000000000000000c7 f",
+                "",
+                Status::Ok,
+                "content_mark [00000000000000000000000000000000000000c7]\n",
+            ),
+            (
+                "get_corresponding_path 00000000000000000000000000000000000000c7 f 0000000000000000000000000000000000000069",
+                "",
+                Status::Ok,
+                "",
+            ),
+        ],
+    )?;
+    assert!(rt; good);
+    Ok(())
+}
+
+#[test]
+fn a_root_with_a_file_is_accepted(rt: HostRuntime) -> Result<(), Fail> {
+    let alloc = rt.alloc();
+    let mut keeper = store(alloc, &[])?;
+    let good = session(
+        &rt,
+        alloc,
+        &Toy,
+        &mut keeper,
+        &[
+            (
+                "put_file",
+                "abc",
+                Status::Ok,
+                "0000000000000000000000000000000000000003\n",
+            ),
+            (
+                "put_revision",
+                BOTH,
+                Status::Ok,
+                "00000000000000000000000000000000000000ab\n",
+            ),
+            (
+                "get_content_changed 00000000000000000000000000000000000000ab f",
+                "",
+                Status::Ok,
+                "content_mark [00000000000000000000000000000000000000ab]\n",
             ),
         ],
     )?;

@@ -1,4 +1,4 @@
-pub mod Sorting
 pub mod Marking
+pub mod Rostered
 pub mod Views
 pub mod Unique

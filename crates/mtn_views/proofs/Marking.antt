@@ -10,6 +10,8 @@ use Rattle.mtn_growth.specs.History.{Revision, tree_at, revision_tree, IsPlaceOf
 use Rattle.mtn_growth.specs.Scalars.{Scalar, Value, IsMark, content_of, value_at, value_of, value_in}
 use Rattle.mtn_growth.specs.Scalars.Scalar.{ContentOf}
 use Rattle.mtn_growth.specs.Scalars.Value.{ContentValue}
+use Rattle.mtn_ids.specs.Ids.{by_id}
+use Rattle.mtn_ids.proofs.Sorting.{contains_nil, contains_head, contains_later, contains_cases}
 use Rattle.mtn_log.proofs.Places.{inside}
 use Rattle.mtn_marking.specs.Graph.{AreMarksOf, IsMarkedAt}
 use Rattle.mtn_marking.specs.Marking.{MarkedTree, marking_of, marks_in}
@@ -22,11 +24,10 @@ use Rattle.mtn_roster.specs.Tree.{Tree, IsSane, entry_of, node_at}
 use Rattle.mtn_roster.proofs.Forest.{node_there}
 use Rattle.mtn_roster.proofs.Ordered.{forest_of}
 use Rattle.mtn_views.specs.Marks.{AreContentMarks, AreMarksFor}
-use Rattle.mtn_views.specs.Views.{AreMarkIds, by_id}
-use Rattle.mtn_views.proofs.Sorting.{contains_nil, contains_head, contains_later, contains_cases}
+use Rattle.mtn_views.specs.Views.{AreMarkIds}
 
 -- two revisions at one place are one
-one_id : (h : List Revision) (x y : Id) (a : ℕ) → IsPlaceOf h x a → IsPlaceOf h y a → x ≡ y
+pub one_id : (h : List Revision) (x y : Id) (a : ℕ) → IsPlaceOf h x a → IsPlaceOf h y a → x ≡ y
 one_id h x y a p q = let same : p.0 ≡ q.0 = let t = sym p.1 ∙ q.1 in cc in sym p.2 ∙ ap (λ (v : Revision). v.id) same ∙ q.2
 
 module _ (h : List Revision) where
@@ -69,6 +70,11 @@ mark_there h s r x m = by (slice_get h x) refl (event_value (mark_event m))
     by : (o : Option Revision) → slice_get h x ≡ o → (v : Value) × (value_at h s x ≡ Some v) → x < length h
     by (Some q) e is = inside h x q e
     by None e is = absurd (let none : value_at h s x ≡ None = ap (λ (q : Option Revision). value_in (revision_tree q) s) e in let v : value_at h s x ≡ Some is.0 = is.1 in cc)
+
+-- a scalar that is not there has no marks
+pub never_marked : {parents : ℕ → List ℕ} {value : ℕ → Option Value} {r x : ℕ} → IsMarkOf Value parents value r x → value r ≡ None → ⊥
+never_marked (here m) none = let v = event_value m in absurd (let is = sym none ∙ v.1 in cc)
+never_marked (onward quiet c same m) none = never_marked m (same ∙ none)
 
 none_some : (o : Option Value) → IsSome o → o ≡ None → ⊥
 none_some None some none = cc

@@ -2,17 +2,19 @@
 use Rattle.std.proofs.Common.{◌≡◌, ℕ, List, Option, Some, None, Ok, sym, ap, ◌∙◌}
 use Rattle.mtn_base.specs.declared.id.Id.{Id}
 use Rattle.mtn_base.specs.declared.name.NodeName.{NodeName}
+use Rattle.mtn_basic_io.specs.Spelling.{spelling}
 use Rattle.mtn_growth.specs.History.{Revision, tree_at}
 use Rattle.mtn_growth.specs.Scalars.{Scalar}
 use Rattle.mtn_growth.specs.Scalars.Scalar.{ContentOf}
+use Rattle.mtn_ids.proofs.Sorting.{one_list_of}
 use Rattle.mtn_log.specs.Making.{place_of}
 use Rattle.mtn_roster.specs.declared.entry.Body.{Body}
 use Rattle.mtn_roster.specs.declared.entry.Body.TheVariants.{Dir, File}
 use Rattle.mtn_roster.specs.declared.entry.Entry.{Entry}
 use Rattle.mtn_roster.specs.Tree.{node_at}
+use Rattle.mtn_roster_text.specs.RosterText.{roster_of}
 use Rattle.mtn_views.specs.Answers.{Answer}
-use Rattle.mtn_views.specs.Views.{AreMarkIds, IsContentAt, IsContentChanged, IsContentIn, IsContentOf, marks_text}
-use Rattle.mtn_views.proofs.Sorting.{one_list_of}
+use Rattle.mtn_views.specs.Views.{AreMarkIds, IsContentAt, IsContentChanged, IsContentIn, IsContentOf, IsRoster, IsRosterIn, marks_text}
 
 -- the ids of a scalar's marks are one list
 pub one_ids : (h : List Revision) (r : ℕ) (s : Scalar) (a b : List Id) → AreMarkIds h r s a → AreMarkIds h r s b → a ≡ b
@@ -33,3 +35,14 @@ module _ (h : List Revision) (id : Id) (path : List (List ℕ)) (a b : Answer) w
 
   pub one_content : IsContentChanged h id path a → IsContentChanged h id path b → a ≡ b
   one_content x y = of_place (place_of h id) x y
+
+module _ (h : List Revision) (id : Id) (a b : Answer) where
+  -- the ids of all marks are one function
+  of_revision : (o : Option ℕ) → IsRosterIn h id o a → IsRosterIn h id o b → a ≡ b
+  of_revision None x y = x ∙ sym y
+  of_revision (Some r) x y =
+      let same : x.0 ≡ y.0 = λ i s. one_ids h r s (x.0 s) (y.0 s) (x.1 s) (y.1 s) i in
+      x.2 ∙ ap (λ (ids : Scalar → List Id). Ok (spelling (roster_of (tree_at h r) ids))) same ∙ sym y.2
+
+  pub one_roster : IsRoster h id a → IsRoster h id b → a ≡ b
+  one_roster x y = of_revision (place_of h id) x y

@@ -22,6 +22,7 @@ use Rattle.mtn_history.proofs.Founding.{counted}
 use Rattle.mtn_model.specs.State.{State}
 use Rattle.mtn_model.specs.Table.{Contents}
 use Rattle.mtn_ports.specs.Kept.{with_all}
+use Rattle.mtn_ids.specs.Ids.{by_id}
 use Rattle.mtn_log.specs.Making.{place_of}
 use Rattle.mtn_roster.specs.declared.entry.Body.{Body}
 use Rattle.mtn_roster.specs.declared.entry.Body.TheVariants.{Dir, File}
@@ -29,7 +30,7 @@ use Rattle.mtn_roster.specs.declared.entry.Entry.{Entry}
 use Rattle.mtn_roster.specs.Tree.{Tree, node_at}
 use Rattle.mtn_views.specs.Answers.{Answer, Gives, over}
 use Rattle.mtn_views.specs.Marks.{AreContentMarks, AreMarksFor, GivesMarks}
-use Rattle.mtn_views.specs.Views.{AreMarkIds, IsContentAt, IsContentChanged, IsContentIn, IsContentOf, by_id, corresponding_at, marks_text, node_text}
+use Rattle.mtn_views.specs.Views.{AreMarkIds, IsContentAt, IsContentChanged, IsContentIn, IsContentOf, corresponding_at, marks_text, node_text}
 use Rattle.mtn_views.proofs.Marking.{are_mark_ids, mark_there}
 
 -- a revision that was not found

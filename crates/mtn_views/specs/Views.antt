@@ -1,10 +1,8 @@
--- What is asked of one revision. The questions are those of Monotone's manual (automate get_manifest_of, get_content_changed,
+-- What is asked of one revision. The questions are those of Monotone's manual (automate get_manifest_of, get_roster, get_content_changed,
 -- get_corresponding_path); that a directory has a path in another revision too is our choice.
 use Rattle.std.specs.Prelude.{◌≡◌, ◌↔◌, ℕ, List, [], ◌∷◌, map, codes, Option, Some, None, Ok, Err, Contains}
 use Rattle.std.specs.Option.{option_map_or}
 use Rattle.std.specs.List.Sorted.{IsStrictlySortedBy}
-use Rattle.std.specs.declared.cmp.Ordering.{Ordering}
-use Rattle.mtn_base.specs.Names.{bytes_cmp}
 use Rattle.mtn_base.specs.Paths.{path_text}
 use Rattle.mtn_base.specs.declared.id.Id.{Id}
 use Rattle.mtn_base.specs.declared.name.NodeName.{NodeName}
@@ -14,26 +12,36 @@ use Rattle.mtn_basic_io.specs.declared.stanza.Value.TheVariants.{Text, Hex}
 use Rattle.mtn_growth.specs.History.{Revision, tree_at, IsPlaceOf}
 use Rattle.mtn_growth.specs.Scalars.{Scalar, IsMark}
 use Rattle.mtn_growth.specs.Scalars.Scalar.{ContentOf}
+use Rattle.mtn_ids.specs.Ids.{by_id}
 use Rattle.mtn_log.specs.Making.{place_of}
 use Rattle.mtn_manifest.specs.Manifest.{line_of, manifest_of}
 use Rattle.mtn_roster.specs.declared.entry.Body.{Body}
 use Rattle.mtn_roster.specs.declared.entry.Body.TheVariants.{Dir, File}
 use Rattle.mtn_roster.specs.declared.entry.Entry.{Entry}
 use Rattle.mtn_roster.specs.Tree.{Tree, entry_of, node_at, path_of}
+use Rattle.mtn_roster_text.specs.RosterText.{roster_of}
 use Rattle.mtn_views.specs.Answers.{Answer, over}
 
 -- the manifest of a revision's tree
 abbrev pub manifest_at : List Revision → Id → Answer
 manifest_at h id = over (UnknownRevision id) (place_of h id) (λ r. Ok (spelling (manifest_of (tree_at h r))))
 
--- the order of ids: byte by byte
-abbrev pub by_id : Id → Id → Ordering
-by_id x y = bytes_cmp x.0 y.0
-
 -- the ids of a scalar's marks in the revision at r: exactly those of the whole history, each once, ascending
 pub record AreMarkIds (h : List Revision) (r : ℕ) (s : Scalar) (ids : List Id) : Type 0 where
   pub ascending : IsStrictlySortedBy by_id ids
   pub exact : (x : Id) → Contains ids x ↔ ((m : ℕ) × IsPlaceOf h x m × IsMark h s r m)
+
+-- the roster of the revision at r, with the ids of the marks of each scalar
+abbrev pub IsRosterText : List Revision → ℕ → Answer → Type 0
+IsRosterText h r answer = (ids : Scalar → List Id) × ((s : Scalar) → AreMarkIds h r s (ids s)) × (answer ≡ Ok (spelling (roster_of (tree_at h r) ids)))
+
+abbrev pub IsRosterIn : List Revision → Id → Option ℕ → Answer → Type 0
+IsRosterIn h id None answer = answer ≡ Err (UnknownRevision id)
+IsRosterIn h id (Some r) answer = IsRosterText h r answer
+
+-- the roster of a revision
+abbrev pub IsRoster : List Revision → Id → Answer → Type 0
+IsRoster h id answer = IsRosterIn h id (place_of h id) answer
 
 -- `content_mark` with an id
 abbrev pub mark_stanza : Id → List LineText

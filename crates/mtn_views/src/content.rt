@@ -1,7 +1,5 @@
 // The marks of a file's content.
-ghost use Rattle.std.specs.Prelude.{◌≡◌, ◌≢◌, ◌↔◌, List, ℕ, Contains, Err, IfOk, IfErr, IfSome, option_copied};
-ghost use Rattle.std.specs.List.Sorted.{IsStrictlySortedBy};
-ghost use Rattle.mtn_base.specs.declared.id.Id.{Id};
+ghost use Rattle.std.specs.Prelude.{◌≡◌, ◌≢◌, List, ℕ, Err, IfOk, IfErr, IfSome, option_copied};
 ghost use Rattle.mtn_growth.specs.History.{Revision};
 ghost use Rattle.mtn_growth.specs.Scalars.Scalar.{ContentOf};
 ghost use Rattle.mtn_history.specs.Damage.{IsDamage};
@@ -15,12 +13,13 @@ ghost use Rattle.mtn_ports.specs.Causes.{Rose};
 ghost use Rattle.mtn_ports.specs.Kept.{Stays, with_all};
 ghost use Rattle.mtn_views.specs.Answers.{Gives};
 ghost use Rattle.mtn_views.specs.Marks.{GivesMarks};
-ghost use Rattle.mtn_views.specs.Views.{IsContentChanged, by_id, mark_stanza as stanza_of_mark, marks_text as text_of_marks};
+ghost use Rattle.mtn_views.specs.Views.{IsContentChanged, mark_stanza as stanza_of_mark, marks_text as text_of_marks};
 
 use mtn_ancestry::PosSet;
 use mtn_base::{Bytes, Cause, Id, NoMemory, NodeName, Path};
 use mtn_basic_io::{Line, Stanza, Value};
 use mtn_history::{Draft, HistoryError, StoreError};
+use mtn_ids::put_in_order;
 use mtn_marking::{MarkMap, MarkedRoster};
 use mtn_ports::Keeper;
 use std::alloc::Global;
@@ -57,16 +56,6 @@ fn content_marks(alloc: Global, roster: &MarkedRoster, path: &Path) -> Result<Po
             Err(HistoryError::Refused(Cause::NotAFile { path }))
         }
     }
-}
-
-// Ids in their order, each once.
-pub fn sorted(mut ids: Vec<Id>) -> Vec<Id>
-    ensures ascending { IsStrictlySortedBy by_id result.items }
-    ensures same { (x : Id) → Contains result.items x ↔ Contains ids.items x }
-{
-    ids.sort_unstable();
-    ids.dedup();
-    ids
 }
 
 fn mark_stanza(alloc: Global, id: Id) -> Result<Stanza, NoMemory>
@@ -106,6 +95,7 @@ pub fn get_content_changed<K: Keeper>(
     let (at, roster) = draft.roster_of(id)?;
     let alloc = draft.pending.alloc;
     let marks = content_marks(alloc, &roster, path)?;
-    let ids = draft.ids_at(at, marks.as_slice())?;
-    Ok(marks_text(alloc, &sorted(ids))?)
+    let mut ids = draft.ids_at(at, marks.as_slice())?;
+    put_in_order(&mut ids);
+    Ok(marks_text(alloc, &ids)?)
 }

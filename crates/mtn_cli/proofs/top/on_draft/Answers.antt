@@ -16,6 +16,9 @@ returns-in-GetRevision-clause-drafts g c = rw c.in-GetRevision.is c.get_revision
 pub returns-in-GetManifestOf-clause-drafts : goal.returns-in-GetManifestOf-clause-drafts
 returns-in-GetManifestOf-clause-drafts g c = rw c.in-GetManifestOf.is c.get_manifest_of.ensures.drafts
 
+pub returns-in-GetRoster-clause-drafts : goal.returns-in-GetRoster-clause-drafts
+returns-in-GetRoster-clause-drafts g c = rw c.in-GetRoster.is c.get_roster.ensures.drafts
+
 pub returns-in-GetContentChanged-clause-drafts : goal.returns-in-GetContentChanged-clause-drafts
 returns-in-GetContentChanged-clause-drafts g c = rw c.in-GetContentChanged.is c.get_content_changed.ensures.drafts
 

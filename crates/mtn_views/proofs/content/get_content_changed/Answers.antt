@@ -8,6 +8,8 @@ use Rattle.mtn_model.specs.State.{State}
 use Rattle.mtn_history.specs.declared.pending.Pending.{Pending}
 use Rattle.mtn_history.specs.Stands.{IsFounded}
 use Rattle.mtn_history.proofs.Founding.{back}
+use Rattle.mtn_ids.specs.Ids.{in_id_order}
+use Rattle.mtn_ids.proofs.Sorting.{in_order_ascends, in_order_same}
 use Rattle.mtn_views.specs.Answers.{Gives}
 use Rattle.mtn_views.specs.Views.{IsContentChanged, IsContentIn, marks_text}
 use Rattle.mtn_views.proofs.Views.{not_found, no_content_marks, content_changed, marks_held, are_held, sound_error, not_failed, held_damage}
@@ -63,7 +65,7 @@ returns-clause-found g c f s d =
     let told = g.K.Keeper.contents c.ids_at.new.self.keeper.now in
     let e = back f (g.K.Keeper.contents c.roster_of.new.self.keeper.now) told c.args.draft.now.pending s c.in_ok-ids.ensures.stays.same d in
     let found = c.in_ok-at.ensures.found f s e in
-    content_changed h c.args.id c.args.path.now c.in_ok-at.at found.0 c.in_ok-marks.marks c.in_ok-ids.ids.items c.sorted.result.items
+    content_changed h c.args.id c.args.path.now c.in_ok-at.at found.0 c.in_ok-marks.marks c.in_ok-ids.ids.items (in_id_order c.in_ok-ids.ids.items)
     (subst (λ (l : List ℕ). AllZip (λ a x. IsPlaceOf h x a) l c.in_ok-ids.ids.items) c.as_slice.ensures.value
     ((subst (λ (q : Pending). (b : IsFounded f told q s) → AllZip (λ a x. IsPlaceOf b.stands.history x a) c.as_slice.result.now c.in_ok-ids.ids.items) c.in_ok-at.ensures.pending (c.in_ok-ids.ensures.found f s)) d))
-    c.sorted.ensures.ascending c.sorted.ensures.same c.in_ok-marks_text.field-0 (c.in_ok-marks_text.ensures ∙ ap marks_text c.deref.ensures.value) (c.in_ok-marks.ensures.found h c.in_ok-at.at found.1)
+    (in_order_ascends c.in_ok-ids.ids.items) (in_order_same c.in_ok-ids.ids.items) c.in_ok-marks_text.field-0 (c.in_ok-marks_text.ensures ∙ ap marks_text (c.deref.ensures.value ∙ c.put_in_order.ensures)) (c.in_ok-marks.ensures.found h c.in_ok-at.at found.1)

@@ -1,12 +1,12 @@
 -- Ids in their order.
-use Rattle.std.specs.Prelude.{Contains}
+use Rattle.std.specs.Prelude.{Contains, map}
 use Rattle.std.specs.Cmp.{IsTotalOrder, IsEquivalence}
 use Rattle.std.specs.List.{AllByRecursion}
 use Rattle.std.specs.List.Retain.{IsFiltered, DiffersFromLast}
 use Rattle.std.specs.List.Sorted.{IsStrictlySortedBy, IsSorted, IsPermutation}
 use Rattle.std.specs.Ordering.{ordering_reverse, eq_by_cmp}
 use Rattle.std.specs.declared.cmp.Ordering.{Ordering}
-use Rattle.std.specs.declared.cmp.Ordering.TheVariants.{Less, Greater}
+use Rattle.std.specs.declared.cmp.Ordering.TheVariants.{Less, Equal, Greater}
 use Rattle.std.proofs.Common.{◌≡◌, ◌↔◌, ◌<◌, ◌⊎◌, inl, inr, ℕ, zero, suc, List, [], ◌∷◌, Bool, true, length, get_or, refl, sym, ap, ◌∙◌, subst, ⊎_elim, arith}
 use Rattle.std.proofs.lemmas.Cmp.{nat_list_cmp_total, nat_list_eq_equiv, on_equiv, on_total}
 use Rattle.std.proofs.lemmas.Map.Keys.{sorted_head, sorted_tail}
@@ -16,8 +16,13 @@ use Rattle.std.proofs.lemmas.List.Filters.{dedup_is}
 use Rattle.std.proofs.lemmas.List.Sorted.{Contains-permutation, IsPermutation-sym}
 use Rattle.mtn_base.specs.Names.{same_id}
 use Rattle.mtn_base.specs.declared.id.Id.{Id}
+use Rattle.mtn_roster.specs.Tree.{placed}
+use Rattle.mtn_roster.proofs.Finding.{Split}
+use Rattle.mtn_roster.proofs.Looking.{exact_bytes}
+use Rattle.mtn_roster.proofs.Members.{taken, place_of, split_cons}
+use Rattle.mtn_roster.proofs.Sorting.{sorted_strictly, ordered-rises, of_ordered, placed_self, placed_keeps}
 use Rattle.mtn_roster.proofs.Tests.{same_id-is}
-use Rattle.mtn_views.specs.Views.{by_id}
+use Rattle.mtn_ids.specs.Ids.{by_id, in_id_order}
 
 pub contains_nil : {X : Type 0} {x : X} → Contains [] x → ⊥
 contains_nil c = omega (arith, c.1)
@@ -58,7 +63,7 @@ one_list {X} order way (x ∷ xs) (y ∷ ys) up also to from =
     (λ z c. ⊎_elim (λ e. absurd (let l : order y y ≡ Less = ap (order y) (sym heads ∙ e) ∙ above_y z c in way y y l l)) (λ d. d) (contains_cases x xs z (from z (contains_later y ys c)))) in
     cc
 
-by_id_total : IsTotalOrder by_id
+pub by_id_total : IsTotalOrder by_id
 by_id_total = on_total (λ (i : Id). i.0) nat_list_cmp_total
 
 one_way_of : {X : Type 0} {order : X → X → Ordering} → IsTotalOrder order → OneWay order
@@ -81,3 +86,48 @@ sorted_once order same total laws ties exact xs sorted ys moved up kept =
 
 pub ids_once : (ids sorted once : List Id) → IsPermutation ids sorted → IsSorted by_id sorted → IsFiltered (DiffersFromLast same_id) [] sorted once → IsStrictlySortedBy by_id once × ((x : Id) → Contains once x ↔ Contains ids x)
 ids_once ids sorted once moved up kept = sorted_once by_id same_id by_id_total (on_equiv (λ (i : Id). i.0) nat_list_eq_equiv) (λ x y. sym (is_eq-slice_cmp x.0 y.0)) same_id-is ids sorted once moved up kept
+
+-- a list with an element where another has one
+pub contains_split : {X : Type 0} (xs : List X) (x : X) → Contains xs x → Split xs x
+contains_split xs x c = let t = taken xs c.0 c.1 in subst (Split xs) (sym (t.3 x) ∙ c.2) t.2
+
+pub split_contains : {X : Type 0} (xs : List X) (x : X) → Split xs x → Contains xs x
+split_contains xs x s = let p = place_of xs x s in (p.0, p.1, p.2 x)
+
+exact_ids : (a b : Id) → by_id a b ≡ Equal → a ≡ b
+exact_ids a b h = λ i. record { 0 = exact_bytes a.0 b.0 h i }
+
+as_it_is : (xs : List Id) → map (λ (i : Id). i) xs ≡ xs
+as_it_is [] = refl
+as_it_is (x ∷ xs) = λ i. x ∷ as_it_is xs i
+
+pub in_order_ascends : (xs : List Id) → IsStrictlySortedBy by_id (in_id_order xs)
+in_order_ascends xs =
+    subst (IsStrictlySortedBy by_id) (as_it_is (in_id_order xs)) (sorted_strictly by_id (map (λ (i : Id). i) (in_id_order xs)) (ordered-rises by_id (λ (i : Id). i) by_id_total xs))
+
+-- an id stays, though another like it takes its place
+in_placed : (a : Id) (xs : List Id) (x : Id) → Split xs x → Split (placed by_id (λ i. i) a xs) x
+in_placed a xs x s =
+    elim (by_id a x) as (λ r. by_id a x ≡ r → Split (placed by_id (λ i. i) a xs) x) [
+      | Less ↦ λ e. placed_keeps by_id (λ (i : Id). i) by_id_total a xs x s (λ q. let t : Less ≡ Equal = sym e ∙ q in cc)
+      | Equal ↦ λ e. subst (Split (placed by_id (λ i. i) a xs)) (exact_ids a x e) (placed_self by_id (λ (i : Id). i) by_id_total a xs)
+      | Greater ↦ λ e. placed_keeps by_id (λ (i : Id). i) by_id_total a xs x s (λ q. let t : Greater ≡ Equal = sym e ∙ q in cc)
+    ] refl
+
+kept_in_order : (xs : List Id) (x : Id) → Split xs x → Split (in_id_order xs) x
+kept_in_order [] x s = s
+kept_in_order (a ∷ xs) x s = elim (split_cons a xs x s) [
+  | inl e ↦ subst (Split (placed by_id (λ i. i) a (in_id_order xs))) e (placed_self by_id (λ (i : Id). i) by_id_total a (in_id_order xs))
+  | inr u ↦ in_placed a (in_id_order xs) x (kept_in_order xs x u)
+]
+
+pub in_order_same : (xs : List Id) (x : Id) → Contains (in_id_order xs) x ↔ Contains xs x
+in_order_same xs x = (
+  λ c. split_contains xs x (of_ordered by_id (λ (i : Id). i) by_id_total xs x (contains_split (in_id_order xs) x c)),
+  λ c. split_contains (in_id_order xs) x (kept_in_order xs x (contains_split xs x c)),
+)
+
+pub put_is : (ids sorted once : List Id) → IsPermutation ids sorted → IsSorted by_id sorted → IsFiltered (DiffersFromLast same_id) [] sorted once → once ≡ in_id_order ids
+put_is ids sorted once moved up kept =
+    let o = ids_once ids sorted once moved up kept in
+    one_list_of once (in_id_order ids) o.0 (in_order_ascends ids) (λ x c. (in_order_same ids x).1 ((o.1 x).0 c)) (λ x c. (o.1 x).1 ((in_order_same ids x).0 c))

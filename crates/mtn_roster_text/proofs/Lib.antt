@@ -1,0 +1,5 @@
+pub mod Tables
+pub mod Columns
+pub mod Lines
+pub mod Walked
+pub mod AllMarks

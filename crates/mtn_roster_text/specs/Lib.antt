@@ -1,0 +1,3 @@
+pub mod RosterText
+pub mod Naming
+pub mod Positions
