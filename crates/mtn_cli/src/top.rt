@@ -25,7 +25,7 @@ use crate::settle::{bare, settle, usage};
 use crate::status::Status;
 use crate::words::WordsError;
 use mtn_base::Bytes;
-use mtn_history::{Draft, DraftOver, HistoryError, Pending};
+use mtn_history::{Draft, HistoryError, Pending};
 use mtn_ports::{Ident, Keeper, Sink, Source};
 use std::alloc::Global;
 use std::thread::Threads;
@@ -73,9 +73,11 @@ fn perform<R: Threads + Sync, I: Ident, K: Keeper>(
     ensures { Performs (I.meaning ident.now) K.contents K.leaves K.faults keeper.old keeper.new (Steps (I.meaning ident.now) call.now payload.now) result }
 {
     let pending = Pending::open(alloc, keeper)?;
-    let mut draft = DraftOver::new(keeper, pending);
-    let reply = on_draft(rt, alloc, call, ident, payload, &mut draft)?;
-    draft.finish()?;
+    let mut draft = Draft::new(keeper, pending);
+    let worked = on_draft(rt, alloc, call, ident, payload, &mut draft);
+    let (keeper, pending) = draft.into_parts();
+    let reply = worked?;
+    pending.finish(keeper)?;
     Ok(reply)
 }
 

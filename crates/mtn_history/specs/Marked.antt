@@ -16,10 +16,10 @@ use Rattle.mtn_history.specs.Meta.{IsMetaOf}
 use Rattle.mtn_history.specs.Stands.{IsFounded}
 
 -- the answer to `roster_of`: where the revision stands, and its tree with the marks of the whole history
-abbrev pub FindsRoster : {R : Type 0} → (R → MarkedTree) → List Revision → Id → Result (ℕ × R) HistoryError → Type 0
-FindsRoster marked h id (Ok found) = (place_of h id ≡ Some found.0) × IsMarkedAt h found.0 (marked found.1)
-FindsRoster marked h id (Err (Refused cause)) = (cause ≡ UnknownRevision id) × (place_of h id ≡ None)
-FindsRoster marked h id (Err (Store e)) = ⊤
+abbrev pub FindsRoster : List Revision → Id → Result (ℕ × MarkedTree) HistoryError → Type 0
+FindsRoster h id (Ok found) = (place_of h id ≡ Some found.0) × IsMarkedAt h found.0 found.1
+FindsRoster h id (Err (Refused cause)) = (cause ≡ UnknownRevision id) × (place_of h id ≡ None)
+FindsRoster h id (Err (Store e)) = ⊤
 
 -- the records of table 1 say what the draft counts
 abbrev pub IsCounted : Pending → Contents → Type 0

@@ -27,6 +27,7 @@ mod texts;
 
 pub use draft::Draft;
 pub use errors::{Damage, HistoryError, StoreError};
+pub use marked::SharedRoster;
 pub use meta::Meta;
 pub use pending::Pending;
 pub use rosters::Rebuilt;

@@ -14,17 +14,48 @@ use crate::rosters::Rebuilt;
 use crate::{Draft, HistoryError, StoreError};
 use mtn_ancestry::Pos;
 use mtn_base::{Cause, Id};
+use mtn_marking::MarkedRoster;
 use mtn_ports::Keeper;
+use std::marker::Model;
 use std::rc::Rc;
+
+/// A revision's roster with its marks, which contracts see. The draft that remembers it shares it.
+#[derive(Drop)]
+pub struct SharedRoster {
+    rebuilt: Rc<Rebuilt>,
+}
+
+impl Model for SharedRoster {
+    ghost use Rattle.mtn_marking.specs.Marking.{MarkedTree};
+
+    ghost Value = { MarkedTree };
+
+    ghost view = { λ r. r.rebuilt.value.roster };
+}
+
+impl SharedRoster {
+    fn new(rebuilt: Rc<Rebuilt>) -> SharedRoster
+        ensures { result ≡ rebuilt.value.roster }
+    {
+        SharedRoster { rebuilt }
+    }
+
+    /// The roster. It takes no memory.
+    pub fn marked(&self) -> &MarkedRoster
+        ensures { result.now ≡ self.now }
+    {
+        &self.rebuilt.as_ref().roster
+    }
+}
 
 impl<'a, K: Keeper> Draft<'a, K> {
     /// Where a revision stands, and its roster with the marks; UnknownRevision where the log has no such id. It asks for the
     /// record of its text and, where the roster is not remembered, at most sixteen of rosters.
-    pub fn roster_of(&mut self, id: Id) -> Result<(Pos, Rc<Rebuilt>), HistoryError>
+    pub fn roster_of(&mut self, id: Id) -> Result<(Pos, SharedRoster), HistoryError>
         ensures same_reference { self.new.keeper.ghost_name ≡ self.old.keeper.ghost_name }
         ensures stays { Stays K.contents K.leaves K.faults self.old.keeper.now self.new.keeper.now }
         ensures pending { self.new.pending ≡ self.old.pending }
-        ensures found { (f : List ℕ → List ℕ) (s : State) (d : IsFounded f (K.contents self.new.keeper.now) self.old.pending s) → FindsRoster (λ r. r.value.roster) d.stands.history id result }
+        ensures found { (f : List ℕ → List ℕ) (s : State) (d : IsFounded f (K.contents self.new.keeper.now) self.old.pending s) → FindsRoster d.stands.history id result }
         ensures damaged { IfSome (K.contents self.new.keeper.now) (λ c. IsCounted self.old.pending c → IfErr result (λ e. IfStoreDamage e (IsDamage (with_all c self.old.pending.batch)))) }
         ensures failed { result ≡ Err (HistoryError.Store StoreError.Failed) → Rose (K.faults self.old.keeper.now) (K.faults self.new.keeper.now) }
     {
@@ -36,7 +67,7 @@ impl<'a, K: Keeper> Draft<'a, K> {
             return Err(HistoryError::Refused(Cause::UnknownRevision { id }));
         };
         let rebuilt = self.roster_at(at)?;
-        Ok((at, rebuilt))
+        Ok((at, SharedRoster::new(rebuilt)))
     }
 
     // The id of the revision at a position that the roster at another names; a position that the log does not have is

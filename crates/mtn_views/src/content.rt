@@ -92,9 +92,9 @@ pub fn get_content_changed<K: Keeper>(
     ensures damaged { IfSome (K.contents draft.new.keeper.now) (λ c. IsCounted draft.old.pending c → IfErr result (λ e. IfStoreDamage e (IsDamage (with_all c draft.old.pending.batch)))) }
     ensures failed { result ≡ Err (HistoryError.Store StoreError.Failed) → Rose (K.faults draft.old.keeper.now) (K.faults draft.new.keeper.now) }
 {
-    let (at, roster) = draft.roster_of(id)?;
-    let alloc = draft.pending.alloc;
-    let marks = content_marks(alloc, &roster, path)?;
+    let (at, held) = draft.roster_of(id)?;
+    let alloc = draft.alloc();
+    let marks = content_marks(alloc, held.marked(), path)?;
     let mut ids = draft.ids_at(at, marks.as_slice())?;
     put_in_order(&mut ids);
     Ok(marks_text(alloc, &ids)?)

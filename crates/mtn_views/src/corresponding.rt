@@ -82,6 +82,11 @@ pub fn get_corresponding_path<K: Keeper>(
 {
     let (_, here) = draft.roster_of(id)?;
     let (_, there) = draft.roster_of(other)?;
-    let alloc = draft.pending.alloc;
-    corresponding(alloc, here.roster(), path, there.roster())
+    let alloc = draft.alloc();
+    corresponding(
+        alloc,
+        here.marked().roster(),
+        path,
+        there.marked().roster(),
+    )
 }

@@ -35,7 +35,7 @@ pub fn get_manifest_of<K: Keeper>(draft: &mut Draft<'_, K>, id: Id) -> Result<By
     ensures damaged { IfSome (K.contents draft.new.keeper.now) (λ c. IsCounted draft.old.pending c → IfErr result (λ e. IfStoreDamage e (IsDamage (with_all c draft.old.pending.batch)))) }
     ensures failed { result ≡ Err (HistoryError.Store StoreError.Failed) → Rose (K.faults draft.old.keeper.now) (K.faults draft.new.keeper.now) }
 {
-    let (_, roster) = draft.roster_of(id)?;
-    let alloc = draft.pending.alloc;
-    Ok(text_of(alloc, roster.roster())?)
+    let (_, held) = draft.roster_of(id)?;
+    let alloc = draft.alloc();
+    Ok(text_of(alloc, held.marked().roster())?)
 }

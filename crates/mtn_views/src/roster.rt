@@ -48,9 +48,10 @@ pub fn get_roster<K: Keeper>(draft: &mut Draft<'_, K>, id: Id) -> Result<Bytes, 
     ensures damaged { IfSome (K.contents draft.new.keeper.now) (λ c. IsCounted draft.old.pending c → IfErr result (λ e. IfStoreDamage e (IsDamage (with_all c draft.old.pending.batch)))) }
     ensures failed { result ≡ Err (HistoryError.Store StoreError.Failed) → Rose (K.faults draft.old.keeper.now) (K.faults draft.new.keeper.now) }
 {
-    let (at, roster) = draft.roster_of(id)?;
-    let alloc = draft.pending.alloc;
-    let places = marked_positions(alloc, &roster)?;
+    let (at, held) = draft.roster_of(id)?;
+    let alloc = draft.alloc();
+    let roster = held.marked();
+    let places = marked_positions(alloc, roster)?;
     let ids = draft.ids_at(at, &places)?;
-    Ok(text_of(alloc, &roster, &places, &ids)?)
+    Ok(text_of(alloc, roster, &places, &ids)?)
 }

@@ -3,6 +3,7 @@ use Rattle.std.specs.List.{AllZip}
 use Rattle.std.specs.Prelude.{Contains}
 use Rattle.std.proofs.lemmas.Result.{err_from_is_err_and}
 use Rattle.mtn_growth.specs.History.{IsPlaceOf}
+use Rattle.mtn_marking.specs.Graph.{IsMarkedAt}
 use Rattle.mtn_ports.proofs.KeptLemmas.{stays_trans}
 use Rattle.mtn_model.specs.State.{State}
 use Rattle.mtn_history.specs.declared.pending.Pending.{Pending}
@@ -27,7 +28,7 @@ returns-in_err-marks-clause-found g c f s d =
     let found = c.in_ok-at.ensures.found f s d in
     let p = err_from_is_err_and c.from_residual-in_err-marks.result c.from_residual-in_err-marks.ensures.1 in
     subst (Gives (IsContentChanged h c.args.id c.args.path.now)) (sym (p.1 ∙ ap Err p.2))
-    (no_content_marks h c.args.id c.args.path.now c.in_ok-at.at found.0 c.in_err-marks.field-0.0 (c.in_err-marks.ensures.found h c.in_ok-at.at found.1))
+    (no_content_marks h c.args.id c.args.path.now c.in_ok-at.at found.0 c.in_err-marks.field-0.0 (c.in_err-marks.ensures.found h c.in_ok-at.at (subst (IsMarkedAt h c.in_ok-at.at) (sym c.marked.ensures) found.1)))
 
 pub returns-in_err-marks-clause-damaged : goal.returns-in_err-marks-clause-damaged
 returns-in_err-marks-clause-damaged g c =
@@ -50,7 +51,7 @@ returns-in_err-ids-clause-damaged g c =
     (are_held told c.args.draft.now.pending c.as_slice.result.now (λ f s d.
     let e = back f (g.K.Keeper.contents c.roster_of.new.self.keeper.now) told c.args.draft.now.pending s c.in_err-ids.ensures.stays.same d in
     subst (λ (l : List ℕ). (x : ℕ) → Contains l x → x < length d.stands.history) (sym c.as_slice.ensures.value)
-    (marks_held d.stands.history c.in_ok-at.at c.args.path.now c.in_ok-marks.marks (c.in_ok-marks.ensures.found d.stands.history c.in_ok-at.at (c.in_ok-at.ensures.found f s e).1))))
+    (marks_held d.stands.history c.in_ok-at.at c.args.path.now c.in_ok-marks.marks (c.in_ok-marks.ensures.found d.stands.history c.in_ok-at.at (subst (IsMarkedAt d.stands.history c.in_ok-at.at) (sym c.marked.ensures) (c.in_ok-at.ensures.found f s e).1)))))
     c.in_err-ids.ensures.damaged
 
 pub returns-in_err-marks_text-clause-stays : goal.returns-in_err-marks_text-clause-stays
@@ -68,4 +69,4 @@ returns-clause-found g c f s d =
     content_changed h c.args.id c.args.path.now c.in_ok-at.at found.0 c.in_ok-marks.marks c.in_ok-ids.ids.items (in_id_order c.in_ok-ids.ids.items)
     (subst (λ (l : List ℕ). AllZip (λ a x. IsPlaceOf h x a) l c.in_ok-ids.ids.items) c.as_slice.ensures.value
     ((subst (λ (q : Pending). (b : IsFounded f told q s) → AllZip (λ a x. IsPlaceOf b.stands.history x a) c.as_slice.result.now c.in_ok-ids.ids.items) c.in_ok-at.ensures.pending (c.in_ok-ids.ensures.found f s)) d))
-    (in_order_ascends c.in_ok-ids.ids.items) (in_order_same c.in_ok-ids.ids.items) c.in_ok-marks_text.field-0 (c.in_ok-marks_text.ensures ∙ ap marks_text (c.deref.ensures.value ∙ c.put_in_order.ensures)) (c.in_ok-marks.ensures.found h c.in_ok-at.at found.1)
+    (in_order_ascends c.in_ok-ids.ids.items) (in_order_same c.in_ok-ids.ids.items) c.in_ok-marks_text.field-0 (c.in_ok-marks_text.ensures ∙ ap marks_text (c.deref.ensures.value ∙ c.put_in_order.ensures)) (c.in_ok-marks.ensures.found h c.in_ok-at.at (subst (IsMarkedAt h c.in_ok-at.at) (sym c.marked.ensures) found.1))

@@ -54,5 +54,5 @@ returns-clause-found g c f s d =
     let first = c.in_ok-here.ensures.found f s e in
     let second = (subst (λ (q : Pending). (b : IsFounded f told q s) → FindsRoster b.stands.history c.args.other (Ok (c.in_ok-there.field-0-0, c.in_ok-there.there))) c.in_ok-here.ensures.pending (c.in_ok-there.ensures.found f s)) d in
     gives_same (over (NoSuchPath c.args.path.now) (node_at c.roster.result.now c.args.path.now) (λ n. Ok (node_text c.roster-2.result.now n.name))) (corresponding_at h c.args.id c.args.path.now c.args.other) c.corresponding.result
-    (with_both h c.args.id c.args.other c.args.path.now c.in_ok-here.field-0-0 c.in_ok-there.field-0-0 c.roster.result.now c.roster-2.result.now first.0 second.0 (first.1.tree ∙ sym c.roster.ensures.tree) (second.1.tree ∙ sym c.roster-2.ensures.tree))
+    (with_both h c.args.id c.args.other c.args.path.now c.in_ok-here.field-0-0 c.in_ok-there.field-0-0 c.roster.result.now c.roster-2.result.now first.0 second.0 (first.1.tree ∙ sym (c.roster.ensures.tree ∙ ap (λ (x : MarkedTree). x.tree) c.marked.ensures)) (second.1.tree ∙ sym (c.roster-2.ensures.tree ∙ ap (λ (x : MarkedTree). x.tree) c.marked-2.ensures)))
     c.corresponding.ensures.found

@@ -2,6 +2,7 @@ use Rattle.std.proofs.Common.{◌≢◌, ◌<◌, ◌+◌, ◌^◌, Err, Some, r
 use Rattle.std.specs.Prelude.{IfSome, drop}
 use Rattle.std.proofs.lemmas.Result.{err_from_is_err_and}
 use Rattle.mtn_ports.specs.Kept.{with_all}
+use Rattle.mtn_marking.specs.Graph.{IsMarkedAt}
 use Rattle.mtn_ports.proofs.KeptLemmas.{stays_trans}
 use Rattle.mtn_history.specs.declared.pending.Pending.{Pending}
 use Rattle.mtn_history.specs.Errors.{IfDamage}
@@ -47,7 +48,7 @@ returns-clause-found g c f s d =
     let found : IfSome mid (λ x. IsPlaced (with_all x q.batch) q.count c.args.id (Some at) (drop 8 c.placed.new.body.items)) =
     subst (λ o. IfSome mid (λ x. IsPlaced (with_all x q.batch) q.count c.args.id o (drop 8 c.placed.new.body.items))) c.in-Some.is c.in_ok-at.ensures.found in (
       sym (place_is f mid q s e c.args.id (Some at) (drop 8 c.placed.new.body.items) (subst (λ n. n < 2 ^ 64) c.count.ensures c.count.type_inv) found),
-      marked_is f (g.K.Keeper.contents c.roster_at.new.self.keeper.now) q s d at c.in_ok-rebuilt.rebuilt.value.entries c.in_ok-rebuilt.rebuilt.value.roster c.in_ok-rebuilt.rebuilt.value.depth
+      subst (IsMarkedAt d.stands.history at) (sym c.new.ensures) (marked_is f (g.K.Keeper.contents c.roster_at.new.self.keeper.now) q s d at c.in_ok-rebuilt.rebuilt.value.entries c.in_ok-rebuilt.rebuilt.value.roster c.in_ok-rebuilt.rebuilt.value.depth
           (below_count mid f q s e c.args.id at (drop 8 c.placed.new.body.items) found)
-          (subst (λ (x : Pending). IfSome (g.K.Keeper.contents c.roster_at.new.self.keeper.now) (λ y. Rebuilds (with_all y x.batch) at c.in_ok-rebuilt.rebuilt.value)) c.in_ok-at.ensures.pending c.in_ok-rebuilt.ensures.rebuilt),
+          (subst (λ (x : Pending). IfSome (g.K.Keeper.contents c.roster_at.new.self.keeper.now) (λ y. Rebuilds (with_all y x.batch) at c.in_ok-rebuilt.rebuilt.value)) c.in_ok-at.ensures.pending c.in_ok-rebuilt.ensures.rebuilt)),
     )
