@@ -1,10 +1,10 @@
 -- The positions of all marks are those of the marks of each scalar.
 use Rattle.std.specs.Prelude.{Contains, find, map, option_and_then, option_map, slice_get, unwrap_or}
-use Rattle.std.specs.List.{flat_map, dedup}
+use Rattle.std.specs.List.{flat_map}
 use Rattle.std.specs.List.Retain.{IsFiltered, DiffersFromLast}
 use Rattle.std.specs.List.Sorted.{IsPermutation, IsSorted, IsStrictlyIncreasing}
 use Rattle.std.specs.Ordering.{nat_cmp}
-use Rattle.std.proofs.Common.{◌≡◌, ◌↔◌, ◌⊎◌, inl, inr, ℕ, ◌<◌, true, List, [], ◌∷◌, ◌++◌, length, get_or, Option, Some, None, eqb, refl, sym, ap, ◌∙◌, subst}
+use Rattle.std.proofs.Common.{◌≡◌, ◌↔◌, inl, inr, ℕ, ◌<◌, true, List, [], ◌∷◌, Option, Some, None, eqb, refl, sym, ap, ◌∙◌, subst}
 use Rattle.std.proofs.lemmas.List.Filters.{dedup_is}
 use Rattle.std.proofs.lemmas.List.Kept.{Contains-dedup_nat, Contains-from_dedup}
 use Rattle.std.proofs.lemmas.List.Sorted.{Contains-permutation, IsPermutation-sym}
@@ -14,7 +14,7 @@ use Rattle.mtn_base.specs.declared.name.NodeName.{NodeName}
 use Rattle.mtn_growth.specs.Scalars.{Scalar, node_of}
 use Rattle.mtn_growth.specs.Scalars.Scalar.{SlotOf, ContentOf, AttrOf}
 use Rattle.mtn_ids.proofs.Sorting.{contains_split, split_contains}
-use Rattle.mtn_marking.specs.Marking.{Marks, AreFor, IsFor, attr_marks_of, marking_of, marks_in, marks_of}
+use Rattle.mtn_marking.specs.Marking.{Marks, AreFor, IsFor, attr_marks_of, marking_of, marks_of}
 use Rattle.mtn_marking.specs.declared.node.AttrMarks.{AttrMarks}
 use Rattle.mtn_marking.specs.declared.node.Marking.{Marking}
 use Rattle.mtn_marking.specs.declared.node.NodeMarks.{NodeMarks}
@@ -22,7 +22,6 @@ use Rattle.mtn_marking.proofs.ByName.{name_of}
 use Rattle.mtn_marking.proofs.Keyed.{found_there}
 use Rattle.mtn_marking.proofs.Telling.{key_in}
 use Rattle.mtn_roster.specs.Tree.{Tree, IsSane, rises}
-use Rattle.mtn_roster.specs.declared.entry.Entry.{Entry}
 use Rattle.mtn_marking.proofs.Fitting.{for_long}
 use Rattle.mtn_roster.proofs.Along.{got}
 use Rattle.mtn_roster.proofs.Finding.{Split, found, later}

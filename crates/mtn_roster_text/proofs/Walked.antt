@@ -1,19 +1,14 @@
 -- The nodes along the walk, each with its marking.
 use Rattle.std.specs.Prelude.{map, option_and_then, option_copied, option_map, slice_get, unwrap_or, IsSome}
-use Rattle.std.specs.List.{list_all}
-use Rattle.std.proofs.Common.{◌≡◌, ℕ, zero, suc, ◌<◌, true, List, [], ◌∷◌, length, Option, Some, None, Bor, refl, sym, ap, ◌∙◌, subst, arith}
+use Rattle.std.proofs.Common.{◌≡◌, ℕ, zero, suc, true, List, [], ◌∷◌, Option, Some, None, Bor, refl, sym, ap, ◌∙◌, subst}
 use Rattle.mtn_base.specs.Names.{bytes_cmp, name_cmp, same_name}
 use Rattle.mtn_base.specs.declared.name.NodeName.{NodeName}
-use Rattle.mtn_basic_io.specs.Spelling.{LineText}
-use Rattle.mtn_growth.specs.Scalars.{Scalar}
 use Rattle.mtn_marking.specs.Marking.{Marks, AreFor, IsFor, marking_of, marks_of}
-use Rattle.mtn_marking.specs.declared.node.AttrMarks.{AttrMarks}
 use Rattle.mtn_marking.specs.declared.node.Marking.{Marking}
 use Rattle.mtn_marking.specs.declared.node.NodeMarks.{NodeMarks}
 use Rattle.mtn_marking.proofs.ByName.{name_of}
 use Rattle.mtn_marking.proofs.Keyed.{found_there}
-use Rattle.mtn_marking.proofs.Telling.{key_in, key_of}
-use Rattle.mtn_roster.specs.declared.entry.Attr.{Attr}
+use Rattle.mtn_marking.proofs.Telling.{key_in}
 use Rattle.mtn_roster.specs.declared.entry.Entry.{Entry}
 use Rattle.mtn_roster.specs.Tree.{Tree, IsSane, entry_of, rises}
 use Rattle.mtn_roster.proofs.Along.{keyed}

@@ -2,7 +2,7 @@
 use Rattle.std.specs.Prelude.{Contains, slice_get, option_map, option_and_then, IsSome, reverse}
 use Rattle.std.specs.List.{AllZip}
 use Rattle.std.specs.List.Sorted.{IsStrictlySortedBy}
-use Rattle.std.proofs.Common.{◌≡◌, ◌↔◌, ◌<◌, ◌⊎◌, ℕ, List, [], ◌∷◌, Option, Some, None, Result, Ok, Err, length, refl, sym, ap, ◌∙◌, subst, ⊎_elim}
+use Rattle.std.proofs.Common.{◌≡◌, ◌↔◌, ◌<◌, ℕ, List, [], ◌∷◌, Option, Some, None, Result, Ok, Err, length, refl, sym, ap, ◌∙◌, subst, ⊎_elim}
 use Rattle.mtn_base.specs.declared.id.Id.{Id}
 use Rattle.mtn_base.specs.declared.name.NodeName.{NodeName}
 use Rattle.mtn_base.specs.declared.refusal.Cause.TheVariants.{NoSuchPath, NotAFile}
@@ -14,8 +14,7 @@ use Rattle.mtn_ids.specs.Ids.{by_id}
 use Rattle.mtn_ids.proofs.Sorting.{contains_nil, contains_head, contains_later, contains_cases}
 use Rattle.mtn_log.proofs.Places.{inside}
 use Rattle.mtn_marking.specs.Graph.{AreMarksOf, IsMarkedAt}
-use Rattle.mtn_marking.specs.Marking.{MarkedTree, marking_of, marks_in}
-use Rattle.mtn_marking.specs.declared.node.Marking.{Marking}
+use Rattle.mtn_marking.specs.Marking.{MarkedTree, marks_in}
 use Rattle.mtn_marks.specs.Marks.{IsMarked, IsMarkOf, fresh, changed, chosen, here, onward}
 use Rattle.mtn_roster.specs.declared.entry.Body.{Body}
 use Rattle.mtn_roster.specs.declared.entry.Body.TheVariants.{Dir, File}

@@ -1,10 +1,10 @@
 -- The ids of all marks of a roster.
 use Rattle.std.specs.Prelude.{Contains, filter_map, unwrap_or}
 use Rattle.std.specs.List.{AllZip}
-use Rattle.std.proofs.Common.{◌≡◌, ◌↔◌, ◌<◌, ℕ, List, [], Option, Some, None, Result, Ok, Err, length, refl, sym, ap, ◌∙◌, subst}
+use Rattle.std.proofs.Common.{◌≡◌, ◌↔◌, ◌<◌, ℕ, List, [], Option, Some, None, Ok, length, refl, sym, ap, ◌∙◌, subst}
 use Rattle.mtn_base.specs.declared.id.Id.{Id}
 use Rattle.mtn_basic_io.specs.Spelling.{spelling}
-use Rattle.mtn_growth.specs.History.{Revision, tree_at, IsPlaceOf}
+use Rattle.mtn_growth.specs.History.{Revision, IsPlaceOf}
 use Rattle.mtn_growth.specs.Scalars.{Scalar, IsMark}
 use Rattle.mtn_ids.proofs.Sorting.{contains_nil, contains_split, in_order_ascends, in_order_same, split_contains}
 use Rattle.mtn_log.specs.Making.{place_of}
@@ -16,7 +16,6 @@ use Rattle.mtn_roster_text.specs.Naming.{id_at, ids_at, ids_in, table_of}
 use Rattle.mtn_roster_text.specs.Positions.{IsMarkIn}
 use Rattle.mtn_roster_text.specs.RosterText.{roster_of}
 use Rattle.mtn_roster_text.proofs.Tables.{named, named_so}
-use Rattle.mtn_views.specs.Answers.{Answer}
 use Rattle.mtn_views.specs.Views.{AreMarkIds, IsRoster, IsRosterIn}
 use Rattle.mtn_views.proofs.Marking.{mark_there, never_marked, one_id}
 use Rattle.mtn_views.proofs.Views.{answer_at}

@@ -30,7 +30,7 @@ use Rattle.mtn_roster.specs.declared.entry.Entry.{Entry}
 use Rattle.mtn_roster.specs.Tree.{Tree, node_at}
 use Rattle.mtn_views.specs.Answers.{Answer, Gives, over}
 use Rattle.mtn_views.specs.Marks.{AreContentMarks, AreMarksFor, GivesMarks}
-use Rattle.mtn_views.specs.Views.{AreMarkIds, IsContentAt, IsContentChanged, IsContentIn, IsContentOf, corresponding_at, marks_text, node_text}
+use Rattle.mtn_views.specs.Views.{IsContentAt, IsContentChanged, IsContentIn, IsContentOf, corresponding_at, marks_text, node_text}
 use Rattle.mtn_views.proofs.Marking.{are_mark_ids, mark_there}
 
 -- a revision that was not found

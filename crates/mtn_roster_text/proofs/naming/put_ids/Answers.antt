@@ -1,5 +1,5 @@
 -- One more position.
-use Rattle.std.proofs.Common.{◌≡◌, ◌++◌, [], ◌∷◌, Option, Vec, Global, sym, ap, ◌∙◌}
+use Rattle.std.proofs.Common.{◌++◌, [], Option, Vec, Global, sym, ap, ◌∙◌}
 use Rattle.std.specs.List.{cons_option}
 use Rattle.std.proofs.lemmas.List.{append-nil}
 use Rattle.mtn_base.specs.declared.id.Id.{Id}

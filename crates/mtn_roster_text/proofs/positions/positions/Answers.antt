@@ -1,6 +1,5 @@
 -- One more node.
-use Rattle.std.proofs.Common.{◌≡◌, ◌++◌, ◌∙◌, ap}
-use Rattle.std.specs.List.{flat_map}
+use Rattle.std.proofs.Common.{◌++◌, ◌∙◌, ap}
 use Rattle.mtn_marking.specs.declared.node.NodeMarks.{NodeMarks}
 use Rattle.mtn_roster_text.specs.Positions.{positions_of}
 use Rattle.mtn_roster_text.proofs.Lines.{flat_at}

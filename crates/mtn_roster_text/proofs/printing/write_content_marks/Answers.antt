@@ -1,5 +1,5 @@
 -- The line of a file.
-use Rattle.std.proofs.Common.{◌≡◌, ◌∙◌, ℕ, List, ap}
+use Rattle.std.proofs.Common.{◌∙◌, ℕ, List, ap}
 use Rattle.std.proofs.lemmas.Result.{on_ok_weaker}
 use Rattle.mtn_roster_text.specs.Naming.{ids_at}
 use Rattle.mtn_roster_text.proofs.Lines.{content_is}

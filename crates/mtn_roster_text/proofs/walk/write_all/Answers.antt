@@ -1,5 +1,5 @@
 -- Node by node.
-use Rattle.std.proofs.Common.{◌≡◌, ◌∷◌, ◌++◌, List, Some, sym, ◌∙◌, ap, subst, arith}
+use Rattle.std.proofs.Common.{◌≡◌, ◌∷◌, ◌++◌, List, sym, ◌∙◌, ap, subst, arith}
 use Rattle.mtn_base.specs.Paths.{path_text}
 use Rattle.mtn_basic_io.specs.Spelling.{LineText, spelling}
 use Rattle.mtn_basic_io.proofs.Kept.{front_trans}

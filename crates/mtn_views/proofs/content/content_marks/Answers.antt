@@ -1,11 +1,9 @@
-use Rattle.std.proofs.Common.{◌≡◌, Some, None, Ok, sym, ap, ◌∙◌, subst}
+use Rattle.std.proofs.Common.{Some, sym, ap, ◌∙◌, subst}
 use Rattle.std.specs.Prelude.{option_copied}
-use Rattle.mtn_base.specs.declared.name.NodeName.{NodeName}
 use Rattle.mtn_growth.specs.Scalars.Scalar.{ContentOf}
 use Rattle.mtn_marking.specs.Marking.{Marks, marks_in}
 use Rattle.mtn_roster.specs.Tree.{Tree, IsSane, node_at}
-use Rattle.mtn_roster.proofs.Along.{unwrapped}
-use Rattle.mtn_views.proofs.Marking.{no_node, of_file, of_directory}
+use Rattle.mtn_views.proofs.Marking.{of_file, of_directory}
 use Rattle.mtn_views.proofs.content.content_marks.Goals as goal
 
 pub returns-in_ok-copy-in-Some-content_of-clause-found : goal.returns-in_ok-copy-in-Some-content_of-clause-found

@@ -1,16 +1,14 @@
-use Rattle.std.proofs.Common.{◌≡◌, ℕ, List, Err, Ok, refl, sym, ap, ◌∙◌, subst}
+use Rattle.std.proofs.Common.{◌≡◌, Err, Ok, refl, sym, ap, ◌∙◌, subst}
 use Rattle.std.proofs.lemmas.Result.{err_from_is_err_and}
 use Rattle.mtn_base.specs.declared.refusal.Cause.TheVariants.{NoSuchPath}
-use Rattle.mtn_growth.specs.History.{tree_at}
 use Rattle.mtn_history.specs.declared.pending.Pending.{Pending}
 use Rattle.mtn_history.specs.Marked.{FindsRoster}
 use Rattle.mtn_history.specs.Stands.{IsFounded}
 use Rattle.mtn_history.proofs.Founding.{back}
 use Rattle.mtn_log.specs.Making.{place_of}
-use Rattle.mtn_marking.specs.Marking.{MarkedTree}
 use Rattle.mtn_ports.proofs.KeptLemmas.{stays_trans}
 use Rattle.mtn_roster.specs.Tree.{node_at}
-use Rattle.mtn_views.specs.Answers.{Answer, Gives, over}
+use Rattle.mtn_views.specs.Answers.{Gives, over}
 use Rattle.mtn_views.specs.Views.{corresponding_at, node_text}
 use Rattle.mtn_views.proofs.Views.{not_found, gives_same, same_damage, over_first, over_second, with_first, with_both}
 use Rattle.mtn_views.proofs.corresponding.get_corresponding_path.Goals as goal

@@ -1,4 +1,4 @@
-use Rattle.std.proofs.Common.{◌≡◌, ◌<◌, ◌↔◌, ℕ, List, Err, Ok, length, refl, sym, ap, ◌∙◌, subst}
+use Rattle.std.proofs.Common.{◌↔◌, ℕ, List, Err, refl, sym, ap, ◌∙◌, subst}
 use Rattle.std.specs.List.{AllZip}
 use Rattle.std.specs.Prelude.{Contains}
 use Rattle.std.proofs.lemmas.Result.{err_from_is_err_and}
@@ -7,7 +7,6 @@ use Rattle.mtn_basic_io.specs.Spelling.{spelling}
 use Rattle.mtn_growth.specs.History.{IsPlaceOf}
 use Rattle.mtn_marking.specs.Graph.{IsMarkedAt}
 use Rattle.mtn_ports.proofs.KeptLemmas.{stays_trans}
-use Rattle.mtn_model.specs.State.{State}
 use Rattle.mtn_history.specs.declared.pending.Pending.{Pending}
 use Rattle.mtn_history.specs.Stands.{IsFounded}
 use Rattle.mtn_history.proofs.Founding.{back}
