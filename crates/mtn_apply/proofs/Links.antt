@@ -71,10 +71,3 @@ module _ (old : Tree) (all : List Change) (new : Id) where
     where
       low : k < length all
       low = omega (arith, e, was.within)
-
-  pub all_links : (left : ℕ) (edits : Edits) → AreLinks left edits.first edits.next.items → left ≡ 0 → AreEdits old all new edits
-  all_links left edits h e = record {
-    first = λ n. h.first_is n ∙ ap (next_edit old all new n) e;
-    long = h.long;
-    next = λ n k c is hit. h.next_is n k c (omega (arith, e)) is hit;
-  }

@@ -28,11 +28,6 @@ get_is xs k x d h =
 pub first_before : {X : Type 0} (f : X → Bool) (xs : List X) (k : ℕ) (x : X) → slice_get xs k ≡ Some x → first_from f xs k ≡ cond (f x) (Some k) (first_from f xs (k + 1))
 first_before f xs k x h = one_before f xs (k + 1) k x refl (get_in xs k x h) (sym (get_is xs k x x h))
 
-pub none_placed : (n k : ℕ) → of_place (replicate n None) k ≡ None
-none_placed zero k = refl
-none_placed (suc n) zero = refl
-none_placed (suc n) (suc k) = none_placed n k
-
 module _ (old : Tree) (sane : IsOldTree old) where
   -- names ascend, so that of two places the nodes differ
   not_below : (j k : ℕ) (f e : Entry) → slice_get old j ≡ Some f → slice_get old k ≡ Some e → f.name ≡ e.name → j < k → ⊥

@@ -74,17 +74,6 @@ pub fn old_children(
     }
 }
 
-/// The old root.
-pub fn old_root(alloc: Global, old: Option<&Roster>) -> Option<Node>
-    ensures value { option_map entry_in result ≡ root_of (tree_in old.entry) }
-    ensures node { IsOldNode (tree_in old.entry) result }
-{
-    match old {
-        None => None,
-        Some(roster) => node_of(roster, roster.place_at_path(&Path::root(alloc))),
-    }
-}
-
 /// The old child of that name of an old node.
 pub fn old_child<'a>(old: Option<&'a Roster>, above: Node, name: &Comp) -> Option<Node<'a>>
     requires { IsNode (tree_in old) above }
@@ -106,4 +95,12 @@ pub fn old_at<'a>(old: Option<&'a Roster>, path: &Path) -> Option<Node<'a>>
         None => None,
         Some(roster) => node_of(roster, roster.place_at_path(path)),
     }
+}
+
+/// The old root.
+pub fn old_root(alloc: Global, old: Option<&Roster>) -> Option<Node>
+    ensures value { option_map entry_in result ≡ root_of (tree_in old.entry) }
+    ensures node { IsOldNode (tree_in old.entry) result }
+{
+    old_at(old, &Path::root(alloc))
 }
