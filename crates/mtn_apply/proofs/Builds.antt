@@ -3,10 +3,12 @@ use Rattle.std.specs.Prelude.{find, filter_map, map, reverse}
 use Rattle.std.specs.List.{list_any, cons_option, AllByRecursion, IsDistinct}
 use Rattle.std.specs.declared.cmp.Ordering.{Ordering}
 use Rattle.std.specs.declared.cmp.Ordering.TheVariants.{Equal}
-use Rattle.std.specs.Cmp.{IsTotalOrder, first_so, second_so, tied_itself}
+use Rattle.std.specs.List.Sorted.{IsPermutation}
+use Rattle.std.specs.Cmp.{IsTotalOrder, both_ways, first_so, second_so, tied_itself}
 use Rattle.std.specs.FinMap.Entries.{by_order}
 use Rattle.std.proofs.Common.{◌≡◌, ℕ, Bool, true, false, cond, List, [], ◌∷◌, ◌++◌, Option, Some, None, refl, sym, ◌∙◌, ap, subst, append_assoc, ⊎_elim}
-use Rattle.std.proofs.lemmas.Map.Keys.{IsDistinct-cons, IsDistinct-head, IsDistinct-tail}
+use Rattle.std.proofs.lemmas.List.Sorted.{IsPermutation-sym}
+use Rattle.std.proofs.lemmas.Map.Keys.{IsDistinct-cons, IsDistinct-head, IsDistinct-tail, IsDistinct-IsPermutation}
 use Rattle.mtn_base.specs.Names.{same_bytes, same_name, bytes_cmp, name_cmp}
 use Rattle.mtn_base.specs.declared.id.Id.{Id}
 use Rattle.mtn_base.specs.declared.name.NodeName.{NodeName}
@@ -14,14 +16,14 @@ use Rattle.mtn_roster.specs.declared.entry.Attr.{Attr}
 use Rattle.mtn_roster.specs.declared.entry.Entry.{Entry}
 use Rattle.mtn_roster.specs.declared.entry.Body.{Body}
 use Rattle.mtn_roster.specs.declared.entry.Body.TheVariants.{Dir, File}
-use Rattle.mtn_roster.specs.Tree.{Tree, entry_of, placed, ordered, rises, IsSane, IsSaneMap}
+use Rattle.mtn_roster.specs.Tree.{Tree, entry_of, placed, ordered, in_order, rises, IsSane, IsSaneMap}
 use Rattle.mtn_roster.specs.Building.{NamesDiffer, KeysDiffer, with_keys_in_order, tree_of, IsBuildable}
 use Rattle.mtn_roster.proofs.Finding.{Split, later, list_any-here}
 use Rattle.mtn_roster.proofs.Members.{head, of_append, of_filter_map}
 use Rattle.mtn_roster.proofs.Tests.{same_bytes-is, same_bytes-self, same_name-is, same_name-self, same_path-self}
 use Rattle.mtn_roster.proofs.Forest.{IsForest}
 use Rattle.mtn_roster.proofs.Looking.{bytes_total, exact_bytes, names_total, exact_names}
-use Rattle.mtn_roster.proofs.Sorting.{low_at, rest_rises, in_ordered, rising_differ}
+use Rattle.mtn_roster.proofs.Sorting.{low_at, rest_rises, goes, of_ordered, in_ordered, one_sorted, ordered-rises, rising_differ}
 use Rattle.mtn_changes.specs.declared.change.Change.{Change}
 use Rattle.mtn_changes.specs.declared.change.Change.TheVariants.{Delete, Rename, AddDir, AddFile, Patch, Clear, Set}
 use Rattle.mtn_edits.specs.Changes.{aims_at, edited, edited_by, is_deleted, moves, slot_by, slot_up, old_after, added_by, added_at, first_fault, tree_after}
@@ -94,6 +96,19 @@ map_self f (x ∷ xs) h =
     let a : f x ≡ x = h x (head x xs) in
     let b : map f xs ≡ xs = map_self f xs (λ y s. h y (later x xs y s)) in
     λ i. a i ∷ b i
+
+twin-flips : (e f : Entry) → twin e f ≡ twin f e
+twin-flips e f = both_ways (twin e f) (twin f e)
+    (λ h. ap (same_name f.name) (same_name-is e.name f.name h) ∙ same_name-self f.name)
+    (λ h. ap (same_name e.name) (same_name-is f.name e.name h) ∙ same_name-self e.name)
+
+-- in order, entries in two orders are the same
+one_order : (xs ys : List Entry) → IsPermutation xs ys → NamesDiffer xs → NamesDiffer ys → in_order xs ≡ in_order ys
+one_order xs ys moved dx dy =
+    let name : Entry → NodeName = λ e. e.name in
+    one_sorted name_cmp name names_total (in_order xs) (in_order ys) (ordered-rises name_cmp name names_total xs) (ordered-rises name_cmp name names_total ys)
+    (λ x s. in_ordered name_cmp name names_total same_name same_name-is same_name-self exact_names ys dy x (goes xs ys moved x (of_ordered name_cmp name names_total xs x s)))
+    (λ x s. in_ordered name_cmp name names_total same_name same_name-is same_name-self exact_names xs dx x (goes ys xs (IsPermutation-sym xs ys moved) x (of_ordered name_cmp name names_total ys x s)))
 
 module _ (old : Tree) (all : List Change) (new : Id) where
   edited-name : (c : Change) (e : Entry) → (edited old all new c e).name ≡ e.name
@@ -170,7 +185,7 @@ module _ (old : Tree) (all : List Change) (new : Id) where
         let names : d.name ≡ record { birth = new; path = a.at } = sym (old-name d e x.2) ∙ same_name-is e.name g.name q ∙ a.named in
         unborn d.name d (forest.distinct d x.1) (ap (λ (n : NodeName). n.birth) names)))
 
-up_before : (old : Tree) → IsOldTree old → rises name_cmp (map (λ (e : Entry). e.name) old) ≡ true
+pub up_before : (old : Tree) → IsOldTree old → rises name_cmp (map (λ (e : Entry). e.name) old) ≡ true
 up_before old before = ⊎_elim (λ e. ap (λ (t : Tree). rises name_cmp (map (λ (e : Entry). e.name) t)) e) (λ s. first_so _ _ s.ordered) before
 
 module _ (old : Tree) (all : List Change) (new : Id) (before : IsOldTree old) (once : RenamesDiffer all) (unborn : NoneBornIn old new) (fine : first_fault old all ≡ None) where
@@ -183,12 +198,22 @@ module _ (old : Tree) (all : List Change) (new : Id) (before : IsOldTree old) (o
   keys_up : (e : Entry) → Split (listed old all new) e → has_keys e ≡ true
   keys_up e s = all_in has_keys (tree_after old all new) e (second_so _ _ sane.ordered) (in_ordered name_cmp (λ (e : Entry). e.name) names_total same_name same_name-is same_name-self exact_names (listed old all new) apart e s)
 
-  pub same_tree : tree_of (listed old all new) ≡ tree_after old all new
-  same_tree = ap (ordered name_cmp (λ (e : Entry). e.name)) (map_self with_keys_in_order (listed old all new) (λ e s. ap (λ a. record e { attrs = a }) (ordered_self bytes_cmp (λ (a : Attr). a.key) bytes_total e.attrs (keys_up e s))))
+  module _ (es : List Entry) (moved : IsPermutation (listed old all new) es) where
+    keys_still : (e : Entry) → Split es e → has_keys e ≡ true
+    keys_still e s = keys_up e (goes es (listed old all new) (IsPermutation-sym (listed old all new) es moved) e s)
 
-  pub buildable : IsBuildable (listed old all new)
-  buildable = record {
-    names = apart;
-    keys = rec_of KeysDiffer (listed old all new) (λ e s. rising_differ bytes_cmp (λ (a : Attr). a.key) bytes_total same_bytes same_bytes-is same_bytes-self exact_bytes e.attrs (keys_up e s));
-    sane = subst (λ t. IsSaneMap (entry_of t)) (sym same_tree) sane.sane;
-  }
+    apart_still : NamesDiffer es
+    apart_still = IsDistinct-IsPermutation twin twin-flips (listed old all new) es moved apart
+
+    -- the tree of the entries in another order is the same
+    pub same_tree : tree_of es ≡ tree_after old all new
+    same_tree =
+        ap (ordered name_cmp (λ (e : Entry). e.name)) (map_self with_keys_in_order es (λ e s. ap (λ a. record e { attrs = a }) (ordered_self bytes_cmp (λ (a : Attr). a.key) bytes_total e.attrs (keys_still e s))))
+        ∙ one_order es (listed old all new) (IsPermutation-sym (listed old all new) es moved) apart_still apart
+
+    pub buildable : IsBuildable es
+    buildable = record {
+      names = apart_still;
+      keys = rec_of KeysDiffer es (λ e s. rising_differ bytes_cmp (λ (a : Attr). a.key) bytes_total same_bytes same_bytes-is same_bytes-self exact_bytes e.attrs (keys_still e s));
+      sane = subst (λ t. IsSaneMap (entry_of t)) (sym same_tree) sane.sane;
+    }

@@ -6,6 +6,7 @@ pub mod Kept
 pub mod Links
 pub mod Nothing
 pub mod OldKeys
+pub mod Noted
 pub mod Placing
 pub mod Positions
 pub mod Spared

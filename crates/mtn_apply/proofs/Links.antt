@@ -9,8 +9,7 @@ use Rattle.mtn_base.specs.declared.id.Id.{Id}
 use Rattle.mtn_base.specs.declared.name.NodeName.{NodeName}
 use Rattle.mtn_roster.specs.Tree.{Tree, is_some_with}
 use Rattle.mtn_changes.specs.declared.change.Change.{Change}
-use Rattle.mtn_apply.specs.declared.edits.Edits.{Edits}
-use Rattle.mtn_apply.specs.Edits.{touches, next_edit, AreEdits}
+use Rattle.mtn_apply.specs.Edits.{touches, next_edit}
 use Rattle.mtn_apply.proofs.Positions.{one_before, none_left}
 
 pub get-set_at : {X : Type 0} (xs : List X) (i : ℕ) (y : X) → i < length xs → slice_get (set xs i y) i ≡ Some y
@@ -71,10 +70,3 @@ module _ (old : Tree) (all : List Change) (new : Id) where
     where
       low : k < length all
       low = omega (arith, e, was.within)
-
-  pub all_links : (left : ℕ) (edits : Edits) → AreLinks left edits.first edits.next.items → left ≡ 0 → AreEdits old all new edits
-  all_links left edits h e = record {
-    first = λ n. h.first_is n ∙ ap (next_edit old all new n) e;
-    long = h.long;
-    next = λ n k c is hit. h.next_is n k c (omega (arith, e)) is hit;
-  }

@@ -1,6 +1,7 @@
 // The entries of the new tree.
 ghost use Rattle.std.specs.Prelude.{◌≡◌, ◌++◌, [], ℕ, map, reverse, filter_map, option_map, option_and_then, option_copied, slice_get, find, Some, None, IsTrue, IfOk, OnOk};
 ghost use Rattle.std.specs.List.{cons_option};
+ghost use Rattle.std.specs.List.Sorted.{IsPermutation};
 ghost use Rattle.mtn_base.specs.Names.{bytes_cmp};
 ghost use Rattle.mtn_base.specs.declared.id.Id.{Id};
 ghost use Rattle.mtn_roster.specs.declared.entry.Attr.{Attr};
@@ -9,12 +10,14 @@ ghost use Rattle.mtn_edits.specs.Changes.{moves, slot_up, slot_by, edited_by, ol
 ghost use Rattle.mtn_roster.specs.Attrs.{are_keyed};
 ghost use Rattle.mtn_apply.specs.Index.{IsIndexed, old_of, changes_of};
 ghost use Rattle.mtn_apply.specs.Edits.{AreEdits, listed};
-ghost use Rattle.mtn_apply.specs.Old.{tree_in};
+ghost use Rattle.mtn_apply.specs.Old.{tree_in, entry_in, IsNode};
 
 use crate::edits::{Edits, edit, edits_of, name_of};
+use crate::gather::gather;
 use crate::index::Edge;
 use crate::occupant::{change_at, is_deleted, occupant_of};
-use crate::old::{old_len, old_place};
+use crate::old::{Node, old_len, old_place};
+use crate::places::position_at;
 use mtn_base::{Id, List, NoMemory, NodeName, Path};
 use mtn_changes::Change;
 use mtn_roster::attrs::copy_attrs;
@@ -22,11 +25,12 @@ use mtn_roster::{Body, Entry, Slot};
 use std::alloc::Global;
 
 /// The change that moves an old node.
-fn mover<'a>(edge: &Edge<'a>, entry: &Entry) -> Option<&'a Change>
-    requires { IsIndexed edge.now }
-    ensures { option_copied result ≡ find (moves (old_of edge.now) entry.now) (changes_of edge.now) }
+fn mover<'a>(edge: &Edge<'a>, node: Node) -> Option<&'a Change>
+    requires indexed { IsIndexed edge.now }
+    requires node { IsNode (old_of edge.now) node }
+    ensures { option_copied result ≡ find (moves (old_of edge.now) (entry_in node.entry)) (changes_of edge.now) }
 {
-    match edge.index.moved.get(&entry.name) {
+    match position_at(&edge.index.moved, node.place) {
         None => None,
         Some(at) => change_at(edge.all, at),
     }
@@ -62,13 +66,14 @@ fn slot_of(alloc: Global, edge: &Edge, new: Id, path: &Path) -> Result<Slot, NoM
 }
 
 /// Where an old node hangs in the new tree.
-fn slot_after(alloc: Global, edge: &Edge, new: Id, entry: &Entry) -> Result<Slot, NoMemory>
-    requires { IsIndexed edge.now }
-    ensures { IfOk result (λ s. s ≡ slot_by (old_of edge.now) (changes_of edge.now) new entry.now.slot (find (moves (old_of edge.now) entry.now) (changes_of edge.now))) }
+fn slot_after(alloc: Global, edge: &Edge, new: Id, node: Node) -> Result<Slot, NoMemory>
+    requires indexed { IsIndexed edge.now }
+    requires node { IsNode (old_of edge.now) node }
+    ensures { IfOk result (λ s. s ≡ slot_by (old_of edge.now) (changes_of edge.now) new (entry_in node.entry).slot (find (moves (old_of edge.now) (entry_in node.entry)) (changes_of edge.now))) }
 {
-    match mover(edge, entry) {
+    match mover(edge, node) {
         Some(Change::Rename { path: _, to }) => slot_of(alloc, edge, new, to),
-        _ => copy_slot(alloc, &entry.slot),
+        _ => copy_slot(alloc, &node.value.slot),
     }
 }
 
@@ -78,19 +83,21 @@ fn kept_entry(
     edge: &Edge,
     new: Id,
     edits: &Edits,
-    entry: &Entry,
+    node: Node,
 ) -> Result<Option<Entry>, NoMemory>
     requires indexed { IsIndexed edge.now }
     requires edits { AreEdits (old_of edge.now) (changes_of edge.now) new edits.now }
-    requires rising { IsTrue (are_keyed entry.now.attrs) }
-    ensures { IfOk result (λ o. o ≡ old_after (old_of edge.now) (changes_of edge.now) new entry.now) }
+    requires node { IsNode (old_of edge.now) node }
+    requires rising { IsTrue (are_keyed (entry_in node).attrs) }
+    ensures { IfOk result (λ o. o ≡ old_after (old_of edge.now) (changes_of edge.now) new (entry_in node.entry)) }
 {
-    if is_deleted(edge, entry) {
+    if is_deleted(edge, node) {
         return Ok(None);
     }
+    let entry = node.value;
     let mut after = Entry {
         name: entry.name.copy(alloc)?,
-        slot: slot_after(alloc, edge, new, entry)?,
+        slot: slot_after(alloc, edge, new, node)?,
         body: entry.body,
         attrs: List::from_vec(copy_attrs(alloc, entry.attrs.as_slice())?),
     };
@@ -175,7 +182,7 @@ fn kept_place(
 {
     match old_place(edge.old, place) {
         None => Ok(None),
-        Some(entry) => kept_entry(alloc, edge, new, edits, entry),
+        Some(node) => kept_entry(alloc, edge, new, edits, node),
     }
 }
 
@@ -218,8 +225,8 @@ fn push_added(
     Ok(())
 }
 
-/// The entries of the new tree, in no order.
-pub fn entries_after(alloc: Global, edge: &Edge, new: Id) -> Result<Vec<Entry>, NoMemory>
+/// The entries of the new tree, those that the changes add behind the others.
+fn listed_after(alloc: Global, edge: &Edge, new: Id) -> Result<Vec<Entry>, NoMemory>
     requires indexed { IsIndexed edge.now }
     ensures { IfOk result (λ entries. entries.items ≡ listed (old_of edge.now) (changes_of edge.now) new) }
 {
@@ -227,5 +234,15 @@ pub fn entries_after(alloc: Global, edge: &Edge, new: Id) -> Result<Vec<Entry>, 
     let mut entries = Vec::with_capacity(alloc, old_len(edge.old) as usize)?;
     push_kept(alloc, edge, new, &edits, &mut entries)?;
     push_added(alloc, edge, new, &edits, &mut entries)?;
+    Ok(entries)
+}
+
+/// The entries of the new tree, by their names as far as it takes little: a roster is built of them faster.
+pub fn entries_after(alloc: Global, edge: &Edge, new: Id) -> Result<Vec<Entry>, NoMemory>
+    requires indexed { IsIndexed edge.now }
+    ensures { IfOk result (λ entries. IsPermutation (listed (old_of edge.now) (changes_of edge.now) new) entries.items) }
+{
+    let mut entries = listed_after(alloc, edge, new)?;
+    gather(&mut entries, new);
     Ok(entries)
 }

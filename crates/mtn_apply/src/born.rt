@@ -16,7 +16,7 @@ fn is_born(old: Option<&Roster>, place: usize, new: Id) -> bool
 {
     match old_place(old, place) {
         None => false,
-        Some(entry) => entry.name.birth == new,
+        Some(node) => node.value.name.birth == new,
     }
 }
 

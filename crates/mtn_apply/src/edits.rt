@@ -16,6 +16,7 @@ use crate::draft::{Draft, attrs_of, by_keys};
 use crate::index::Edge;
 use crate::names::NameMap;
 use crate::occupant::{There, change_at, occupant_of};
+use crate::places::position_at;
 use mtn_base::{Id, List, NoMemory, NodeName, Path};
 use mtn_changes::Change;
 use mtn_roster::{Body, Entry};
@@ -54,7 +55,7 @@ pub fn name_of(alloc: Global, new: Id, there: There) -> Result<NodeName, NoMemor
     ensures { IfOk result (λ n. n ≡ occupant_name new (seen there.entry)) }
 {
     match there {
-        There::Old { entry } => entry.name.copy(alloc),
+        There::Old { node } => node.value.name.copy(alloc),
         There::Added { path, body: _ } => Ok(NodeName {
             birth: new,
             path: path.copy(alloc)?,
@@ -150,16 +151,6 @@ fn edit_by(alloc: Global, all: &[Change], at: usize, draft: &mut Draft) -> Resul
     }
 }
 
-/// The position of the edit after that at a position, of the same node.
-fn next_of(edits: &Edits, at: usize) -> Option<usize>
-    ensures { result ≡ option_and_then (λ o. o) (slice_get edits.now.next.items at) }
-{
-    match edits.next.get(at) {
-        None => None,
-        Some(next) => *next,
-    }
-}
-
 /// Makes the edits of a node of the new tree, in their order.
 pub fn edit(
     alloc: Global,
@@ -183,7 +174,7 @@ pub fn edit(
     let mut next = Some(first);
     while let Some(at) = next {
         edit_by(alloc, edge.all, at, &mut draft)?;
-        next = next_of(edits, at);
+        next = position_at(&edits.next, at);
     }
     entry.body = draft.body;
     entry.attrs = attrs_of(alloc, draft.attrs)?;

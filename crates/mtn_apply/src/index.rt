@@ -1,27 +1,29 @@
 // What the changes of an edge name, for look-ups.
-ghost use Rattle.std.specs.Prelude.{◌≡◌, ◌<◌, ℕ, List, Some, None, cond, length, option_copied, IfOk, OnOk};
-ghost use Rattle.mtn_apply.specs.Maps.{of_name, of_path};
-ghost use Rattle.std.specs.List.{position_from};
+ghost use Rattle.std.specs.Prelude.{◌≡◌, ◌+◌, ℕ, List, Some, cond, length, slice_get, option_copied, IfOk, OnOk};
+ghost use Rattle.mtn_apply.specs.Maps.{of_place, of_path};
 ghost use Rattle.mtn_base.specs.Names.{same_path};
 ghost use Rattle.mtn_roster.specs.Tree.{Tree, is_some_with};
 ghost use Rattle.mtn_roster.specs.declared.entry.Entry.{Entry};
 ghost use Rattle.mtn_edits.specs.Changes.{aims_at, deletes, moves, stands_at};
 ghost use Rattle.mtn_apply.specs.Old.{tree_in};
-ghost use Rattle.mtn_apply.specs.Index.{IsIndexed, IsIndex};
+ghost use Rattle.mtn_apply.specs.Index.{IsIndexed, IsIndex, IsIndexFrom};
+ghost use Rattle.mtn_edits.specs.Laws.{IsOldTree};
+ghost use Rattle.mtn_changes.specs.declared.change.Change.{Change};
 
-use crate::names::{NameMap, PathMap};
+use crate::names::PathMap;
 use crate::old::{old_at, old_len};
+use crate::places::no_positions;
 use mtn_base::{NoMemory, Path};
 use mtn_changes::Change;
 use mtn_roster::Roster;
 use std::alloc::Global;
 
-/// For each target, and for the name of each old node, the position of the first change that names it.
+/// For each target, and for the place of each old node, the position of the first change that names it.
 #[derive(Drop)]
 pub struct Index {
     pub targets: PathMap,
-    pub deleted: NameMap,
-    pub moved: NameMap,
+    pub deleted: Vec<Option<usize>>,
+    pub moved: Vec<Option<usize>>,
 }
 
 /// The changes from an old tree, with their index.
@@ -79,61 +81,62 @@ fn note_target(
     Ok(())
 }
 
-/// For each target the position of the first change that has it.
-pub fn targets_of(alloc: Global, all: &[Change]) -> Result<PathMap, NoMemory>
-    ensures { IfOk result (λ m. (q : List (List ℕ)) → of_path m q ≡ position_from (aims_at q) 0 all.now) }
-{
-    let mut targets = PathMap::new(alloc, all.len())?;
-    let mut left = all.len();
-    while left > 0 {
-        left -= 1;
-        note_target(alloc, target_of(&all[left]), left, &mut targets)?;
-    }
-    Ok(targets)
-}
-
-/// Notes a position under the name of the old node at a path, if there is one.
-fn note_node(
-    alloc: Global,
-    old: Option<&Roster>,
-    path: Option<&Path>,
-    at: usize,
-    nodes: &mut NameMap,
-) -> Result<(), NoMemory>
-    ensures { OnOk result ((e : Entry) → of_name nodes.new e.name ≡ cond (is_some_with (stands_at (tree_in old.entry) e) (option_copied path.entry)) (Some at) (of_name nodes.old e.name)) }
+/// Notes a position at the place of the old node at a path, if there is one.
+fn note_node(old: Option<&Roster>, path: Option<&Path>, at: usize, nodes: &mut Vec<Option<usize>>)
+    requires sane { IsOldTree (tree_in old) }
+    requires long { length nodes.old.items ≡ length (tree_in old) }
+    ensures long { length nodes.new.items ≡ length nodes.old.items }
+    ensures noted { (k : ℕ) (e : Entry) → slice_get (tree_in old.entry) k ≡ Some e → of_place nodes.new.items k ≡ cond (is_some_with (stands_at (tree_in old.entry) e) (option_copied path.entry)) (Some at) (of_place nodes.old.items k) }
 {
     if let Some(path) = path {
-        if let Some(entry) = old_at(old, path) {
-            nodes.insert(entry.name.copy(alloc)?, at)?;
+        if let Some(node) = old_at(old, path) {
+            nodes[node.place] = Some(at);
         }
     }
+}
+
+/// Puts the change at a position before those that are noted.
+fn note_change(
+    alloc: Global,
+    old: Option<&Roster>,
+    change: &Change,
+    at: usize,
+    index: &mut Index,
+) -> Result<(), NoMemory>
+    requires sane { IsOldTree (tree_in old) }
+    requires deleted { length index.old.deleted.items ≡ length (tree_in old) }
+    requires moved { length index.old.moved.items ≡ length (tree_in old) }
+    ensures { OnOk result ((all : List Change) → slice_get all at ≡ Some change.now → IsIndexFrom (tree_in old.entry) all (at + 1) index.old → IsIndexFrom (tree_in old.entry) all at index.new) }
+{
+    note_target(alloc, target_of(change), at, &mut index.targets)?;
+    note_node(old, deleted_path(change), at, &mut index.deleted);
+    note_node(old, moved_path(change), at, &mut index.moved);
     Ok(())
 }
 
-/// For the name of each old node the position of the first change that deletes it.
-pub fn deleted_of(alloc: Global, old: Option<&Roster>, all: &[Change]) -> Result<NameMap, NoMemory>
-    ensures { IfOk result (λ m. (e : Entry) → of_name m e.name ≡ position_from (deletes (tree_in old.entry) e) 0 all.now) }
+/// An index of no change.
+fn no_changes(alloc: Global, nodes: usize, targets: usize) -> Result<Index, NoMemory>
+    ensures { IfOk result (λ index. (old : Tree) (all : List Change) → length old ≡ nodes → IsIndexFrom old all (length all) index) }
 {
-    let mut deleted = NameMap::new(alloc, all.len())?;
-    let mut left = all.len();
-    while left > 0 {
-        left -= 1;
-        note_node(alloc, old, deleted_path(&all[left]), left, &mut deleted)?;
-    }
-    Ok(deleted)
+    Ok(Index {
+        targets: PathMap::new(alloc, targets)?,
+        deleted: no_positions(alloc, nodes)?,
+        moved: no_positions(alloc, nodes)?,
+    })
 }
 
-/// For the name of each old node the position of the first change that moves it.
-pub fn moved_of(alloc: Global, old: Option<&Roster>, all: &[Change]) -> Result<NameMap, NoMemory>
-    ensures { IfOk result (λ m. (e : Entry) → of_name m e.name ≡ position_from (moves (tree_in old.entry) e) 0 all.now) }
+/// The index of changes: the last is noted first.
+fn index_of(alloc: Global, old: Option<&Roster>, all: &[Change]) -> Result<Index, NoMemory>
+    ensures { IfOk result (IsIndex (tree_in old.entry) all.now) }
 {
-    let mut moved = NameMap::new(alloc, all.len())?;
+    let nodes = old_len(old) as usize;
+    let mut index = no_changes(alloc, nodes, all.len())?;
     let mut left = all.len();
     while left > 0 {
         left -= 1;
-        note_node(alloc, old, moved_path(&all[left]), left, &mut moved)?;
+        note_change(alloc, old, &all[left], left, &mut index)?;
     }
-    Ok(moved)
+    Ok(index)
 }
 
 /// An edge with its index.
@@ -146,14 +149,6 @@ pub fn indexed<'a>(
     ensures old { IfOk result (λ edge. edge.old ≡ old.entry) }
     ensures all { IfOk result (λ edge. edge.all.now ≡ all.now) }
 {
-    let _count = old_len(old);
-    let targets = targets_of(alloc, all)?;
-    let deleted = deleted_of(alloc, old, all)?;
-    let moved = moved_of(alloc, old, all)?;
-    let index = Index {
-        targets,
-        deleted,
-        moved,
-    };
+    let index = index_of(alloc, old, all)?;
     Ok(Edge { old, all, index })
 }

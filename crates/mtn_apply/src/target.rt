@@ -67,7 +67,7 @@ pub fn is_file(there: Option<There>) -> bool
 {
     match there {
         None => false,
-        Some(There::Old { entry }) => !entry.body.is_dir(),
+        Some(There::Old { node }) => !node.value.body.is_dir(),
         Some(There::Added { path: _, body }) => !body.is_dir(),
     }
 }
@@ -118,7 +118,7 @@ fn is_slot_below(slot: &Slot, name: &Comp, above: Option<There>) -> bool
     match slot {
         Slot::Root => false,
         Slot::Below { parent, name: own } => match above {
-            Some(There::Old { entry }) => parent.same(&entry.name) && own == name,
+            Some(There::Old { node }) => parent.same(&node.value.name) && own == name,
             _ => false,
         },
     }

@@ -10,12 +10,12 @@ ghost use Rattle.mtn_changes.specs.declared.change.Change.{Change};
 ghost use Rattle.mtn_changes.specs.declared.change.Change.TheVariants.{Delete, Rename, AddDir, AddFile, Patch, Clear, Set};
 ghost use Rattle.mtn_edits.specs.Changes.{is_deleted as deletes_it, is_kept as keeps_it, has_kept_child as has_kept, parent_up, aside_up, hangs_there as hangs, is_empty, kept_child as kept_below, is_file as stands_file, is_below_file as below_file, has_content as holds, old_value as old_live, first_reason as first_of, why, occupant};
 ghost use Rattle.mtn_edits.specs.Changes.Occupant.{Old};
-ghost use Rattle.mtn_apply.specs.Old.{seen, HasRisingKeys};
+ghost use Rattle.mtn_apply.specs.Old.{seen, entry_in, IsOldNode, HasRisingKeys};
 ghost use Rattle.mtn_apply.specs.Index.{IsIndexed, old_of, changes_of};
 
 use crate::index::Edge;
-use crate::occupant::{There, is_deleted, is_kept, kept_child, occupant_of};
-use crate::old::{old_at, old_children, old_entry};
+use crate::occupant::{There, is_deleted, is_kept, kept_child, occupant_of, there_of};
+use crate::old::{Node, old_at, old_children, old_named};
 use crate::target::{
     Seat, hangs_there, is_file, is_reserved, is_root, is_taken, lacks_parent, seat_of,
 };
@@ -41,9 +41,9 @@ fn is_kept_name(edge: &Edge, name: &NodeName) -> bool
     requires { IsIndexed edge.now }
     ensures { result ≡ is_some_with (keeps_it (old_of edge.now) (changes_of edge.now)) (entry_of (old_of edge.now) name.now) }
 {
-    match old_entry(edge.old, name) {
+    match old_named(edge.old, name) {
         None => false,
-        Some(entry) => is_kept(edge, entry),
+        Some(node) => is_kept(edge, node),
     }
 }
 
@@ -55,14 +55,14 @@ fn any_kept(edge: &Edge, names: &[NodeName]) -> bool
 }
 
 /// Whether a child of an old node, if there is one, is kept.
-fn has_kept_child(alloc: Global, edge: &Edge, node: Option<&Entry>) -> Result<bool, NoMemory>
+fn has_kept_child(alloc: Global, edge: &Edge, node: Option<Node>) -> Result<bool, NoMemory>
     requires { IsIndexed edge.now }
-    ensures { IfOk result (λ b. b ≡ is_some_with (has_kept (old_of edge.now) (changes_of edge.now)) (option_copied node.entry)) }
+    ensures { IfOk result (λ b. b ≡ is_some_with (has_kept (old_of edge.now) (changes_of edge.now)) (option_map entry_in node.entry)) }
 {
     match node {
         None => Ok(false),
-        Some(entry) => {
-            let names = old_children(alloc, edge.old, &entry.name)?;
+        Some(node) => {
+            let names = old_children(alloc, edge.old, &node.value.name)?;
             Ok(any_kept(edge, &names))
         }
     }
@@ -78,49 +78,41 @@ fn why_delete(alloc: Global, edge: &Edge, path: &Path) -> Result<Option<Why>, No
 }
 
 /// Whether there is no such node, or it is deleted.
-fn is_lost(edge: &Edge, node: Option<&Entry>) -> bool
-    requires { IsIndexed edge.now }
-    ensures { result ≡ (is_none (option_copied node.entry) || is_some_with (deletes_it (old_of edge.now) (changes_of edge.now)) (option_copied node.entry)) }
+fn is_lost(edge: &Edge, node: Option<Node>) -> bool
+    requires indexed { IsIndexed edge.now }
+    requires node { IsOldNode (old_of edge.now) node }
+    ensures { result ≡ (is_none (option_map entry_in node.entry) || is_some_with (deletes_it (old_of edge.now) (changes_of edge.now)) (option_map entry_in node.entry)) }
 {
     match node {
         None => true,
-        Some(entry) => is_deleted(edge, entry),
+        Some(node) => is_deleted(edge, node),
     }
 }
 
 /// Whether the node hangs at the target already.
-fn hangs_at(edge: &Edge, to: &Path, seat: &Seat, node: Option<&Entry>) -> bool
+fn hangs_at(edge: &Edge, to: &Path, seat: &Seat, node: Option<Node>) -> bool
     requires parent { option_map seen seat.now.parent ≡ parent_up (old_of edge.now) (changes_of edge.now) (reverse to.now) }
-    ensures { result ≡ is_some_with (hangs (old_of edge.now) (changes_of edge.now) (reverse to.now)) (option_copied node.entry) }
+    ensures { result ≡ is_some_with (hangs (old_of edge.now) (changes_of edge.now) (reverse to.now)) (option_map entry_in node.entry) }
 {
     match node {
         None => false,
-        Some(entry) => hangs_there(edge, to, seat, entry),
+        Some(node) => hangs_there(edge, to, seat, node.value),
     }
 }
 
 /// Whether a rename leaves the node where it is.
-fn stays(edge: &Edge, path: &Path, to: &Path, seat: &Seat, node: Option<&Entry>) -> bool
+fn stays(edge: &Edge, path: &Path, to: &Path, seat: &Seat, node: Option<Node>) -> bool
     requires parent { option_map seen seat.now.parent ≡ parent_up (old_of edge.now) (changes_of edge.now) (reverse to.now) }
-    ensures { result ≡ ((is_empty path.now && is_empty to.now) || is_some_with (hangs (old_of edge.now) (changes_of edge.now) (reverse to.now)) (option_copied node.entry)) }
+    ensures { result ≡ ((is_empty path.now && is_empty to.now) || is_some_with (hangs (old_of edge.now) (changes_of edge.now) (reverse to.now)) (option_map entry_in node.entry)) }
 {
     (is_root(path) && is_root(to)) || hangs_at(edge, to, seat, node)
 }
 
-/// An old node as what stands somewhere.
-fn there_of(node: Option<&Entry>) -> Option<There>
-    ensures { option_map seen result ≡ option_map Old (option_copied node.entry) }
-{
-    match node {
-        None => None,
-        Some(entry) => Some(There::Old { entry }),
-    }
-}
-
 /// Whether the node has a kept child of the reserved name.
-fn keeps_reserved(alloc: Global, edge: &Edge, node: Option<&Entry>) -> Result<bool, NoMemory>
-    requires { IsIndexed edge.now }
-    ensures { IfOk result (λ b. b ≡ is_some (option_and_then (kept_below (old_of edge.now) (changes_of edge.now) mtn) (option_map Old (option_copied node.entry)))) }
+fn keeps_reserved(alloc: Global, edge: &Edge, node: Option<Node>) -> Result<bool, NoMemory>
+    requires indexed { IsIndexed edge.now }
+    requires node { IsOldNode (old_of edge.now) node }
+    ensures { IfOk result (λ b. b ≡ is_some (option_and_then (kept_below (old_of edge.now) (changes_of edge.now) mtn) (option_map Old (option_map entry_in node.entry)))) }
 {
     match Comp::read(alloc, b"_MTN".as_slice()) {
         Err(_) => Err(NoMemory),
@@ -133,10 +125,11 @@ fn takes_reserved(
     alloc: Global,
     edge: &Edge,
     to: &Path,
-    node: Option<&Entry>,
+    node: Option<Node>,
 ) -> Result<bool, NoMemory>
-    requires { IsIndexed edge.now }
-    ensures { IfOk result (λ b. b ≡ (same_path to.now (mtn ∷ []) || (is_empty to.now && is_some (option_and_then (kept_below (old_of edge.now) (changes_of edge.now) mtn) (option_map Old (option_copied node.entry)))))) }
+    requires indexed { IsIndexed edge.now }
+    requires node { IsOldNode (old_of edge.now) node }
+    ensures { IfOk result (λ b. b ≡ (same_path to.now (mtn ∷ []) || (is_empty to.now && is_some (option_and_then (kept_below (old_of edge.now) (changes_of edge.now) mtn) (option_map Old (option_map entry_in node.entry)))))) }
 {
     if is_reserved(to) {
         return Ok(true);
@@ -148,9 +141,9 @@ fn takes_reserved(
 }
 
 /// Whether a rename puts the node below a file, or a file at the root path.
-fn has_no_dir(edge: &Edge, to: &Path, seat: &Seat, node: Option<&Entry>) -> bool
+fn has_no_dir(edge: &Edge, to: &Path, seat: &Seat, node: Option<Node>) -> bool
     requires parent { option_map seen seat.now.parent ≡ parent_up (old_of edge.now) (changes_of edge.now) (reverse to.now) }
-    ensures { result ≡ (below_file (old_of edge.now) (changes_of edge.now) to.now || (is_empty to.now && stands_file (option_map Old (option_copied node.entry)))) }
+    ensures { result ≡ (below_file (old_of edge.now) (changes_of edge.now) to.now || (is_empty to.now && stands_file (option_map Old (option_map entry_in node.entry)))) }
 {
     is_file(seat.parent) || (is_root(to) && is_file(there_of(node)))
 }
@@ -209,7 +202,7 @@ fn has_content(there: Option<There>, content: Id) -> bool
     ensures { result ≡ holds content (option_map seen there.entry) }
 {
     match there {
-        Some(There::Old { entry }) => match entry.body {
+        Some(There::Old { node }) => match node.value.body {
             Body::Dir => false,
             Body::File { content: own } => own == content,
         },
@@ -242,7 +235,7 @@ fn old_value<'a>(there: Option<There<'a>>, key: &[u8]) -> Option<&'a Bytes>
     ensures { option_copied result ≡ old_live key.now (option_map seen there.entry) }
 {
     match there {
-        Some(There::Old { entry }) => live_value(entry.attrs.as_slice(), key),
+        Some(There::Old { node }) => live_value(node.value.attrs.as_slice(), key),
         _ => None,
     }
 }

@@ -95,11 +95,10 @@ node_at-none t p (name ∷ q) h =
     ∙ node_at-none t (p ++ name ∷ []) q (node_at-push t p name ∙ ap (option_and_then (child_of t name)) h)
 
 -- one component further
-pub node_at-more : (t : Tree) (comps : List (List ℕ)) (i : ℕ) (name : List ℕ) (e : Entry) → i < length comps → name ≡ get_or comps i name →
-    node_at t (take i comps) ≡ Some e → node_at t (take (i + 1) comps) ≡ child_of t name e
-node_at-more t comps i name e low is at =
+pub node_at-next : (t : Tree) (comps : List (List ℕ)) (i : ℕ) (name : List ℕ) → i < length comps → name ≡ get_or comps i name → node_at t (take (i + 1) comps) ≡ option_and_then (child_of t name) (node_at t (take i comps))
+node_at-next t comps i name low is =
     ap (node_at t) (take_more comps i name low ∙ ap (λ c. take i comps ++ c ∷ []) (sym is))
-    ∙ node_at-push t (take i comps) name ∙ ap (option_and_then (child_of t name)) at
+    ∙ node_at-push t (take i comps) name
 
 -- and no further
 pub node_at-lost : (t : Tree) (comps : List (List ℕ)) (i : ℕ) → node_at t (take i comps) ≡ None → node_at t comps ≡ None

@@ -10,6 +10,7 @@ ghost use Rattle.mtn_roster.specs.Walk.{component};
 ghost use Rattle.mtn_roster.specs.Index.{ArePlaces, IsIndex, slot_cmp, slot_in};
 ghost use Rattle.mtn_roster.specs.Building.{SlotsDiffer, AreUps};
 
+use crate::families::sort_families;
 use crate::{BuildError, Entry, Slot};
 use mtn_base::{Comp, NoMemory, NodeName};
 use std::alloc::Global;
@@ -86,7 +87,7 @@ fn compare_slots(entries: &[Entry], first: usize, second: usize) -> Ordering
 }
 
 /// The component of what stands at a place.
-fn component_at(entries: &[Entry], at: usize) -> &[u8]
+pub fn component_at(entries: &[Entry], at: usize) -> &[u8]
     ensures { result.now ≡ component (slot_in entries.now at) }
 {
     match entries.get(at) {
@@ -154,7 +155,7 @@ fn slots_ascend(entries: &[Entry], ups: &[usize], places: &[usize]) -> bool
 
 /// Puts the places of entries in the order of their slots, and says whether these are apart. Where the
 /// nodes kept the paths of their births, the children of each stand by their components once they are
-/// together, and one look tells it.
+/// together, and one look tells it; elsewhere each family is sorted by itself.
 fn sort_places(entries: &[Entry], ups: &[usize], places: &mut Vec<usize>) -> bool
     requires rising { IsTrue (rises name_cmp (map (λ (e : Entry). e.name) entries.now)) }
     requires ups { AreUps entries.now ups.now }
@@ -163,6 +164,10 @@ fn sort_places(entries: &[Entry], ups: &[usize], places: &mut Vec<usize>) -> boo
     ensures index { IsTrue result → IsIndex entries.now places.new.items }
 {
     group_places(ups, places);
+    if slots_ascend(entries, ups, places) {
+        return true;
+    }
+    sort_families(entries, ups, places);
     if slots_ascend(entries, ups, places) {
         return true;
     }

@@ -17,7 +17,9 @@
 
 pub mod attrs;
 mod build;
+mod child;
 mod entry;
+mod families;
 mod index;
 mod keys;
 pub mod laws;

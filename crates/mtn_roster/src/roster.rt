@@ -2,12 +2,13 @@
 ghost use Rattle.std.specs.Prelude.{◌≡◌, ◌<◌, length, map, option_copied, option_map, option_and_then, slice_get, Some, IsTrue, IfSome, IfOk, OnOk, IsErrOf};
 ghost use Rattle.std.specs.List.{All};
 ghost use Rattle.mtn_base.specs.Names.{name_cmp};
-ghost use Rattle.mtn_roster.specs.Building.{IsBuildable, tree_of};
+ghost use Rattle.mtn_roster.specs.Building.{AreUps, IsBuildable, tree_of};
 ghost use Rattle.mtn_roster.specs.Tree.{IsSane, entry_of, child_of, node_at, path_of, rises};
 ghost use Rattle.mtn_roster.specs.Index.{IsIndex};
 ghost use Rattle.mtn_roster.specs.Walk.{by_path, children_of, path_at, AreStops};
 
 use crate::build::{sort_all_keys, sort_names};
+use crate::child::child_at;
 use crate::index::{child_place, root_place};
 use crate::sane::checked_index;
 use crate::walk::{Stop, run_of, stops_of};
@@ -80,8 +81,30 @@ impl Roster {
     pub fn at_path(&self, path: &Path) -> Option<&Entry>
         ensures { option_copied result ≡ node_at self.now path.now }
     {
-        let at = node_among(&self.entries, &self.by_slot, path.comps())?;
+        let at = self.place_at_path(path)?;
         self.entries.get(at)
+    }
+
+    /// The place of the node at a path. It takes no memory.
+    pub fn place_at_path(&self, path: &Path) -> Option<usize>
+        ensures { option_and_then (slice_get self.now) result ≡ node_at self.now path.now }
+    {
+        node_among(&self.entries, &self.ups, &self.by_slot, path.comps())
+    }
+
+    /// The place of a node. It takes no memory.
+    pub fn place_of(&self, name: &NodeName) -> Option<usize>
+        ensures { option_and_then (slice_get self.now) result ≡ entry_of self.now name.now }
+    {
+        place_among(&self.entries, name)
+    }
+
+    /// The place of the child of that name, of the node at a place. It takes no memory, and it compares
+    /// numbers where `child` compares names.
+    pub fn child_place(&self, above: usize, name: &Comp) -> Option<usize>
+        ensures { option_and_then (slice_get self.now) result ≡ option_and_then (child_of self.now name.now) (slice_get self.now above) }
+    {
+        child_at(&self.entries, &self.ups, &self.by_slot, above, name)
     }
 
     /// The child of that name, of an entry of this tree or of another. It takes no memory.
@@ -149,14 +172,16 @@ pub fn place_among(entries: &[Entry], name: &NodeName) -> Option<usize>
 }
 
 /// Where the entry at a path stands: that of the root, and then of a child for each component.
-fn node_among(entries: &[Entry], by_slot: &[usize], comps: &[Comp]) -> Option<usize>
+fn node_among(entries: &[Entry], ups: &[usize], by_slot: &[usize], comps: &[Comp]) -> Option<usize>
+    requires rising { IsTrue (rises name_cmp (map (λ (e : Entry). e.name) entries.now)) }
     requires index { IsIndex entries.now by_slot.now }
+    requires ups { AreUps entries.now ups.now }
     ensures within { IfSome result (λ at. at < length entries.now) }
     ensures entry { option_and_then (slice_get entries.now) result ≡ node_at entries.now comps.now }
 {
     let mut at = root_place(entries, by_slot)?;
     for comp in comps {
-        at = child_place(entries, by_slot, &entries[at], comp)?;
+        at = child_at(entries, ups, by_slot, at, comp)?;
     }
     Some(at)
 }

@@ -39,7 +39,7 @@ pub fn run_of<'a>(entries: &[Entry], by_slot: &'a [usize], name: &NodeName) -> &
 
 /// How the parent of the entry at a place stands to the node at another, by their places. What is its own
 /// parent is the root, or outside.
-fn compare_up(
+pub fn compare_up(
     entries: &[Entry],
     ups: &[usize],
     at: usize,

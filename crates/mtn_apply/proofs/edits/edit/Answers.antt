@@ -2,30 +2,31 @@
 use Rattle.std.proofs.Common.{◌≡◌, ◌+◌, ◌<◌, ℕ, List, Option, Some, None, length, refl, sym, ◌∙◌, ap, subst}
 use Rattle.mtn_roster.specs.declared.entry.Attr.{Attr}
 use Rattle.mtn_roster.specs.declared.entry.Entry.{Entry}
+use Rattle.mtn_apply.specs.Maps.{of_place}
 use Rattle.mtn_apply.specs.Index.{old_of, changes_of}
 use Rattle.mtn_apply.specs.Edits.{held, next_edit}
 use Rattle.mtn_apply.proofs.Chains.{IsLeft, to_go, left_start, left_more, left_none, none_first, goes_on, linked}
 use Rattle.mtn_apply.proofs.edits.edit.Goals as goal
-use Rattle.mtn_apply.proofs.edits.edit.Goals.{After-next_of-next}
+use Rattle.mtn_apply.proofs.edits.edit.Goals.{After-position_at-next}
 
-left : (c : After-next_of-next) → IsLeft (old_of c.args.edge.now) (changes_of c.args.edge.now) c.args.new c.args.entry.now (Some c.in-Some-next.at) (held c.loop-next.draft c.args.entry.now)
+left : (c : After-position_at-next) → IsLeft (old_of c.args.edge.now) (changes_of c.args.edge.now) c.args.new c.args.entry.now (Some c.in-Some-next.at) (held c.loop-next.draft c.args.entry.now)
 left c = subst (λ o. IsLeft (old_of c.args.edge.now) (changes_of c.args.edge.now) c.args.new c.args.entry.now o (held c.loop-next.draft c.args.entry.now)) c.in-Some-next.is c.loop-next.invariant
 
-next_is : (c : After-next_of-next) → c.next_of-next.result ≡ next_edit (old_of c.args.edge.now) (changes_of c.args.edge.now) c.args.new c.args.entry.now.name (c.in-Some-next.at + 1)
-next_is c = linked (old_of c.args.edge.now) (changes_of c.args.edge.now) c.args.new c.args.edits.now c.requires.edits c.args.entry.now (held c.loop-next.draft c.args.entry.now) c.in-Some-next.at c.next_of-next.result (left c) c.next_of-next.ensures
+next_is : (c : After-position_at-next) → c.position_at-next.result ≡ next_edit (old_of c.args.edge.now) (changes_of c.args.edge.now) c.args.new c.args.entry.now.name (c.in-Some-next.at + 1)
+next_is c = linked (old_of c.args.edge.now) (changes_of c.args.edge.now) c.args.new c.args.edits.now c.requires.edits c.args.entry.now (held c.loop-next.draft c.args.entry.now) c.in-Some-next.at c.position_at-next.result (left c) (c.position_at-next.ensures ∙ ap (λ (l : List (Option ℕ)). of_place l c.in-Some-next.at) c.deref.ensures.value)
 
 pub loop-next-smaller : goal.loop-next-smaller
 loop-next-smaller c =
     let all = changes_of c.args.edge.now in
-    subst (λ o. to_go (length all) c.next_of-next.result < to_go (length all) o) (sym c.in-Some-next.is)
-    (goes_on (old_of c.args.edge.now) all c.args.new c.args.entry.now (held c.loop-next.draft c.args.entry.now) c.in-Some-next.at c.next_of-next.result (left c) (next_is c))
+    subst (λ o. to_go (length all) c.position_at-next.result < to_go (length all) o) (sym c.in-Some-next.is)
+    (goes_on (old_of c.args.edge.now) all c.args.new c.args.entry.now (held c.loop-next.draft c.args.entry.now) c.in-Some-next.at c.position_at-next.result (left c) (next_is c))
 
 pub loop-next-preserved : goal.loop-next-preserved
 loop-next-preserved c =
     let old = old_of c.args.edge.now in
     let all = changes_of c.args.edge.now in
     let s = left_more old all c.args.new c.args.entry.now (held c.loop-next.draft c.args.entry.now) c.in-Some-next.at (left c) in
-    subst (IsLeft old all c.args.new c.args.entry.now c.next_of-next.result) (sym (c.in_ok-edit_by.ensures s.change c.args.entry.now s.is)) (s.on c.next_of-next.result (next_is c))
+    subst (IsLeft old all c.args.new c.args.entry.now c.position_at-next.result) (sym (c.in_ok-edit_by.ensures s.change c.args.entry.now s.is)) (s.on c.position_at-next.result (next_is c))
 
 abbrev with_attrs : Entry → List Attr → Entry
 with_attrs e attrs = record e { attrs = attrs }

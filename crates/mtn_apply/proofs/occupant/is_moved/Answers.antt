@@ -1,10 +1,12 @@
--- A name that is noted is that of a moved node.
+-- A place that is noted is that of a moved node.
 use Rattle.std.specs.Prelude.{is_some}
-use Rattle.std.proofs.Common.{ap, ◌∙◌}
+use Rattle.std.proofs.Common.{ℕ, List, Option, ap, ◌∙◌}
 use Rattle.mtn_edits.specs.Changes.{moves}
+use Rattle.mtn_apply.specs.Maps.{of_place}
+use Rattle.mtn_apply.specs.Old.{entry_in}
 use Rattle.mtn_apply.specs.Index.{old_of, changes_of}
 use Rattle.mtn_apply.proofs.Positions.{there_is}
 use Rattle.mtn_apply.proofs.occupant.is_moved.Goals as goal
 
 pub returns : goal.returns
-returns c = c.is_some.ensures ∙ ap is_some (c.get.ensures ∙ c.requires.moved c.args.entry.now) ∙ there_is (moves (old_of c.args.edge.now) c.args.entry.now) 0 (changes_of c.args.edge.now)
+returns c = c.is_some.ensures ∙ ap is_some (c.position_at.ensures ∙ ap (λ (l : List (Option ℕ)). of_place l c.args.node.place) c.deref.ensures.value ∙ c.requires.indexed.moved c.args.node.place (entry_in c.args.node) c.requires.node) ∙ there_is (moves (old_of c.args.edge.now) (entry_in c.args.node)) 0 (changes_of c.args.edge.now)
