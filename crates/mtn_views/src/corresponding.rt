@@ -83,10 +83,5 @@ pub fn get_corresponding_path<K: Keeper>(
     let (_, here) = draft.roster_of(id)?;
     let (_, there) = draft.roster_of(other)?;
     let alloc = draft.alloc();
-    corresponding(
-        alloc,
-        here.marked().roster(),
-        path,
-        there.marked().roster(),
-    )
+    corresponding(alloc, here.marked().roster(), path, there.marked().roster())
 }
