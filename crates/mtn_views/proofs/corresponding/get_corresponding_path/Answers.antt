@@ -6,6 +6,7 @@ use Rattle.mtn_history.specs.Marked.{FindsRoster}
 use Rattle.mtn_history.specs.Stands.{IsFounded}
 use Rattle.mtn_history.proofs.Founding.{back}
 use Rattle.mtn_log.specs.Making.{place_of}
+use Rattle.mtn_marking.specs.Marking.{MarkedTree}
 use Rattle.mtn_ports.proofs.KeptLemmas.{stays_trans}
 use Rattle.mtn_roster.specs.Tree.{node_at}
 use Rattle.mtn_views.specs.Answers.{Gives, over}
