@@ -175,10 +175,12 @@ full() {
 }
 verdict "a full disk is a fault, and the store is as it was" full
 
-# Killed at a moment of a run of puts: the store has a front of the commands, with every one that was answered.
+# Killed at a moment of a run of puts: the store has a front of the commands behind a first file, with every one that was
+# answered.
 killed() {
     local killed=$work/killed.mtn answered n
     rm -f "$killed"*
+    ./mtn "$killed" put_file </dev/null >"$work/out" || return 1
     : >"$work/answered"
     setsid bash -c 'for i in $(seq 100); do printf "$i" | ./mtn "$1" put_file >>"$2"; done' _ "$killed" "$work/answered" 2>/dev/null &
     local group=$!
@@ -189,7 +191,7 @@ killed() {
     [ "$answered" = 100 ] && return 0
     n=0
     while [ "$n" -lt 100 ] && [ "$(./mtn "$killed" get_file "$(printf $((n + 1)) | sha1sum | cut -d' ' -f1)")" = "$((n + 1))" ]; do n=$((n + 1)); done
-    [ "$n" -ge "$answered" ] && asks "$killed" 'SELECT count(*) FROM kept WHERE kind = 2' "$n" && asks "$killed" 'PRAGMA integrity_check' ok
+    [ "$n" -ge "$answered" ] && asks "$killed" 'SELECT count(*) FROM kept WHERE kind = 2' "$((n + 1))" && asks "$killed" 'PRAGMA integrity_check' ok
 }
 for round in $(seq 20); do verdict "killed, round $round" killed; done
 
