@@ -12,6 +12,8 @@ mod given;
 #[cfg(test)]
 mod limits;
 #[cfg(test)]
+mod remembered;
+#[cfg(test)]
 mod revisions;
 #[cfg(test)]
 mod words;
