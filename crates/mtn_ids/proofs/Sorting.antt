@@ -40,16 +40,17 @@ contains_cases x xs y c = go c.0 c.1 c.2
     go zero h e = inl e
     go (suc k) h e = inr (k, omega arith, e)
 
-each_from : {X : Type 0} (P : X → Type 0) (xs : List X) → AllByRecursion P xs → (x : X) → Contains xs x → P x
+-- what holds of each element, by recursion
+pub each_from : {X : Type 0} (P : X → Type 0) (xs : List X) → AllByRecursion P xs → (x : X) → Contains xs x → P x
 each_from P [] all x c = absurd (contains_nil c)
 each_from P (y ∷ ys) all x c = ⊎_elim (λ e. subst P e all.0) (λ d. each_from P ys all.1 x d) (contains_cases y ys x c)
 
 -- no two are each before the other
-abbrev OneWay : {X : Type 0} → (X → X → Ordering) → Type 0
+abbrev pub OneWay : {X : Type 0} → (X → X → Ordering) → Type 0
 OneWay {X} order = (x y : X) → order x y ≡ Less → order y x ≡ Less → ⊥
 
 -- two lists in order with the same elements are one
-one_list : {X : Type 0} (order : X → X → Ordering) → OneWay order → (xs ys : List X) → IsStrictlySortedBy order xs → IsStrictlySortedBy order ys →
+pub one_list : {X : Type 0} (order : X → X → Ordering) → OneWay order → (xs ys : List X) → IsStrictlySortedBy order xs → IsStrictlySortedBy order ys →
     ((x : X) → Contains xs x → Contains ys x) → ((x : X) → Contains ys x → Contains xs x) → xs ≡ ys
 one_list order way [] [] up also to from = refl
 one_list order way [] (y ∷ ys) up also to from = absurd (contains_nil (from y (contains_head y ys)))
@@ -66,7 +67,7 @@ one_list {X} order way (x ∷ xs) (y ∷ ys) up also to from =
 pub by_id_total : IsTotalOrder by_id
 by_id_total = on_total (λ (i : Id). i.0) nat_list_cmp_total
 
-one_way_of : {X : Type 0} {order : X → X → Ordering} → IsTotalOrder order → OneWay order
+pub one_way_of : {X : Type 0} {order : X → X → Ordering} → IsTotalOrder order → OneWay order
 one_way_of total x y a b = absurd (let turned : Less ≡ Greater = sym a ∙ total.antisymm x y ∙ ap ordering_reverse b in cc)
 
 pub one_list_of : (a b : List Id) → IsStrictlySortedBy by_id a → IsStrictlySortedBy by_id b → ((x : Id) → Contains a x → Contains b x) → ((x : Id) → Contains b x → Contains a x) → a ≡ b

@@ -1,17 +1,8 @@
 -- The orders of ids, and that a query has one answer.
 use Rattle.std.specs.Prelude.{All, Contains, map, unwrap_or}
-use Rattle.std.specs.Cmp.{IsTotalOrder}
-use Rattle.std.specs.Ordering.{ordering_reverse}
-use Rattle.std.specs.declared.cmp.Ordering.{Ordering}
-use Rattle.std.specs.declared.cmp.Ordering.TheVariants.{Less, Greater}
 use Rattle.std.proofs.Common.{◌≡◌, ◌↔◌, ◌<◌, ◌+◌, ◌++◌, ℕ, List, [], ◌∷◌, length, get_or, take, refl, sym, ap, ◌∙◌, subst}
 use Rattle.std.proofs.lemmas.List.{map-append, take_more}
-use Rattle.std.proofs.lemmas.Map.Text.{is_eq-slice_cmp}
-use Rattle.std.proofs.lemmas.Cmp.{nat_list_cmp_total, nat_list_eq_equiv, nat_cmp_total, on_equiv, on_total}
-use Rattle.std.specs.List.Retain.{IsFiltered, DiffersFromLast}
-use Rattle.std.specs.List.Sorted.{IsPermutation, IsSorted}
-use Rattle.mtn_base.specs.Names.{same_id}
-use Rattle.mtn_roster.proofs.Tests.{same_id-is}
+use Rattle.std.proofs.lemmas.Cmp.{nat_cmp_total, on_total}
 use Rattle.std.proofs.lemmas.List.Elements.{All-head, All-tail}
 use Rattle.mtn_base.specs.declared.id.Id.{Id}
 use Rattle.mtn_growth.specs.History.{Revision}
@@ -20,14 +11,10 @@ use Rattle.mtn_queries.specs.declared.query.Line.{Line}
 use Rattle.mtn_queries.specs.declared.query.Query.{Query}
 use Rattle.mtn_queries.specs.declared.query.Query.TheVariants.{Parents, Children, Ancestors, Descendents, CommonAncestors, EraseAncestors, Toposort, AncestryDifference, Leaves, Roots}
 use Rattle.mtn_queries.specs.Lines.{HasParents, IsGraph}
-use Rattle.mtn_queries.specs.Queries.{by_id, by_place, order_of, IsAnswer, IsHeld, IsListOf, IsParent}
-use Rattle.mtn_queries.proofs.Sorting.{OneWay, one_list_of, sorted_once}
-
-pub by_id_total : IsTotalOrder by_id
-by_id_total = on_total (λ (i : Id). i.0) nat_list_cmp_total
-
-one_way_of : {X : Type 0} {order : X → X → Ordering} → IsTotalOrder order → OneWay order
-one_way_of total x y a b = absurd (let turned : Less ≡ Greater = sym a ∙ total.antisymm x y ∙ ap ordering_reverse b in cc)
+use Rattle.mtn_queries.specs.Queries.{by_place, order_of, IsAnswer, IsHeld, IsListOf, IsParent}
+use Rattle.mtn_ids.specs.Ids.{by_id}
+use Rattle.mtn_ids.proofs.Sorting.{by_id_total, one_way_of, OneWay}
+use Rattle.mtn_queries.proofs.Sorting.{one_list_of}
 
 pub one_way_id : OneWay by_id
 one_way_id = one_way_of by_id_total
@@ -66,12 +53,6 @@ one_lines h (k ∷ ks) (l ∷ ls) same p q =
 
 pub one_graph : (h : List Revision) (a b : List Line) → IsGraph h a → IsGraph h b → a ≡ b
 one_graph h a b x y = one_lines h a b (one_list_of by_id (IsHeld h) one_way_id _ _ x.ids y.ids) x.parents y.parents
-
--- sorted, each once
-pub by_id_once : (given ids sorted once : List Id) → ids ≡ given → IsPermutation ids sorted → IsSorted by_id sorted → IsFiltered (DiffersFromLast same_id) [] sorted once → IsListOf by_id (Contains given) once
-by_id_once given ids sorted once is moved up kept =
-    let s = sorted_once by_id same_id by_id_total (on_equiv (λ (i : Id). i.0) nat_list_eq_equiv) (λ x y. sym (is_eq-slice_cmp x.0 y.0)) same_id-is ids sorted once moved up kept in
-    record { ascending = s.0; exact = λ x. subst (λ l. Contains once x ↔ Contains l x) is (s.1 x) }
 
 -- one line more
 pub line_more : (lines new : List Line) (ids : List Id) (i : ℕ) (l : Line) (x : Id) → i < length ids → x ≡ get_or ids i x → map (λ (k : Line). k.id) lines ≡ take i ids → l.id ≡ x → new ≡ lines ++ l ∷ [] →

@@ -1,40 +1,14 @@
 -- Lists in order: what an order and the elements tell of one.
 use Rattle.std.specs.Prelude.{Contains}
-use Rattle.std.specs.Cmp.{IsTotalOrder, IsEquivalence}
 use Rattle.std.specs.List.{AllByRecursion}
-use Rattle.std.specs.List.Retain.{IsFiltered, DiffersFromLast}
-use Rattle.std.specs.List.Sorted.{IsStrictlySortedBy, IsSorted, IsPermutation}
-use Rattle.std.specs.Ordering.{eq_by_cmp}
+use Rattle.std.specs.List.Sorted.{IsStrictlySortedBy}
 use Rattle.std.specs.declared.cmp.Ordering.{Ordering}
 use Rattle.std.specs.declared.cmp.Ordering.TheVariants.{Less}
-use Rattle.std.proofs.Common.{◌≡◌, ◌↔◌, ◌<◌, ◌⊎◌, inl, inr, ℕ, zero, suc, List, [], ◌∷◌, Bool, true, length, get_or, refl, sym, ap, ◌∙◌, subst, ⊎_elim, arith}
-use Rattle.std.proofs.lemmas.Map.Keys.{sorted_head, sorted_tail}
-use Rattle.std.proofs.lemmas.List.Kept.{IsStrictlySortedBy-dedup, Contains-dedup, Contains-from_dedup}
-use Rattle.std.proofs.lemmas.List.Filters.{dedup_is}
-use Rattle.std.proofs.lemmas.List.Sorted.{Contains-permutation, IsPermutation-sym}
+use Rattle.std.proofs.Common.{◌≡◌, ◌↔◌, List, [], ◌∷◌, subst, sym}
 use Rattle.mtn_base.specs.declared.id.Id.{Id}
+use Rattle.mtn_ids.specs.Ids.{by_id, in_id_order}
+use Rattle.mtn_ids.proofs.Sorting.{contains_head, contains_later, in_order_ascends, in_order_same, one_list, OneWay}
 use Rattle.mtn_queries.specs.Queries.{IsListOf}
-
-pub contains_nil : {X : Type 0} {x : X} → Contains [] x → ⊥
-contains_nil c = omega (arith, c.1)
-
-pub contains_head : {X : Type 0} (x : X) (xs : List X) → Contains (x ∷ xs) x
-contains_head x xs = (0, omega arith, refl)
-
-pub contains_later : {X : Type 0} {y : X} (x : X) (xs : List X) → Contains xs y → Contains (x ∷ xs) y
-contains_later x xs c = (suc c.0, omega (arith, c.1), c.2)
-
-pub contains_cases : {X : Type 0} (x : X) (xs : List X) (y : X) → Contains (x ∷ xs) y → (x ≡ y) ⊎ Contains xs y
-contains_cases x xs y c = go c.0 c.1 c.2
-  where
-    go : (k : ℕ) → k < length (x ∷ xs) → get_or (x ∷ xs) k y ≡ y → (x ≡ y) ⊎ Contains xs y
-    go zero h e = inl e
-    go (suc k) h e = inr (k, omega arith, e)
-
--- what holds of each element, by recursion
-pub each_from : {X : Type 0} (P : X → Type 0) (xs : List X) → AllByRecursion P xs → (x : X) → Contains xs x → P x
-each_from P [] all x c = absurd (contains_nil c)
-each_from P (y ∷ ys) all x c = ⊎_elim (λ e. subst P e all.0) (λ d. each_from P ys all.1 x d) (contains_cases y ys x c)
 
 pub each_to : {X : Type 0} (P : X → Type 0) (xs : List X) → ((x : X) → Contains xs x → P x) → AllByRecursion P xs
 each_to P [] all = tt
@@ -48,40 +22,16 @@ pub sorted_cons : {X : Type 0} (order : X → X → Ordering) (x : X) (xs : List
 unfolding IsStrictlySortedBy
 sorted_cons order x xs first rest = (first, rest)
 
--- a list that was sorted and had what repeats taken out
-pub sorted_once : {X : Type 0} (order : X → X → Ordering) (same : X → X → Bool) → IsTotalOrder order → IsEquivalence same → ((x y : X) → same x y ≡ eq_by_cmp order x y) → ((x y : X) → same x y ≡ true → x ≡ y) →
-    (xs sorted ys : List X) → IsPermutation xs sorted → IsSorted order sorted → IsFiltered (DiffersFromLast same) [] sorted ys → IsStrictlySortedBy order ys × ((x : X) → Contains ys x ↔ Contains xs x)
-sorted_once order same total laws ties exact xs sorted ys moved up kept =
-    let is = dedup_is same sorted ys kept in (
-      subst (IsStrictlySortedBy order) (sym is) (IsStrictlySortedBy-dedup total ties sorted up),
-      λ x. (
-        λ c. Contains-permutation sorted xs x (IsPermutation-sym xs sorted moved) (Contains-from_dedup same sorted x (subst (λ l. Contains l x) is c)),
-        λ c. subst (λ l. Contains l x) (sym is) (Contains-dedup laws exact sorted x (Contains-permutation xs sorted x moved c)),
-      ),
-    )
-
--- no two are each before the other
-abbrev pub OneWay : {X : Type 0} → (X → X → Ordering) → Type 0
-OneWay {X} order = (x y : X) → order x y ≡ Less → order y x ≡ Less → ⊥
-
--- two lists in order with the same elements are one
-pub one_list : {X : Type 0} (order : X → X → Ordering) → OneWay order → (xs ys : List X) → IsStrictlySortedBy order xs → IsStrictlySortedBy order ys →
-    ((x : X) → Contains xs x → Contains ys x) → ((x : X) → Contains ys x → Contains xs x) → xs ≡ ys
-one_list order way [] [] up also to from = refl
-one_list order way [] (y ∷ ys) up also to from = absurd (contains_nil (from y (contains_head y ys)))
-one_list order way (x ∷ xs) [] up also to from = absurd (contains_nil (to x (contains_head x xs)))
-one_list {X} order way (x ∷ xs) (y ∷ ys) up also to from =
-    let above_x : (z : X) → Contains xs z → order x z ≡ Less = each_from (λ z. order x z ≡ Less) xs (sorted_head order x xs up) in
-    let above_y : (z : X) → Contains ys z → order y z ≡ Less = each_from (λ z. order y z ≡ Less) ys (sorted_head order y ys also) in
-    let heads : x ≡ y = ⊎_elim (λ e. sym e) (λ c. ⊎_elim (λ e. e) (λ d. absurd (way x y (above_x y d) (above_y x c))) (contains_cases x xs y (from y (contains_head y ys)))) (contains_cases y ys x (to x (contains_head x xs))) in
-    let rest : xs ≡ ys = one_list order way xs ys (sorted_tail order x xs up) (sorted_tail order y ys also)
-    (λ z c. ⊎_elim (λ e. absurd (let l : order x x ≡ Less = ap (order x) (heads ∙ e) ∙ above_x z c in way x x l l)) (λ d. d) (contains_cases y ys z (to z (contains_later x xs c))))
-    (λ z c. ⊎_elim (λ e. absurd (let l : order y y ≡ Less = ap (order y) (sym heads ∙ e) ∙ above_y z c in way y y l l)) (λ d. d) (contains_cases x xs z (from z (contains_later y ys c)))) in
-    cc
-
 -- the list of P is the list of Q, where they are the same
 pub listed_by : (order : Id → Id → Ordering) (P Q : Id → Type 0) (ids : List Id) → ((x : Id) → P x → Q x) → ((x : Id) → Q x → P x) → IsListOf order P ids → IsListOf order Q ids
 listed_by order P Q ids to from list = record { ascending = list.ascending; exact = λ x. (λ c. to x ((list.exact x).0 c), λ q. (list.exact x).1 (from x q)) }
 
 pub one_list_of : (order : Id → Id → Ordering) (P : Id → Type 0) → OneWay order → (a b : List Id) → IsListOf order P a → IsListOf order P b → a ≡ b
 one_list_of order P way a b x y = one_list order way a b x.ascending y.ascending (λ z c. (y.exact z).1 ((x.exact z).0 c)) (λ z c. (x.exact z).1 ((y.exact z).0 c))
+
+-- ids that were put in order
+pub by_id_once : (given ids once : List Id) → ids ≡ given → once ≡ in_id_order ids → IsListOf by_id (Contains given) once
+by_id_once given ids once is put = record {
+  ascending = subst (IsStrictlySortedBy by_id) (sym put) (in_order_ascends ids);
+  exact = λ x. subst (λ l. Contains l x ↔ Contains given x) (sym put) (subst (λ l. Contains (in_id_order ids) x ↔ Contains l x) is (in_order_same ids x));
+}

@@ -1,7 +1,8 @@
 -- The whole graph as lines: each revision with its parents (Monotone's manual: automate graph).
 use Rattle.std.specs.Prelude.{List, map, All}
 use Rattle.mtn_growth.specs.History.{Revision}
-use Rattle.mtn_queries.specs.Queries.{IsHeld, IsParent, IsListOf, by_id}
+use Rattle.mtn_ids.specs.Ids.{by_id}
+use Rattle.mtn_queries.specs.Queries.{IsHeld, IsParent, IsListOf}
 use Rattle.mtn_queries.specs.declared.query.Line.{Line}
 
 -- a line has exactly the parents of its revision, ascending

@@ -5,10 +5,10 @@ use Rattle.std.specs.Prelude.{◌≡◌, ◌≢◌, ◌↔◌, List, [], ◌∷�
 use Rattle.std.specs.List.Sorted.{IsStrictlySortedBy}
 use Rattle.std.specs.Ordering.{nat_cmp}
 use Rattle.std.specs.declared.cmp.Ordering.{Ordering}
-use Rattle.mtn_base.specs.Names.{bytes_cmp}
 use Rattle.mtn_base.specs.declared.id.Id.{Id}
 use Rattle.mtn_ancestry.specs.Ancestors.{IsAncestor}
 use Rattle.mtn_growth.specs.History.{Revision, parents_at, IsPlaceOf}
+use Rattle.mtn_ids.specs.Ids.{by_id}
 use Rattle.mtn_log.specs.Making.{place_of}
 use Rattle.mtn_queries.specs.declared.query.Query.{Query}
 use Rattle.mtn_queries.specs.declared.query.Query.TheVariants.{Parents, Children, Ancestors, Descendents, CommonAncestors, EraseAncestors, Toposort, AncestryDifference, Leaves, Roots}
@@ -43,10 +43,6 @@ IsAsked h (Toposort of) x = Contains of x
 IsAsked h (AncestryDifference r without) x = IsAbove h x r × ((o : Id) → Contains without o → ¬ IsAbove h x o)
 IsAsked h Leaves x = IsHeld h x × ((c : Id) → ¬ IsParent h x c)
 IsAsked h Roots x = IsHeld h x × ((p : Id) → ¬ IsParent h p x)
-
--- the order of ids: byte by byte
-abbrev pub by_id : Id → Id → Ordering
-by_id x y = bytes_cmp x.0 y.0
 
 -- the order of the log
 abbrev pub by_place : List Revision → Id → Id → Ordering

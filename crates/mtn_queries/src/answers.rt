@@ -3,7 +3,8 @@ ghost use Rattle.std.specs.Prelude.{◌≡◌, ◌<◌, List as Seq, Some, lengt
 ghost use Rattle.mtn_base.specs.declared.id.Id.{Id};
 ghost use Rattle.mtn_growth.specs.History.{IsPlaceOf, Revision};
 ghost use Rattle.mtn_log.specs.Graphs.{Tells};
-ghost use Rattle.mtn_queries.specs.Queries.{Answers, IsAnswer, IsListOf, IsParent, by_id};
+ghost use Rattle.mtn_ids.specs.Ids.{by_id};
+ghost use Rattle.mtn_queries.specs.Queries.{Answers, IsAnswer, IsListOf, IsParent};
 
 use crate::ids::{ids_at, sorted_ids};
 use crate::places::{place, places};

@@ -2,10 +2,12 @@
 ghost use Rattle.std.specs.Prelude.{◌≡◌, Contains, IfOk};
 ghost use Rattle.mtn_ancestry.specs.Log.{IsLog};
 ghost use Rattle.mtn_queries.specs.Places.{ids_at as at_places};
-ghost use Rattle.mtn_queries.specs.Queries.{IsListOf, by_id};
+ghost use Rattle.mtn_ids.specs.Ids.{by_id};
+ghost use Rattle.mtn_queries.specs.Queries.{IsListOf};
 
 use mtn_ancestry::{Graph, Pos};
 use mtn_base::{Id, List, NoMemory};
+use mtn_ids::put_in_order;
 use std::alloc::Global;
 
 // The ids of the revisions at these positions, in their order.
@@ -23,7 +25,6 @@ pub fn sorted_ids(alloc: Global, graph: &Graph, at: &[Pos]) -> Result<List<Id>, 
     ensures sorted { IfOk result (IsListOf by_id (Contains (at_places graph.now at.now))) }
 {
     let mut ids = ids_at(alloc, graph, at)?;
-    ids.sort_unstable();
-    ids.dedup();
+    put_in_order(&mut ids);
     Ok(List::from_vec(ids))
 }

@@ -5,8 +5,10 @@ use Rattle.mtn_ancestry.specs.declared.pos.LogEntry.{LogEntry}
 use Rattle.mtn_base.specs.declared.id.Id.{Id}
 use Rattle.mtn_growth.specs.History.{Revision}
 use Rattle.mtn_log.specs.Graphs.{Tells}
-use Rattle.mtn_queries.specs.Queries.{IsListOf, IsParent, by_id}
-use Rattle.mtn_queries.proofs.Sorting.{contains_nil, sorted_nil}
+use Rattle.mtn_queries.specs.Queries.{IsListOf, IsParent}
+use Rattle.mtn_ids.specs.Ids.{by_id}
+use Rattle.mtn_ids.proofs.Sorting.{contains_nil}
+use Rattle.mtn_queries.proofs.Sorting.{sorted_nil}
 use Rattle.mtn_queries.proofs.Telling.{place_from, place_to}
 use Rattle.mtn_queries.proofs.graph.line.Goals as goal
 use Rattle.mtn_queries.proofs.graph.line.Goals.{in-Some+in_ok-parents-in-Some, in-None}
