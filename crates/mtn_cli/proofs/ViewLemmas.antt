@@ -21,7 +21,7 @@ use Rattle.mtn_history.proofs.MarkedLemmas.{draft_counts}
 use Rattle.mtn_history.proofs.MetaLemmas.{no_damage}
 use Rattle.mtn_views.specs.Answers.{Answer, Gives}
 use Rattle.mtn_cli.specs.declared.answer.Reply.{Reply}
-use Rattle.mtn_cli.specs.Step.{Outcome, Tells, told, done}
+use Rattle.mtn_cli.specs.Step.{OfHistory, Outcome, Viewed, told, done}
 use Rattle.mtn_cli.specs.Performs.{Counts, Drafted, Drafts, HasReason, Reason, drafted, replied}
 
 -- a damage is one of the records that a draft stands on
@@ -43,14 +43,14 @@ module _ (f : List ℕ → List ℕ) {K : Type 0} (contents : K → Option Conte
     (stays : Stays contents leaves faults old new) (same : after ≡ before) where
   -- the answer is one over the history of the state
   is_told : (answer : Answer) → ((g : List ℕ → List ℕ) (s : State) (d : IsFounded g (contents new) before s) → Is d.stands.history answer) →
-      (c : Contents) (s : State) (o : Outcome) → contents new ≡ Some c → IsDraft f c before s → o ≡ told s answer → Tells f s Is o
+      (c : Contents) (s : State) (o : Outcome) → contents new ≡ Some c → IsDraft f c before s → o ≡ told s answer → OfHistory f s (λ h. Viewed (Is h) s o)
   is_told answer gives c s o now draft outcome =
       let d = founded f (contents new) c before s now draft in
-      record { history = d.stands.history; spelled = d.stands.spelled; answer = answer; is = gives f s d; outcome = outcome }
+      (d.stands.history, d.stands.spelled, (answer, gives f s d, outcome))
 
   -- a text
   pub answered : (text : List ℕ) → ((g : List ℕ → List ℕ) (s : State) (d : IsFounded g (contents new) before s) → Gives (Is d.stands.history) (Ok text)) →
-      Drafts f contents leaves faults old new before after (λ s. Tells f s Is) (Ok (record { conflicts = false; text = text }))
+      Drafts f contents leaves faults old new before after (λ s o. OfHistory f s (λ h. Viewed (Is h) s o)) (Ok (record { conflicts = false; text = text }))
   answered text gives = record {
     stays = stays;
     done = λ c s now draft. (s, is_told (Ok text) gives c s _ now draft refl, subst (λ (p : Pending). IsDraft f c p s) (sym same) draft);
@@ -60,7 +60,7 @@ module _ (f : List ℕ → List ℕ) {K : Type 0} (contents : K → Option Conte
   -- a refusal, or an error of the store
   failed_by : (e : HistoryError) → ((g : List ℕ → List ℕ) (s : State) (d : IsFounded g (contents new) before s) → Gives (Is d.stands.history) (Err e)) →
       IfSome (contents new) (λ c. IsCounted before c → IfStoreDamage e (IsDamage (with_all c before.batch))) → (e ≡ Store Failed → Rose (faults old) (faults new)) →
-      Drafts f contents leaves faults old new before after (λ s. Tells f s Is) (Err e)
+      Drafts f contents leaves faults old new before after (λ s o. OfHistory f s (λ h. Viewed (Is h) s o)) (Err e)
   failed_by (Refused cause) gives damage rose = record {
     stays = stays;
     done = λ c s now draft. is_told (Err cause) gives c s _ now draft refl;
@@ -74,5 +74,5 @@ module _ (f : List ℕ → List ℕ) {K : Type 0} (contents : K → Option Conte
 
   pub unanswered : (result : Result Reply HistoryError) (e : HistoryError) → result ≡ Err e → ((g : List ℕ → List ℕ) (s : State) (d : IsFounded g (contents new) before s) → Gives (Is d.stands.history) (Err e)) →
       IfSome (contents new) (λ c. IsCounted before c → IfStoreDamage e (IsDamage (with_all c before.batch))) → (e ≡ Store Failed → Rose (faults old) (faults new)) →
-      Drafts f contents leaves faults old new before after (λ s. Tells f s Is) result
-  unanswered result e is gives damage rose = subst (Drafts f contents leaves faults old new before after (λ s. Tells f s Is)) (sym is) (failed_by e gives damage rose)
+      Drafts f contents leaves faults old new before after (λ s o. OfHistory f s (λ h. Viewed (Is h) s o)) result
+  unanswered result e is gives damage rose = subst (Drafts f contents leaves faults old new before after (λ s o. OfHistory f s (λ h. Viewed (Is h) s o))) (sym is) (failed_by e gives damage rose)

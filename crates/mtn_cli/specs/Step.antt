@@ -73,13 +73,13 @@ abbrev pub told : State → Answer → Outcome
 told s (Ok text) = done s text
 told s (Err cause) = refused cause s
 
--- the outcome of a question about the history that the log spells
-pub record Tells (f : List ℕ → List ℕ) (s : State) (Is : List Revision → Answer → Type 0) (o : Outcome) : Type 0 where
-  pub history : List Revision
-  pub spelled : IsHistory f s.files s.log history
-  pub answer : Answer
-  pub is : Is history answer
-  pub outcome : o ≡ told s answer
+-- a fact of the history that the log of a state spells
+abbrev pub OfHistory : (List ℕ → List ℕ) → State → (List Revision → Type 0) → Type 0
+OfHistory f s P = (h : List Revision) × IsHistory f s.files s.log h × P h
+
+-- the outcome of a question about a history, whose answer is such
+abbrev pub Viewed : (Answer → Type 0) → State → Outcome → Type 0
+Viewed Is s o = (answer : Answer) × Is answer × (o ≡ told s answer)
 
 -- ids, one a line
 abbrev pub id_lines : List Id → List ℕ
@@ -98,10 +98,6 @@ line_text line = encode_lower line.id.0 ++ flat_map (λ (parent : Id). 32 ∷ en
 abbrev pub Graphed : List Revision → State → Outcome → Type 0
 Graphed h s o = (lines : List Line) × IsGraph h lines × (o ≡ done s (flat_map line_text lines))
 
--- a fact of the history that the log of a state spells
-abbrev pub OfHistory : (List ℕ → List ℕ) → State → (List Revision → Type 0) → Type 0
-OfHistory f s P = (h : List Revision) × IsHistory f s.files s.log h × P h
-
 -- The outcome of a command over a state, one line a command; f is what the ident makes of a text. A lawful state has one
 -- (`one_outcome`).
 abbrev pub Steps : (List ℕ → List ℕ) → Call → List ℕ → State → Outcome → Type 0
@@ -109,10 +105,10 @@ Steps f PutFile payload s o = o ≡ unless (file_refusal f s payload) s (with_fi
 Steps f PutRevision payload s o = PutsRevision f payload s o
 Steps f (GetFile id) payload s o = o ≡ found (UnknownFile id) s (get s.files id.0)
 Steps f (GetRevision id) payload s o = o ≡ found (UnknownRevision id) s (text_under s.log id.0)
-Steps f (GetManifestOf id) payload s o = Tells f s (λ h answer. answer ≡ manifest_at h id) o
-Steps f (GetRoster id) payload s o = Tells f s (λ h answer. IsRoster h id answer) o
-Steps f (GetContentChanged id path) payload s o = Tells f s (λ h answer. IsContentChanged h id path answer) o
-Steps f (GetCorrespondingPath id path other) payload s o = Tells f s (λ h answer. answer ≡ corresponding_at h id path other) o
+Steps f (GetManifestOf id) payload s o = OfHistory f s (λ h. Viewed (λ answer. answer ≡ manifest_at h id) s o)
+Steps f (GetRoster id) payload s o = OfHistory f s (λ h. Viewed (IsRoster h id) s o)
+Steps f (GetContentChanged id path) payload s o = OfHistory f s (λ h. Viewed (IsContentChanged h id path) s o)
+Steps f (GetCorrespondingPath id path other) payload s o = OfHistory f s (λ h. Viewed (λ answer. answer ≡ corresponding_at h id path other) s o)
 Steps f (Ask query) payload s o = OfHistory f s (λ h. Asked h query s (first_unknown h (ids_of query)) o)
 Steps f Graph payload s o = OfHistory f s (λ h. Graphed h s o)
 
