@@ -62,13 +62,16 @@ event_value (fresh {v = v} is none) = (v, is)
 event_value (changed {v = v} is differ) = (v, is)
 event_value (chosen {v = v} is p q a b c d e m) = (v, is)
 
--- a mark stands in the history
-pub mark_there : (h : List Revision) (s : Scalar) (r x : ℕ) → IsMark h s r x → x < length h
-mark_there h s r x m = by (slice_get h x) refl (event_value (mark_event m))
+-- a mark is a revision of the history
+pub mark_placed : (h : List Revision) (s : Scalar) (r x : ℕ) → IsMark h s r x → (id : Id) × IsPlaceOf h id x
+mark_placed h s r x m = by (slice_get h x) refl (event_value (mark_event m))
   where
-    by : (o : Option Revision) → slice_get h x ≡ o → (v : Value) × (value_at h s x ≡ Some v) → x < length h
-    by (Some q) e is = inside h x q e
+    by : (o : Option Revision) → slice_get h x ≡ o → (v : Value) × (value_at h s x ≡ Some v) → (id : Id) × IsPlaceOf h id x
+    by (Some q) e is = (q.id, (q, e, refl))
     by None e is = absurd (let none : value_at h s x ≡ None = ap (λ (q : Option Revision). value_in (revision_tree q) s) e in let v : value_at h s x ≡ Some is.0 = is.1 in cc)
+
+pub mark_there : (h : List Revision) (s : Scalar) (r x : ℕ) → IsMark h s r x → x < length h
+mark_there h s r x m = let place = (mark_placed h s r x m).1 in inside h x place.0 place.1
 
 -- a scalar that is not there has no marks
 pub never_marked : {parents : ℕ → List ℕ} {value : ℕ → Option Value} {r x : ℕ} → IsMarkOf Value parents value r x → value r ≡ None → ⊥
