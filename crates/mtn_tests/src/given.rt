@@ -3,6 +3,7 @@ use mtn_base::{Bytes, List, NoMemory};
 use mtn_cli::{Status, run};
 use mtn_ports::{Batch, Ident, Keeper, MemKeeper, MemSink, MemSource};
 use std::alloc::Global;
+use std::test::Fail;
 use std::thread::Threads;
 
 /// How a call ended, and what it wrote.
@@ -39,7 +40,7 @@ pub fn call<T: Threads + Sync, I: Ident, K: Keeper>(
 ) -> Result<Ended, NoMemory> {
     let words = words(alloc, line)?;
     let mut source = MemSource::new(input.to_vec(alloc)?, Vec::new(alloc));
-    let mut sink = MemSink::new(alloc, 1000, Vec::new(alloc))?;
+    let mut sink = MemSink::new(alloc, 10_000, Vec::new(alloc))?;
     let status = run(
         threads,
         alloc,
@@ -53,4 +54,24 @@ pub fn call<T: Threads + Sync, I: Ident, K: Keeper>(
         status,
         written: sink.written().to_vec(alloc)?,
     })
+}
+
+/// A command line, its input, how it ends and what it prints.
+pub type Row<'a> = (&'a str, &'a str, Status, &'a str);
+
+/// Does one command after the other over one keeper, and fails at the first that ends or prints otherwise.
+pub fn session<T: Threads + Sync, I: Ident, K: Keeper>(
+    threads: &T,
+    alloc: Global,
+    ident: &I,
+    keeper: &mut K,
+    rows: &[Row<'_>],
+) -> Result<(), Fail> {
+    for (line, input, status, output) in rows {
+        let ended = call(threads, alloc, line, ident, input.as_bytes(), keeper)?;
+        if ended.status != *status || ended.written.as_slice() != output.as_bytes() {
+            return Err(Fail::new(*line));
+        }
+    }
+    Ok(())
 }

@@ -10,10 +10,18 @@ mod files;
 #[cfg(test)]
 mod given;
 #[cfg(test)]
+mod graphs;
+#[cfg(test)]
 mod limits;
+#[cfg(test)]
+mod lines;
+#[cfg(test)]
+mod paths;
 #[cfg(test)]
 mod remembered;
 #[cfg(test)]
 mod revisions;
+#[cfg(test)]
+mod trees;
 #[cfg(test)]
 mod words;

@@ -9,8 +9,14 @@ use std::test::Fail;
 use std::thread::Threads;
 
 /// A lone root, whose text has 105 bytes.
-const ROOT: &str =
-    "format_version \"1\"\n\nnew_manifest [000000000000000000000000000000000000001b]\n\nold_revision []\n\nadd_dir \"\"\n";
+const ROOT: &str = r#"format_version "1"
+
+new_manifest [000000000000000000000000000000000000001b]
+
+old_revision []
+
+add_dir ""
+"#;
 
 // How many records a draft asks for that is asked so often for one roster.
 fn reads_of<T: Threads + Sync>(threads: &T, alloc: Global, times: u64) -> Result<u64, Fail> {

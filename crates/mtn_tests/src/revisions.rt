@@ -1,51 +1,76 @@
 // Revisions go in, and are asked for.
-use crate::given::{call, store};
+use crate::given::{session, store};
 use mtn_cli::Status;
-use mtn_ports::{Ident, Keeper, Toy};
-use std::alloc::Global;
+use mtn_ports::Toy;
 use std::test::Fail;
-use std::thread::Threads;
 
 /// A lone root. Its manifest has 27 bytes, its text 105.
-const ROOT: &str =
-    "format_version \"1\"\n\nnew_manifest [000000000000000000000000000000000000001b]\n\nold_revision []\n\nadd_dir \"\"\n";
+const ROOT: &str = r#"format_version "1"
+
+new_manifest [000000000000000000000000000000000000001b]
+
+old_revision []
+
+add_dir ""
+"#;
 
 /// Its child, with the file `f`. The manifest has 91 bytes, the text 199.
-const CHILD: &str =
-    "format_version \"1\"\n\nnew_manifest [000000000000000000000000000000000000005b]\n\nold_revision [0000000000000000000000000000000000000069]\n\nadd_file \"f\"\n content [0000000000000000000000000000000000000003]\n";
+const CHILD: &str = r#"format_version "1"
+
+new_manifest [000000000000000000000000000000000000005b]
+
+old_revision [0000000000000000000000000000000000000069]
+
+add_file "f"
+ content [0000000000000000000000000000000000000003]
+"#;
 
 /// A root with that file at once: 171 bytes.
-const BOTH: &str =
-    "format_version \"1\"\n\nnew_manifest [000000000000000000000000000000000000005b]\n\nold_revision []\n\nadd_dir \"\"\n\nadd_file \"f\"\n content [0000000000000000000000000000000000000003]\n";
+const BOTH: &str = r#"format_version "1"
+
+new_manifest [000000000000000000000000000000000000005b]
+
+old_revision []
+
+add_dir ""
+
+add_file "f"
+ content [0000000000000000000000000000000000000003]
+"#;
 
 /// The roster of the child.
-const ROSTER: &str =
-    "format_version \"1\"\n\n      dir \"\"\n    birth [0000000000000000000000000000000000000069] \"\"\npath_mark [0000000000000000000000000000000000000069]\n\n        file \"f\"\n     content [0000000000000000000000000000000000000003]\n       birth [00000000000000000000000000000000000000c7] \"f\"\n   path_mark [00000000000000000000000000000000000000c7]\ncontent_mark [00000000000000000000000000000000000000c7]\n";
+const ROSTER: &str = r#"format_version "1"
+
+      dir ""
+    birth [0000000000000000000000000000000000000069] ""
+path_mark [0000000000000000000000000000000000000069]
+
+        file "f"
+     content [0000000000000000000000000000000000000003]
+       birth [00000000000000000000000000000000000000c7] "f"
+   path_mark [00000000000000000000000000000000000000c7]
+content_mark [00000000000000000000000000000000000000c7]
+"#;
 
 /// A lone root that names a manifest of 26 bytes.
-const OTHER: &str =
-    "format_version \"1\"\n\nnew_manifest [000000000000000000000000000000000000001a]\n\nold_revision []\n\nadd_dir \"\"\n";
+const OTHER: &str = r#"format_version "1"
+
+new_manifest [000000000000000000000000000000000000001a]
+
+old_revision []
+
+add_dir ""
+"#;
 
 /// Two edges without a parent.
-const TWICE: &str =
-    "format_version \"1\"\n\nnew_manifest [000000000000000000000000000000000000001b]\n\nold_revision []\n\nold_revision []\n";
+const TWICE: &str = r#"format_version "1"
 
-// Does one command after the other over one keeper.
-fn session<T: Threads + Sync, I: Ident, K: Keeper>(
-    threads: &T,
-    alloc: Global,
-    ident: &I,
-    keeper: &mut K,
-    rows: &[(&str, &str, Status, &str)],
-) -> Result<bool, Fail> {
-    for (line, input, status, output) in rows {
-        let ended = call(threads, alloc, line, ident, input.as_bytes(), keeper)?;
-        if ended.status != *status || ended.written.as_slice() != output.as_bytes() {
-            return Ok(false);
-        }
-    }
-    Ok(true)
-}
+new_manifest [000000000000000000000000000000000000001b]
+
+old_revision []
+
+old_revision []
+"#;
 
 #[test]
 fn a_root_and_its_child_are_accepted(rt: HostRuntime) -> Result<(), Fail> {
@@ -53,7 +78,7 @@ fn a_root_and_its_child_are_accepted(rt: HostRuntime) -> Result<(), Fail> {
     let mut keeper = store(alloc, &[])?;
     let root = "0000000000000000000000000000000000000069\n";
     let child = "00000000000000000000000000000000000000c7\n";
-    let good = session(
+    session(
         &rt,
         alloc,
         &Toy,
@@ -118,16 +143,14 @@ fn a_root_and_its_child_are_accepted(rt: HostRuntime) -> Result<(), Fail> {
                 "",
             ),
         ],
-    )?;
-    assert!(rt; good);
-    Ok(())
+    )
 }
 
 #[test]
 fn a_root_with_a_file_is_accepted(rt: HostRuntime) -> Result<(), Fail> {
     let alloc = rt.alloc();
     let mut keeper = store(alloc, &[])?;
-    let good = session(
+    session(
         &rt,
         alloc,
         &Toy,
@@ -152,16 +175,14 @@ fn a_root_with_a_file_is_accepted(rt: HostRuntime) -> Result<(), Fail> {
                 "content_mark [00000000000000000000000000000000000000ab]\n",
             ),
         ],
-    )?;
-    assert!(rt; good);
-    Ok(())
+    )
 }
 
 #[test]
 fn the_first_refusal_is_answered(rt: HostRuntime) -> Result<(), Fail> {
     let alloc = rt.alloc();
     let mut keeper = store(alloc, &[])?;
-    let good = session(
+    session(
         &rt,
         alloc,
         &Toy,
@@ -200,7 +221,5 @@ fn the_first_refusal_is_answered(rt: HostRuntime) -> Result<(), Fail> {
             ),
             ("leaves", "", Status::Ok, ""),
         ],
-    )?;
-    assert!(rt; good);
-    Ok(())
+    )
 }
