@@ -73,6 +73,7 @@ head -c 67108864 /dev/zero >"$work/most"
 file_row "64 MiB are kept" 0 "$work/most" "$(sha1sum <"$work/most" | cut -d' ' -f1)\n" - put_file
 printf x >>"$work/most"
 file_row "one byte more is refused" 1 "$work/most" 'refused TextTooLong 67108865\n' - put_file
+file_row "one byte more of a revision is refused" 1 "$work/most" 'refused TextTooLong 67108865\n' - put_revision
 head -c 268435456 /dev/zero >"$work/input"
 file_row "the longest input is read" 1 "$work/input" 'refused TextTooLong 268435456\n' - put_file
 printf x >>"$work/input"
@@ -217,14 +218,16 @@ walk() {
 }
 verdict "the walk in docs/USING.md" walk
 
-# Histories, made and asked for; its own rows count here.
-told=$(python3 tests/revisions.py)
-revisions_ended=$?
-echo "histories: $told"
-read -r more _ fewer _ <<<"$told"
-passed=$((passed + more))
-failed=$((failed + fewer))
-verdict "tests/revisions.py ended" test "$revisions_ended" = 0 -a "$more" -gt 0
+# Histories, made and asked for; the rows of each script count here.
+for script in revisions random_histories; do
+    told=$(python3 "tests/$script.py")
+    ended=$?
+    echo "$script: $told"
+    read -r more _ fewer _ <<<"$told"
+    passed=$((passed + more))
+    failed=$((failed + fewer))
+    verdict "tests/$script.py ended" test "$ended" = 0 -a "$more" -gt 0
+done
 
 echo "$passed passed, $failed failed"
 [ "$failed" = 0 ]

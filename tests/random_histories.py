@@ -1,0 +1,301 @@
+#!/usr/bin/env python3
+"""Makes random histories, merges among them, and compares each roster that the built program prints with one that is worked
+out here over the whole graph: which revisions set a value, and which of these a later one has not overruled. Nothing here
+looks at the marks of a parent, as the program does. Takes a first seed and how many histories (1 and 3 where not given);
+ends with 'N passed, M failed'."""
+import random
+import sys
+import tempfile
+
+import revisions
+from revisions import Store, add_dir, add_file, clear, delete, manifest, patch, rename, revision, roster, set_attr, sha, two, verdict
+
+CONTENTS = [b'abc', b'a', b'b', b'c', b'']
+KEYS = ['k', 'l']
+
+
+class Node:
+    """A node of one tree: its name (birth revision and path there), parent's name, own name, content, and attributes, where a
+    cleared one is None. A node that the revision at hand adds has the birth ''."""
+
+    def __init__(self, name, parent, comp, content, attributes):
+        self.name, self.parent, self.comp, self.content, self.attributes = name, parent, comp, content, attributes
+
+    def copy(self):
+        return Node(self.name, self.parent, self.comp, self.content, dict(self.attributes))
+
+
+def path_of(tree, name):
+    node = tree[name]
+    if node.parent is None:
+        return ''
+    above = path_of(tree, node.parent)
+    return above + '/' + node.comp if above else node.comp
+
+
+def paths(tree):
+    return {path_of(tree, name): name for name in tree}
+
+
+def copied(tree):
+    return {name: node.copy() for name, node in tree.items()}
+
+
+def below(tree, name):
+    """The node with all that stands below it."""
+    found = {name}
+    grown = True
+    while grown:
+        more = {node.name for node in tree.values() if node.parent in found} - found
+        found |= more
+        grown = bool(more)
+    return found
+
+
+def live(node):
+    return {key: value for key, value in node.attributes.items() if value is not None}
+
+
+class History:
+    def __init__(self, store, chance):
+        self.store, self.chance = store, chance
+        self.ids, self.parents, self.trees, self.above = [], {}, {}, {}
+        for data in CONTENTS:
+            store.file(data)
+
+    # What changes.
+
+    def some_content(self):
+        return sha(self.chance.choice(CONTENTS))
+
+    def add(self, tree):
+        """Adds a node below some directory."""
+        parent = self.chance.choice([node for node in tree.values() if node.content is None])
+        comp = self.chance.choice('abcdefgh')
+        at = path_of(tree, parent.name)
+        path = at + '/' + comp if at else comp
+        if path in paths(tree):
+            return
+        content = self.some_content() if self.chance.random() < 0.7 else None
+        attributes = {'k': 'new'} if self.chance.random() < 0.2 else {}
+        tree[('', path)] = Node(('', path), parent.name, comp, content, attributes)
+
+    def remove(self, tree):
+        old = [name for name, node in tree.items() if node.parent is not None and name[0] != '']
+        if old:
+            gone = below(tree, self.chance.choice(old))
+            if all(name[0] != '' for name in gone):
+                for name in gone:
+                    del tree[name]
+
+    def move(self, tree):
+        old = [node for node in tree.values() if node.parent is not None and node.name[0] != '']
+        if not old:
+            return
+        node = self.chance.choice(old)
+        under = below(tree, node.name)
+        targets = [other for other in tree.values() if other.content is None and other.name not in under and other.name[0] != '']
+        target = self.chance.choice(targets)
+        comp = self.chance.choice('abcdefgh')
+        at = path_of(tree, target.name)
+        if (at + '/' + comp if at else comp) not in paths(tree) and not any(name[0] == '' for name in under):
+            node.parent, node.comp = target.name, comp
+
+    def edit(self, tree):
+        old = [node for node in tree.values() if node.name[0] != '']
+        node = self.chance.choice(old)
+        if node.content is not None and self.chance.random() < 0.6:
+            node.content = self.some_content()
+        else:
+            key = self.chance.choice(KEYS)
+            if node.attributes.get(key) is not None and self.chance.random() < 0.4:
+                node.attributes[key] = None
+            else:
+                node.attributes[key] = self.chance.choice(['v', 'w'])
+
+    def vary(self, tree):
+        # (what is added comes last, so that every other change is of a node that was there)
+        for _ in range(self.chance.choice([0, 1, 1, 2, 3])):
+            self.chance.choice([self.remove, self.move, self.edit, self.edit, self.edit])(tree)
+        for _ in range(self.chance.choice([0, 0, 1, 2])):
+            self.add(tree)
+
+    # How it is written.
+
+    def changes(self, old, new):
+        """What leads from one tree to another, as the writer orders it."""
+        where = {name: path for path, name in paths(new).items()}
+        was = {name: path for path, name in paths(old).items()} if old else {}
+        order = lambda path: [part.encode() for part in path.split('/')] if path else []
+        gone = sorted((was[name] for name in was if name not in new), key=order)
+        moved = sorted(((was[name], where[name]) for name in was if name in new and (old[name].parent, old[name].comp) != (new[name].parent, new[name].comp)), key=lambda pair: order(pair[0]))
+        added = sorted((where[name] for name in new if name not in was), key=order)
+        found = paths(new)
+        stanzas = [delete(path) for path in gone] + [rename(path, to) for path, to in moved]
+        stanzas += [add_dir(path) for path in added if new[found[path]].content is None]
+        stanzas += [add_file(path, new[found[path]].content) for path in added if new[found[path]].content is not None]
+        kept = sorted((where[name] for name in new if name in was), key=order)
+        stanzas += [patch(path, old[found[path]].content, new[found[path]].content) for path in kept if old[found[path]].content != new[found[path]].content]
+        all_paths = sorted(found, key=order)
+        before = lambda path: live(old[found[path]]) if found[path] in was else {}
+        stanzas += [clear(path, key) for path in all_paths for key in sorted(before(path)) if key not in live(new[found[path]])]
+        stanzas += [set_attr(path, key, value) for path in all_paths for key, value in sorted(live(new[found[path]]).items()) if before(path).get(key) != value]
+        return stanzas
+
+    def commit(self, tree, parents):
+        for name, node in tree.items():
+            # (what is set and cleared in one revision was never there)
+            known = {key for parent in parents if name in self.trees[parent] for key in self.trees[parent][name].attributes}
+            node.attributes = {key: value for key, value in node.attributes.items() if value is not None or key in known}
+        shape = {path: tree[name].content for path, name in paths(tree).items()}
+        attributes = {path: sorted(live(tree[name]).items()) for path, name in paths(tree).items()}
+        edges = [(parent, self.changes(self.trees[parent], tree)) for parent in parents] or [('', self.changes({}, tree))]
+        text = revision(shape, *(edges if len(edges) == 1 else two(*edges)), attributes=attributes)
+        made = sha(text)
+        if made in self.trees:
+            return
+        self.store.accepted('revision %d' % len(self.ids), text)
+        named = lambda name: (made, name[1]) if name and name[0] == '' else name
+        self.ids.append(made)
+        self.parents[made] = sorted(parents)
+        self.trees[made] = {named(name): Node(named(name), named(node.parent), node.comp, node.content, node.attributes) for name, node in tree.items()}
+        self.above[made] = {made}.union(*(self.above[parent] for parent in parents)) if parents else {made}
+        self.compare(made, shape, attributes)
+
+    # The kinds of revisions.
+
+    def root(self):
+        tree = {('', ''): Node(('', ''), None, '', None, {})}
+        for _ in range(self.chance.choice([2, 4, 6])):
+            self.add(tree)
+        self.commit(tree, [])
+
+    def child(self):
+        parent = self.chance.choice(self.ids[-6:])
+        tree = copied(self.trees[parent])
+        self.vary(tree)
+        self.commit(tree, [parent])
+
+    def merge(self):
+        left, right = self.chance.choice(self.ids[-8:]), self.chance.choice(self.ids[-8:])
+        if left == right:
+            return
+        a, b = self.trees[left], self.trees[right]
+        # A node that one side deleted stays away.
+        stays = lambda name, own, other, side: name in own and (name in other or name[0] not in self.above[side])
+        tree = {name: node.copy() for name, node in a.items() if stays(name, a, b, right)}
+        for name in sorted(b, key=lambda name: path_of(b, name)):
+            if name in tree and self.chance.random() < 0.5:
+                self.take_slot(tree, b[name])
+            elif name not in tree and stays(name, b, a, left):
+                tree[name] = b[name].copy()
+        tree = self.sane(tree)
+        if tree is None:
+            return
+        for name, node in tree.items():
+            if name in a and name in b:
+                self.mix(node, a[name], b[name])
+        if self.chance.random() < 0.3:
+            self.vary(tree)
+        if self.sane(tree) is None or any(name[0] != '' and name not in a and name not in b for name in tree):
+            return
+        self.commit(tree, [left, right])
+
+    def take_slot(self, tree, node):
+        held = tree[node.name]
+        held.parent, held.comp = node.parent, node.comp
+
+    def mix(self, node, left, right):
+        if node.content is not None:
+            node.content = self.chance.choice([left.content, right.content, left.content, self.some_content()])
+        for key in {**left.attributes, **right.attributes}:
+            node.attributes[key] = self.chance.choice([left.attributes.get(key), right.attributes.get(key)])
+
+    def sane(self, tree):
+        """The tree without nodes whose parents are gone, of two nodes in one place only the first; None if it is none."""
+        roots = [name for name, node in tree.items() if node.parent is None]
+        if len(roots) != 1:
+            return None
+        kept = {roots[0]: tree[roots[0]]}
+        taken = set()
+        grown = True
+        while grown:
+            grown = False
+            for name, node in tree.items():
+                if name not in kept and node.parent in kept and kept[node.parent].content is None and (node.parent, node.comp) not in taken:
+                    kept[name] = node
+                    taken.add((node.parent, node.comp))
+                    grown = True
+        return kept
+
+    # The whole graph.
+
+    def value(self, at, scalar):
+        """The value of a scalar in a revision, in a tuple, or None where it is not there."""
+        kind, name, key = scalar
+        node = self.trees[at].get(name)
+        if node is None:
+            return None
+        if kind == 'slot':
+            return ((node.parent, node.comp),)
+        if kind == 'content':
+            return (node.content,)
+        return (node.attributes[key],) if key in node.attributes else None
+
+    def marked(self, at, scalar, known):
+        """Whether the revision set the value: no parent has the scalar, or its value is none of theirs, or it is that of one
+        parent where the other has another value and knows of an event that this one does not."""
+        if at not in known:
+            own = self.value(at, scalar)
+            values = {parent: self.value(parent, scalar) for parent in self.parents[at]}
+            have = [parent for parent in values if values[parent] is not None]
+            if own is None:
+                known[at] = False
+            elif not have or all(values[parent] != own for parent in have):
+                known[at] = True
+            else:
+                known[at] = any(values[q] == own and values[p] != own and any(self.marked(m, scalar, known) for m in self.above[p] - self.above[q])
+                                for p in have for q in have)
+        return known[at]
+
+    def marks(self, at, scalar, known):
+        own = self.value(at, scalar)
+        found, seen, todo = set(), set(), [at]
+        while todo:
+            here = todo.pop()
+            if here in seen or self.value(here, scalar) != own:
+                continue
+            seen.add(here)
+            if self.marked(here, scalar, known):
+                found.add(here)
+            else:
+                todo.extend(self.parents[here])
+        return sorted(found)
+
+    def compare(self, at, shape, attributes):
+        tree = self.trees[at]
+        nodes = []
+        for path, name in sorted(paths(tree).items(), key=lambda pair: [part.encode() for part in pair[0].split('/')] if pair[0] else []):
+            node = tree[name]
+            of = lambda kind, key=None: self.marks(at, (kind, name, key), {})
+            keys = [(key, value, of('attr', key)) for key, value in sorted(node.attributes.items())]
+            nodes.append((path, node.content, name, of('slot'), of('content') if node.content is not None else [], keys))
+        self.store.answers('the roster of revision %d' % len(self.ids), ['get_roster', at], 0, roster(*nodes))
+        self.store.answers('the manifest of revision %d' % len(self.ids), ['get_manifest_of', at], 0, manifest(shape, attributes).decode())
+
+
+def main():
+    seed, count = (int(word) for word in (sys.argv[1:] + ['1', '3'][len(sys.argv) - 1:])[:2])
+    with tempfile.TemporaryDirectory() as folder:
+        for number in range(seed, seed + count):
+            history = History(Store(folder, 'seed%d' % number), random.Random(number))
+            history.root()
+            for _ in range(30):
+                history.chance.choice([history.child, history.child, history.merge])()
+            verdict('history %d has merges' % number, any(len(parents) == 2 for parents in history.parents.values()))
+    print('%d passed, %d failed' % (revisions.passed, revisions.failed))
+    return 1 if revisions.failed else 0
+
+
+if __name__ == '__main__':
+    sys.exit(main())
