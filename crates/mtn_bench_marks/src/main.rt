@@ -12,7 +12,7 @@ use std::alloc::Global;
 use std::env;
 use std::io::{self, Read};
 use std::process::ExitCode;
-use std::time::Instant;
+use std::time::{Clock, Instant};
 
 fn name(path: Path) -> NodeName {
     NodeName {
@@ -98,39 +98,99 @@ fn set_at(marks: &MarkMap, at: Pos) -> u64 {
     count
 }
 
+/// A marked root, and the microseconds after which its tree and its marks stood.
+#[derive(Drop)]
+struct Root {
+    roster: MarkedRoster,
+    built: u128,
+    marked: u128,
+}
+
+/// The root of these entries.
+fn root_of<C: Clock>(
+    clock: &C,
+    start: &Instant,
+    alloc: Global,
+    entries: Vec<Entry>,
+) -> io::Result<Option<Root>> {
+    let Ok(roster) = Roster::build(alloc, entries) else {
+        return Ok(None);
+    };
+    let built = start.elapsed(clock)?.as_micros();
+    let Ok(marks) = mark_root(alloc, &roster, Pos(0)) else {
+        return Ok(None);
+    };
+    let marked = start.elapsed(clock)?.as_micros();
+    Ok(Some(Root {
+        roster: MarkedRoster::new(roster, marks),
+        built,
+        marked,
+    }))
+}
+
+/// What marking a child came to, and the microseconds after which its tree and its marks stood.
+#[derive(Clone, Copy)]
+struct Child {
+    nodes: u64,
+    set: u64,
+    built: u128,
+    marked: u128,
+}
+
+/// The child of these entries.
+fn child_of<C: Clock>(
+    clock: &C,
+    start: &Instant,
+    alloc: Global,
+    parent: &MarkedRoster,
+    entries: Vec<Entry>,
+) -> io::Result<Option<Child>> {
+    let Ok(roster) = Roster::build(alloc, entries) else {
+        return Ok(None);
+    };
+    let built = start.elapsed(clock)?.as_micros();
+    let Ok(marks) = mark_one(alloc, parent, &roster, Pos(1)) else {
+        return Ok(None);
+    };
+    let marked = start.elapsed(clock)?.as_micros();
+    Ok(Some(Child {
+        nodes: marks.len(),
+        set: set_at(&marks, Pos(1)),
+        built,
+        marked,
+    }))
+}
+
+/// What was asked, of the text on standard input.
+fn answer<C: Clock>(clock: &C, alloc: Global, text: &[u8]) -> io::Result<Option<(Root, Child)>> {
+    let (Some(entries), Some(changed)) = (entries_of(alloc, text), changed_of(alloc, text)) else {
+        return Ok(None);
+    };
+    let start = Instant::now(clock)?;
+    let Some(root) = root_of(clock, &start, alloc, entries)? else {
+        return Ok(None);
+    };
+    let Some(child) = child_of(clock, &start, alloc, &root.roster, changed)? else {
+        return Ok(None);
+    };
+    Ok(Some((root, child)))
+}
+
 fn main(rt: HostRuntime) -> io::Result<ExitCode> {
     let alloc = rt.alloc();
     let mut text = Vec::new(alloc);
     rt.stdin().read_to_end(&mut text)?;
-    let Some(entries) = entries_of(alloc, &text) else {
+    let Some((root, child)) = answer(&rt, alloc, &text)? else {
         return Ok(ExitCode::FAILURE);
     };
-    let Some(changed) = changed_of(alloc, &text) else {
-        return Ok(ExitCode::FAILURE);
-    };
-    let start = Instant::now(&rt)?;
-    let Ok(roster) = Roster::build(alloc, entries) else {
-        return Ok(ExitCode::FAILURE);
-    };
-    let first = start.elapsed(&rt)?.as_micros();
-    let Ok(marks) = mark_root(alloc, &roster, Pos(0)) else {
-        return Ok(ExitCode::FAILURE);
-    };
-    let second = start.elapsed(&rt)?.as_micros();
-    let parent = MarkedRoster::new(roster, marks);
-    let Ok(new) = Roster::build(alloc, changed) else {
-        return Ok(ExitCode::FAILURE);
-    };
-    let third = start.elapsed(&rt)?.as_micros();
-    let Ok(marks) = mark_one(alloc, &parent, &new, Pos(1)) else {
-        return Ok(ExitCode::FAILURE);
-    };
-    let fourth = start.elapsed(&rt)?.as_micros();
-    println!(rt; "marked {} {}", marks.len(), set_at(&marks, Pos(1)))?;
+    println!(rt; "marked {} {}", child.nodes, child.set)?;
     let mut words = env::args(&rt)?;
     let _program = words.next();
     if words.next().is_some() {
-        println!(rt; "after {first} {second} {third} {fourth}")?;
+        println!(rt;
+            "after {} {} {} {}",
+            root.built, root.marked, child.built, child.marked
+        )?;
     }
     Ok(ExitCode::SUCCESS)
 }
