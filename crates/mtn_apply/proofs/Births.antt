@@ -10,8 +10,8 @@ use Rattle.mtn_roster.proofs.Finding.{passing_some}
 use Rattle.mtn_roster.proofs.Forest.{name_of, split_of}
 use Rattle.mtn_roster.proofs.BySlot.{standing}
 use Rattle.mtn_roster.proofs.Tests.{same_id-is, same_id-self}
-use Rattle.mtn_edits.specs.Laws.{IsOldTree, NoneBornIn}
-use Rattle.mtn_edits.proofs.AfterSane.{forest_before}
+use Rattle.mtn_changeset_laws.specs.Laws.{IsOldTree, NoneBornIn}
+use Rattle.mtn_changeset_laws.proofs.AfterSane.{forest_before}
 use Rattle.mtn_apply.proofs.OldKeys.{placed_in}
 
 module _ (t : Tree) (new : Id) where

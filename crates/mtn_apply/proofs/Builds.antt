@@ -26,10 +26,10 @@ use Rattle.mtn_roster.proofs.Looking.{bytes_total, exact_bytes, names_total, exa
 use Rattle.mtn_roster.proofs.Sorting.{low_at, rest_rises, goes, of_ordered, in_ordered, one_sorted, ordered-rises, rising_differ}
 use Rattle.mtn_changes.specs.declared.change.Change.{Change}
 use Rattle.mtn_changes.specs.declared.change.Change.TheVariants.{Delete, Rename, AddDir, AddFile, Patch, Clear, Set}
-use Rattle.mtn_edits.specs.Changes.{aims_at, edited, edited_by, is_deleted, moves, slot_by, slot_up, old_after, added_by, added_at, first_fault, tree_after}
-use Rattle.mtn_edits.specs.Laws.{IsOldTree, RenamesDiffer, NoneBornIn}
-use Rattle.mtn_edits.proofs.Passing.{Passes, passes, target}
-use Rattle.mtn_edits.proofs.AfterSane.{after_is_sane, forest_before}
+use Rattle.mtn_changeset_laws.specs.Changes.{aims_at, edited, edited_by, is_deleted, moves, slot_by, slot_up, old_after, added_by, added_at, first_fault, tree_after}
+use Rattle.mtn_changeset_laws.specs.Laws.{IsOldTree, RenamesDiffer, NoneBornIn}
+use Rattle.mtn_changeset_laws.proofs.Passing.{Passes, passes, target}
+use Rattle.mtn_changeset_laws.proofs.AfterSane.{after_is_sane, forest_before}
 use Rattle.mtn_apply.specs.Edits.{edited_as, listed}
 use Rattle.mtn_apply.proofs.Chains.{hit, edited-is, as-name}
 use Rattle.mtn_apply.proofs.OldKeys.{has_keys, all_in}

@@ -14,7 +14,7 @@ use Rattle.mtn_roster.proofs.Members.{taken}
 use Rattle.mtn_roster.proofs.Sorting.{rises_placed}
 use Rattle.mtn_changes.specs.declared.change.Change.{Change}
 use Rattle.mtn_changes.specs.declared.change.Change.TheVariants.{Delete, Rename, AddDir, AddFile, Patch, Clear, Set}
-use Rattle.mtn_edits.specs.Changes.{edited, edited_by}
+use Rattle.mtn_changeset_laws.specs.Changes.{edited, edited_by}
 use Rattle.mtn_apply.specs.declared.edits.Edits.{Edits}
 use Rattle.mtn_apply.specs.Edits.{touches, edited_as, next_edit, AreEdits}
 use Rattle.mtn_apply.proofs.OldKeys.{has_keys}

@@ -18,7 +18,7 @@ use Rattle.mtn_roster.proofs.Ordered.{forest_of}
 use Rattle.mtn_roster.proofs.Looking.{bytes_total, names_total, exact_bytes}
 use Rattle.mtn_roster.proofs.Sorting.{no_split, of_ordered, in_ordered, less_at}
 use Rattle.mtn_roster.proofs.Walking.{of_filter, in_filter, filter_rises, below_slot}
-use Rattle.mtn_edits.specs.Laws.{IsOldTree}
+use Rattle.mtn_changeset_laws.specs.Laws.{IsOldTree}
 
 pub any_at : {X : Type 0} (f : X → Bool) (xs : List X) (x : X) → Split xs x → f x ≡ true → list_any f xs ≡ true
 any_at f xs x s h = ap (list_any f) s.is ∙ list_any-here f s.before s.rest x h

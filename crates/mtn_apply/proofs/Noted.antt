@@ -11,7 +11,7 @@ use Rattle.mtn_roster.proofs.Members.{taken}
 use Rattle.mtn_roster.proofs.Looking.{names_total}
 use Rattle.mtn_roster.proofs.Sorting.{less_at}
 use Rattle.mtn_roster.proofs.Tests.{same_name-is, same_name-self}
-use Rattle.mtn_edits.specs.Laws.{IsOldTree}
+use Rattle.mtn_changeset_laws.specs.Laws.{IsOldTree}
 use Rattle.mtn_apply.specs.Maps.{of_place}
 use Rattle.mtn_apply.specs.Index.{first_from}
 use Rattle.mtn_apply.proofs.Builds.{up_before}

@@ -15,9 +15,9 @@ use Rattle.mtn_roster.proofs.Forest.{chained}
 use Rattle.mtn_roster.proofs.Sorting.{no_split}
 use Rattle.mtn_changes.specs.declared.change.Change.{Change}
 use Rattle.mtn_changes.specs.declared.change.Change.TheVariants.{Delete, Rename, AddDir, AddFile, Patch, Clear, Set}
-use Rattle.mtn_edits.specs.Changes.{Occupant, is_kept, if_kept, kept_child, put_by, occupant_by, occupant_up, occupant, aims_at}
-use Rattle.mtn_edits.specs.Changes.Occupant.{Old, Added}
-use Rattle.mtn_edits.specs.Laws.{IsOldTree}
+use Rattle.mtn_changeset_laws.specs.Changes.{Occupant, is_kept, if_kept, kept_child, put_by, occupant_by, occupant_up, occupant, aims_at}
+use Rattle.mtn_changeset_laws.specs.Changes.Occupant.{Old, Added}
+use Rattle.mtn_changeset_laws.specs.Laws.{IsOldTree}
 use Rattle.mtn_apply.specs.Old.{HasRisingKeys}
 
 abbrev pub has_keys : Entry → Bool

@@ -4,7 +4,7 @@ use Rattle.std.proofs.Common.{◌≡◌, ℕ, ◌+◌, ◌<◌, List, [], ◌∷
 use Rattle.std.proofs.lemmas.List.{reverse-append, reverse-reverse, take_more}
 use Rattle.mtn_changes.specs.declared.change.Change.{Change}
 use Rattle.mtn_roster.specs.Tree.{Tree}
-use Rattle.mtn_edits.specs.Changes.{Occupant, aims_at, kept_child, occupant_by, occupant, occupant_up}
+use Rattle.mtn_changeset_laws.specs.Changes.{Occupant, aims_at, kept_child, occupant_by, occupant, occupant_up}
 
 pub reverse_push : (p : List (List ℕ)) (name : List ℕ) → reverse (p ++ name ∷ []) ≡ name ∷ reverse p
 reverse_push p name = reverse-append p (name ∷ [])

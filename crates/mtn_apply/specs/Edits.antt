@@ -11,7 +11,7 @@ use Rattle.mtn_roster.specs.declared.entry.Body.TheVariants.{File}
 use Rattle.mtn_roster.specs.Tree.{Tree, is_some_with, with_attr}
 use Rattle.mtn_changes.specs.declared.change.Change.{Change}
 use Rattle.mtn_changes.specs.declared.change.Change.TheVariants.{Patch, Clear, Set}
-use Rattle.mtn_edits.specs.Changes.{is_at, old_after, added_by}
+use Rattle.mtn_changeset_laws.specs.Changes.{is_at, old_after, added_by}
 use Rattle.mtn_apply.specs.declared.draft.Draft.{Draft}
 use Rattle.mtn_apply.specs.declared.edits.Edits.{Edits}
 

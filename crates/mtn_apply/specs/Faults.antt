@@ -2,7 +2,7 @@
 use Rattle.std.specs.Prelude.{◌≡◌, List, Some}
 use Rattle.mtn_roster.specs.Tree.{Tree}
 use Rattle.mtn_changes.specs.declared.change.Change.{Change}
-use Rattle.mtn_edits.specs.Changes.{Fault, first_fault}
+use Rattle.mtn_changeset_laws.specs.Changes.{Fault, first_fault}
 use Rattle.mtn_apply.specs.declared.applying.ApplyError.{ApplyError}
 use Rattle.mtn_apply.specs.declared.applying.ApplyError.TheVariants.{BadChange, NoMemory}
 use Rattle.mtn_apply.specs.declared.fault.Failure.{Failure}

@@ -5,8 +5,8 @@ use Rattle.std.specs.List.{position_from}
 use Rattle.mtn_roster.specs.declared.entry.Entry.{Entry}
 use Rattle.mtn_roster.specs.Tree.{Tree}
 use Rattle.mtn_changes.specs.declared.change.Change.{Change}
-use Rattle.mtn_edits.specs.Changes.{aims_at, deletes, moves}
-use Rattle.mtn_edits.specs.Laws.{IsOldTree}
+use Rattle.mtn_changeset_laws.specs.Changes.{aims_at, deletes, moves}
+use Rattle.mtn_changeset_laws.specs.Laws.{IsOldTree}
 use Rattle.mtn_apply.specs.declared.index.Index.{Index}
 use Rattle.mtn_apply.specs.declared.index.Edge.{Edge}
 use Rattle.mtn_apply.specs.Old.{tree_in}

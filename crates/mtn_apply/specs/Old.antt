@@ -3,8 +3,8 @@ use Rattle.std.specs.Prelude.{◌≡◌, IsTrue, [], Option, Some, None, slice_g
 use Rattle.std.specs.Borrow.{Bor}
 use Rattle.mtn_roster.specs.declared.entry.Entry.{Entry}
 use Rattle.mtn_roster.specs.Tree.{Tree}
-use Rattle.mtn_edits.specs.Changes.{Occupant}
-use Rattle.mtn_edits.specs.Changes.Occupant.{Old, Added}
+use Rattle.mtn_changeset_laws.specs.Changes.{Occupant}
+use Rattle.mtn_changeset_laws.specs.Changes.Occupant.{Old, Added}
 use Rattle.mtn_roster.specs.Attrs.{are_keyed}
 use Rattle.mtn_apply.specs.declared.old.Node.{Node}
 use Rattle.mtn_apply.specs.declared.occupant.There.{There}

@@ -1,8 +1,8 @@
 // A changeset applied to a tree.
 ghost use Rattle.std.specs.Prelude.{◌≡◌, None, OnOk, IfOk, IfErr};
 ghost use Rattle.mtn_roster.specs.Building.{IsBuildable, tree_of};
-ghost use Rattle.mtn_edits.specs.Changes.{first_fault, tree_after};
-ghost use Rattle.mtn_edits.specs.Laws.{RenamesDiffer, NoneBornIn};
+ghost use Rattle.mtn_changeset_laws.specs.Changes.{first_fault, tree_after};
+ghost use Rattle.mtn_changeset_laws.specs.Laws.{RenamesDiffer, NoneBornIn};
 ghost use Rattle.mtn_apply.specs.Faults.{IsFault};
 ghost use Rattle.mtn_apply.specs.Index.{IsIndexed, old_of, changes_of};
 ghost use Rattle.mtn_apply.specs.Old.{tree_in};

@@ -1,6 +1,6 @@
 // The first change that fails.
 ghost use Rattle.std.specs.Prelude.{◌≡◌, option_map, IfOk};
-ghost use Rattle.mtn_edits.specs.Changes.{first_fault};
+ghost use Rattle.mtn_changeset_laws.specs.Changes.{first_fault};
 ghost use Rattle.mtn_apply.specs.Faults.{told};
 ghost use Rattle.mtn_apply.specs.Index.{IsIndexed, old_of, changes_of};
 

@@ -4,10 +4,10 @@ ghost use Rattle.mtn_apply.specs.Maps.{of_place, of_path};
 ghost use Rattle.mtn_base.specs.Names.{same_path};
 ghost use Rattle.mtn_roster.specs.Tree.{Tree, is_some_with};
 ghost use Rattle.mtn_roster.specs.declared.entry.Entry.{Entry};
-ghost use Rattle.mtn_edits.specs.Changes.{aims_at, deletes, moves, stands_at};
+ghost use Rattle.mtn_changeset_laws.specs.Changes.{aims_at, deletes, moves, stands_at};
 ghost use Rattle.mtn_apply.specs.Old.{tree_in};
 ghost use Rattle.mtn_apply.specs.Index.{IsIndexed, IsIndex, IsIndexFrom};
-ghost use Rattle.mtn_edits.specs.Laws.{IsOldTree};
+ghost use Rattle.mtn_changeset_laws.specs.Laws.{IsOldTree};
 ghost use Rattle.mtn_changes.specs.declared.change.Change.{Change};
 
 use crate::names::PathMap;

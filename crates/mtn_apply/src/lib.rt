@@ -5,7 +5,7 @@
 //! the first change with that *target* puts there, and else, *targets aside*, the kept child of that name of
 //! what stands above.
 //!
-//! The crates above rely on this: `apply` answers exactly the tree that the definitions of `mtn_edits` make of
+//! The crates above rely on this: `apply` answers exactly the tree that the definitions of `mtn_changeset_laws` make of
 //! an edge, or the first change that fails, with its first reason.
 //!
 //! Cost: `apply` copies the old tree and builds the new one; beyond that it looks up, for each change, each

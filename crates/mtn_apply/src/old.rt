@@ -3,7 +3,7 @@ ghost use Rattle.std.specs.Prelude.{◌≡◌, length, map, slice_get, option_ma
 ghost use Rattle.mtn_roster.specs.declared.entry.Entry.{Entry};
 ghost use Rattle.mtn_roster.specs.Tree.{root_of, child_of, node_at, entry_of};
 ghost use Rattle.mtn_roster.specs.Walk.{children_of};
-ghost use Rattle.mtn_edits.specs.Laws.{IsOldTree};
+ghost use Rattle.mtn_changeset_laws.specs.Laws.{IsOldTree};
 ghost use Rattle.mtn_apply.specs.Old.{tree_in, entry_in, IsNode, IsOldNode};
 
 use mtn_base::{Comp, NoMemory, NodeName, Path};

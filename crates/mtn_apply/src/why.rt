@@ -8,8 +8,8 @@ ghost use Rattle.mtn_roster.specs.declared.entry.Entry.{Entry};
 ghost use Rattle.mtn_roster.specs.Tree.{is_some_with, entry_of, live_of, rises, mtn};
 ghost use Rattle.mtn_changes.specs.declared.change.Change.{Change};
 ghost use Rattle.mtn_changes.specs.declared.change.Change.TheVariants.{Delete, Rename, AddDir, AddFile, Patch, Clear, Set};
-ghost use Rattle.mtn_edits.specs.Changes.{is_deleted as deletes_it, is_kept as keeps_it, has_kept_child as has_kept, parent_up, aside_up, hangs_there as hangs, is_empty, kept_child as kept_below, is_file as stands_file, is_below_file as below_file, has_content as holds, old_value as old_live, first_reason as first_of, why, occupant};
-ghost use Rattle.mtn_edits.specs.Changes.Occupant.{Old};
+ghost use Rattle.mtn_changeset_laws.specs.Changes.{is_deleted as deletes_it, is_kept as keeps_it, has_kept_child as has_kept, parent_up, aside_up, hangs_there as hangs, is_empty, kept_child as kept_below, is_file as stands_file, is_below_file as below_file, has_content as holds, old_value as old_live, first_reason as first_of, why, occupant};
+ghost use Rattle.mtn_changeset_laws.specs.Changes.Occupant.{Old};
 ghost use Rattle.mtn_apply.specs.Old.{seen, entry_in, IsOldNode, HasRisingKeys};
 ghost use Rattle.mtn_apply.specs.Index.{IsIndexed, old_of, changes_of};
 

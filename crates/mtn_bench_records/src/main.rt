@@ -6,7 +6,7 @@
 #![tactic(auto)]
 
 use mtn_ancestry::Pos;
-use mtn_chains::{delta, rebuild};
+use mtn_roster_deltas::{delta, rebuild};
 use mtn_records::{Field, Numbered, RosterRecord};
 use std::alloc::Global;
 use std::env;

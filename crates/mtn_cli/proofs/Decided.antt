@@ -1,6 +1,6 @@
 -- A revision's text comes to one thing.
 use Rattle.std.proofs.Common.{◌≡◌, ◌≤◌, ◌<◌, ℕ, List, length, Option, Some, refl, sym, ap, ◌∙◌, inl, inr, arith}
-use Rattle.mtn_accept.specs.Accepting.{Decides, fault_cause, refusal_beside}
+use Rattle.mtn_put_revision.specs.Accepting.{Decides, fault_cause, refusal_beside}
 use Rattle.mtn_base.specs.declared.refusal.Cause.{Cause}
 use Rattle.mtn_base.specs.declared.refusal.Cause.TheVariants.{TextTooLong}
 use Rattle.mtn_changes.specs.declared.change.Revision.{Revision as Spelled}
@@ -8,8 +8,8 @@ use Rattle.mtn_changes.specs.declared.error.ChangeTextError.{ChangeTextError}
 use Rattle.mtn_changes.specs.declared.error.ChangeTextError.TheVariants as error
 use Rattle.mtn_changes.proofs.OneValue.{no_revision_fault, same_revision}
 use Rattle.mtn_faults.proofs.OneFault.{one_fault}
-use Rattle.mtn_growth.specs.History.{Revision}
-use Rattle.mtn_log.proofs.Histories.{one_history}
+use Rattle.mtn_history_laws.specs.History.{Revision}
+use Rattle.mtn_replay.proofs.Histories.{one_history}
 use Rattle.mtn_history.specs.Texts.{text_under}
 use Rattle.mtn_model.specs.State.{State}
 use Rattle.mtn_cli.specs.Step.{unless, id_line}

@@ -1,21 +1,21 @@
 -- A command has one outcome.
 use Rattle.std.proofs.Common.{◌≡◌, ℕ, List, Option, Some, None, sym, ap, ◌∙◌, subst}
 use Rattle.mtn_model.specs.State.{State}
-use Rattle.mtn_log.specs.Lawful.{IsLawful}
+use Rattle.mtn_replay.specs.Lawful.{IsLawful}
 use Rattle.mtn_cli.specs.declared.command.Call.{Call}
 use Rattle.mtn_cli.specs.declared.command.Call.TheVariants.{PutFile, PutRevision, GetFile, GetRevision, GetManifestOf, GetRoster, GetContentChanged, GetCorrespondingPath, Ask, Graph}
-use Rattle.mtn_growth.specs.History.{Revision}
-use Rattle.mtn_log.proofs.Histories.{one_history}
-use Rattle.mtn_views.specs.Answers.{Answer}
-use Rattle.mtn_views.specs.Views.{IsContentChanged, IsRoster, corresponding_at, manifest_at}
-use Rattle.mtn_views.proofs.Unique.{one_content, one_roster}
+use Rattle.mtn_history_laws.specs.History.{Revision}
+use Rattle.mtn_replay.proofs.Histories.{one_history}
+use Rattle.mtn_roster_queries.specs.Answers.{Answer}
+use Rattle.mtn_roster_queries.specs.Views.{IsContentChanged, IsRoster, corresponding_at, manifest_at}
+use Rattle.mtn_roster_queries.proofs.Unique.{one_content, one_roster}
 use Rattle.mtn_cli.specs.Step.{Asked, Graphed, OfHistory, Outcome, Steps, Viewed, SessionOf, done, id_lines, line_text, takes_payload, fed, told}
 use Rattle.std.specs.List.{flat_map}
 use Rattle.mtn_base.specs.declared.id.Id.{Id}
 use Rattle.mtn_cli.proofs.Decided.{one_decided}
-use Rattle.mtn_queries.proofs.Orders.{one_answer, one_graph}
-use Rattle.mtn_queries.specs.declared.query.Query.{Query}
-use Rattle.mtn_queries.specs.Queries.{first_unknown, ids_of}
+use Rattle.mtn_graph_queries.proofs.Orders.{one_answer, one_graph}
+use Rattle.mtn_graph_queries.specs.declared.query.Query.{Query}
+use Rattle.mtn_graph_queries.specs.Queries.{first_unknown, ids_of}
 
 -- over one history a query is answered once
 one_asked : (h : List Revision) (query : Query) (s : State) (unknown : Option Id) (o p : Outcome) → Asked h query s unknown o → Asked h query s unknown p → o ≡ p

@@ -2,14 +2,14 @@
 use Rattle.std.specs.Prelude.{IfSome, MatchBool}
 use Rattle.std.proofs.Common.{◌≡◌, inl, inr, ℕ, Bool, true, false, List, [], length, Option, Some, None, Result, Ok, Err, refl, sym, ap, ◌∙◌, subst, arith}
 use Rattle.mtn_ancestry.specs.declared.pos.LogEntry.{LogEntry}
-use Rattle.mtn_growth.specs.History.{Revision}
-use Rattle.mtn_log.specs.Graphs.{Tells}
-use Rattle.mtn_log.specs.Lawful.{IsHistory}
-use Rattle.mtn_log.proofs.Histories.{history_is_grown, history_none}
+use Rattle.mtn_history_laws.specs.History.{Revision}
+use Rattle.mtn_replay.specs.Graphs.{Tells}
+use Rattle.mtn_replay.specs.Lawful.{IsHistory}
+use Rattle.mtn_replay.proofs.Histories.{history_is_grown, history_none}
 use Rattle.mtn_model.specs.Table.{Contents, body_at}
 use Rattle.mtn_model.specs.State.{State}
 use Rattle.mtn_base.specs.declared.refusal.Cause.TheVariants.{UnknownRevision}
-use Rattle.mtn_log.proofs.Places.{inside}
+use Rattle.mtn_replay.proofs.Places.{inside}
 use Rattle.mtn_ports.specs.Causes.{Rose}
 use Rattle.mtn_ports.specs.Kept.{Stays, with_all}
 use Rattle.mtn_history.specs.Damage.{IsDamage}
@@ -27,11 +27,11 @@ use Rattle.mtn_history.proofs.LogLemmas.{read_tells, never_wrong}
 use Rattle.mtn_cli.specs.Performs.{Counts, Drafts, drafted, query_refusal, replied}
 use Rattle.mtn_cli.specs.Step.{Asked, Outcome, Steps, refused}
 use Rattle.mtn_cli.specs.declared.command.Call.TheVariants.{Ask}
-use Rattle.mtn_queries.specs.Queries.{NamesUnknown, ids_of}
-use Rattle.mtn_queries.specs.declared.query.Query.{Query}
-use Rattle.mtn_queries.specs.declared.query.QueryError.{QueryError}
-use Rattle.mtn_queries.specs.declared.query.QueryError.TheVariants.{Unknown}
-use Rattle.mtn_queries.specs.declared.query.QueryError.TheVariants as query
+use Rattle.mtn_graph_queries.specs.Queries.{NamesUnknown, ids_of}
+use Rattle.mtn_graph_queries.specs.declared.query.Query.{Query}
+use Rattle.mtn_graph_queries.specs.declared.query.QueryError.{QueryError}
+use Rattle.mtn_graph_queries.specs.declared.query.QueryError.TheVariants.{Unknown}
+use Rattle.mtn_graph_queries.specs.declared.query.QueryError.TheVariants as query
 use Rattle.mtn_cli.specs.declared.answer.Reply.{Reply}
 use Rattle.mtn_cli.proofs.PerformsLemmas.{reason_of}
 

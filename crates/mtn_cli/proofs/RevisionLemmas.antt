@@ -1,7 +1,7 @@
 -- Accepting a revision is its line of the step.
 use Rattle.std.proofs.Common.{◌≡◌, ℕ, List, false, Option, Some, None, Result, Ok, Err, refl, sym, ap, ◌∙◌, subst}
 use Rattle.std.specs.Prelude.{IfSome}
-use Rattle.mtn_accept.specs.Accepting.{AcceptsRevision}
+use Rattle.mtn_put_revision.specs.Accepting.{AcceptsRevision}
 use Rattle.mtn_base.specs.declared.id.Id.{Id}
 use Rattle.mtn_history.specs.Damage.{IsDamage}
 use Rattle.mtn_history.specs.Errors.{IfStoreDamage}

@@ -1,7 +1,7 @@
 -- A question about the history, asked of a draft, is its command.
 use Rattle.std.specs.Prelude.{IfSome, IfErr, option_map}
 use Rattle.std.proofs.Common.{◌≡◌, ◌≤◌, ℕ, false, List, Option, Some, None, Result, Ok, Err, refl, sym, ap, ◌∙◌, subst}
-use Rattle.mtn_growth.specs.History.{Revision}
+use Rattle.mtn_history_laws.specs.History.{Revision}
 use Rattle.mtn_model.specs.State.{State}
 use Rattle.mtn_model.specs.Table.{Contents}
 use Rattle.mtn_ports.specs.Causes.{Rose}
@@ -19,7 +19,7 @@ use Rattle.mtn_history.proofs.FileLemmas.{draft_stands}
 use Rattle.mtn_history.proofs.Founding.{founded}
 use Rattle.mtn_history.proofs.MarkedLemmas.{draft_counts}
 use Rattle.mtn_history.proofs.MetaLemmas.{no_damage}
-use Rattle.mtn_views.specs.Answers.{Answer, Gives}
+use Rattle.mtn_roster_queries.specs.Answers.{Answer, Gives}
 use Rattle.mtn_cli.specs.declared.answer.Reply.{Reply}
 use Rattle.mtn_cli.specs.Step.{OfHistory, Outcome, Viewed, told, done}
 use Rattle.mtn_cli.specs.Performs.{Counts, Drafted, Drafts, HasReason, Reason, drafted, replied}

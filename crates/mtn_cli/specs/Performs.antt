@@ -14,9 +14,9 @@ use Rattle.mtn_history.specs.declared.errors.StoreError.TheVariants.{Failed, Dam
 use Rattle.mtn_history.specs.declared.errors.HistoryError.{HistoryError}
 use Rattle.mtn_history.specs.declared.errors.HistoryError.TheVariants.{Refused, Store}
 use Rattle.mtn_base.specs.declared.refusal.Cause.TheVariants.{UnknownRevision}
-use Rattle.mtn_queries.specs.declared.query.QueryError.{QueryError}
-use Rattle.mtn_queries.specs.declared.query.QueryError.TheVariants.{Unknown}
-use Rattle.mtn_queries.specs.declared.query.QueryError.TheVariants as query
+use Rattle.mtn_graph_queries.specs.declared.query.QueryError.{QueryError}
+use Rattle.mtn_graph_queries.specs.declared.query.QueryError.TheVariants.{Unknown}
+use Rattle.mtn_graph_queries.specs.declared.query.QueryError.TheVariants as query
 use Rattle.mtn_cli.specs.declared.answer.Reply.{Reply}
 use Rattle.mtn_cli.specs.Step.{Outcome, refused, reply_status}
 

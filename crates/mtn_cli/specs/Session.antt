@@ -4,7 +4,7 @@ use Rattle.std.specs.Bool.{OnTrue}
 use Rattle.std.specs.Io.KnownBytes.{Consumes, IsAtEnd}
 use Rattle.mtn_model.specs.Table.{Contents}
 use Rattle.mtn_model.specs.State.{State}
-use Rattle.mtn_log.specs.Lawful.{IsLawful}
+use Rattle.mtn_replay.specs.Lawful.{IsLawful}
 use Rattle.mtn_ports.specs.Causes.{Rose}
 use Rattle.mtn_history.specs.declared.errors.Damage.{Damage}
 use Rattle.mtn_ports.specs.Kept.{Same, IfTold}

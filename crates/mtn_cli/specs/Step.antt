@@ -8,20 +8,20 @@ use Rattle.std.specs.FinMap.{get}
 use Rattle.mtn_base.specs.declared.id.Id.{Id}
 use Rattle.mtn_base.specs.declared.refusal.Cause.TheVariants.{UnknownFile, UnknownRevision}
 use Rattle.mtn_base.specs.Refusals.{line_of}
-use Rattle.mtn_accept.specs.Accepting.{Decides}
+use Rattle.mtn_put_revision.specs.Accepting.{Decides}
 use Rattle.mtn_history.specs.Files.{file_refusal, with_file}
 use Rattle.mtn_history.specs.Texts.{text_under}
-use Rattle.mtn_growth.specs.History.{Revision}
-use Rattle.mtn_log.specs.Lawful.{IsHistory}
-use Rattle.mtn_views.specs.Answers.{Answer}
-use Rattle.mtn_views.specs.Views.{manifest_at, corresponding_at, IsContentChanged, IsRoster}
+use Rattle.mtn_history_laws.specs.History.{Revision}
+use Rattle.mtn_replay.specs.Lawful.{IsHistory}
+use Rattle.mtn_roster_queries.specs.Answers.{Answer}
+use Rattle.mtn_roster_queries.specs.Views.{manifest_at, corresponding_at, IsContentChanged, IsRoster}
 use Rattle.mtn_cli.specs.Calls.{call_of}
 use Rattle.mtn_cli.specs.declared.command.Call.{Call}
 use Rattle.mtn_cli.specs.declared.command.Call.TheVariants.{PutFile, PutRevision, GetFile, GetRevision, GetManifestOf, GetRoster, GetContentChanged, GetCorrespondingPath, Ask, Graph}
-use Rattle.mtn_queries.specs.Lines.{IsGraph}
-use Rattle.mtn_queries.specs.Queries.{IsAnswer, first_unknown, ids_of}
-use Rattle.mtn_queries.specs.declared.query.Line.{Line}
-use Rattle.mtn_queries.specs.declared.query.Query.{Query}
+use Rattle.mtn_graph_queries.specs.Lines.{IsGraph}
+use Rattle.mtn_graph_queries.specs.Queries.{IsAnswer, first_unknown, ids_of}
+use Rattle.mtn_graph_queries.specs.declared.query.Line.{Line}
+use Rattle.mtn_graph_queries.specs.declared.query.Query.{Query}
 use Rattle.std.specs.List.{flat_map}
 use Rattle.mtn_cli.specs.declared.status.Status.{Status}
 use Rattle.mtn_cli.specs.declared.status.Status.TheVariants as status

@@ -10,7 +10,7 @@ use crate::command::Call;
 use mtn_base::{Bytes, Cause, Id, List, NoMemory};
 use mtn_history::{Draft, HistoryError, StoreError};
 use mtn_ports::{Ident, Keeper};
-use mtn_queries::{Line, Query, QueryError, answer, lines};
+use mtn_graph_queries::{Line, Query, QueryError, answer, lines};
 use std::alloc::Global;
 
 // Appends the digits of an id.

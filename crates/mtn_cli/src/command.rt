@@ -6,7 +6,7 @@ ghost use Rattle.mtn_cli.specs.Words.{Reads};
 
 use crate::words::{WordsError, step_words};
 use mtn_base::{Bytes, Id, List, NoMemory, Path, PathError};
-use mtn_queries::Query;
+use mtn_graph_queries::Query;
 use std::alloc::Global;
 
 /// A command with its words read.

@@ -21,7 +21,7 @@ pub fn get_content_changed<I: Ident, K: Keeper>(
     ensures drafts { Drafts (I.meaning ident.now) K.contents K.leaves K.faults draft.old.keeper.now draft.new.keeper.now draft.old.pending draft.new.pending
         (Steps (I.meaning ident.now) (Call.GetContentChanged id path.now) payload.now) result }
 {
-    let text = mtn_views::get_content_changed(draft, id, path)?;
+    let text = mtn_roster_queries::get_content_changed(draft, id, path)?;
     Ok(Reply {
         conflicts: false,
         text,

@@ -22,7 +22,7 @@ pub fn get_corresponding_path<I: Ident, K: Keeper>(
     ensures drafts { Drafts (I.meaning ident.now) K.contents K.leaves K.faults draft.old.keeper.now draft.new.keeper.now draft.old.pending draft.new.pending
         (Steps (I.meaning ident.now) (Call.GetCorrespondingPath id path.now other) payload.now) result }
 {
-    let text = mtn_views::get_corresponding_path(draft, id, path, other)?;
+    let text = mtn_roster_queries::get_corresponding_path(draft, id, path, other)?;
     Ok(Reply {
         conflicts: false,
         text,

@@ -20,7 +20,7 @@ pub fn get_manifest_of<I: Ident, K: Keeper>(
     ensures drafts { Drafts (I.meaning ident.now) K.contents K.leaves K.faults draft.old.keeper.now draft.new.keeper.now draft.old.pending draft.new.pending
         (Steps (I.meaning ident.now) (Call.GetManifestOf id) payload.now) result }
 {
-    let text = mtn_views::get_manifest_of(draft, id)?;
+    let text = mtn_roster_queries::get_manifest_of(draft, id)?;
     Ok(Reply {
         conflicts: false,
         text,

@@ -1,6 +1,6 @@
 //! Laws of what a command does.
 ghost use Rattle.std.specs.Prelude.{◌≡◌, ℕ, List};
-ghost use Rattle.mtn_log.specs.Lawful.{IsLawful};
+ghost use Rattle.mtn_replay.specs.Lawful.{IsLawful};
 ghost use Rattle.mtn_model.specs.State.{State};
 ghost use Rattle.mtn_cli.specs.declared.command.Call.{Call};
 ghost use Rattle.mtn_cli.specs.Step.{Outcome, Session, Steps};

@@ -21,7 +21,7 @@ pub fn put_revision<I: Ident, K: Keeper>(
     ensures drafts { Drafts (I.meaning ident.now) K.contents K.leaves K.faults draft.old.keeper.now draft.new.keeper.now draft.old.pending draft.new.pending
         (Steps (I.meaning ident.now) Call.PutRevision payload.now) result }
 {
-    let id = mtn_accept::put_revision(alloc, ident, draft, payload)?;
+    let id = mtn_put_revision::put_revision(alloc, ident, draft, payload)?;
     Ok(Reply {
         conflicts: false,
         text: id_text(alloc, id)?,

@@ -1,8 +1,8 @@
 -- The roster of a new revision is what its record gives.
 use Rattle.std.proofs.Common.{◌≡◌, ◌<◌, ◌+◌, ◌^◌, ℕ, List, Some, refl, ap, ◌∙◌, arith}
-use Rattle.mtn_chains.specs.Chain.{Entries}
-use Rattle.mtn_chains.specs.Difference.{IsDifference}
-use Rattle.mtn_chains.specs.Spelled.{Spells}
+use Rattle.mtn_roster_deltas.specs.Chain.{Entries}
+use Rattle.mtn_roster_deltas.specs.Difference.{IsDifference}
+use Rattle.mtn_roster_deltas.specs.Spelled.{Spells}
 use Rattle.mtn_marking.specs.Marking.{MarkedTree}
 use Rattle.mtn_model.specs.State.{Logged}
 use Rattle.mtn_model.specs.Table.{Contents, body_at}

@@ -9,15 +9,15 @@ use Rattle.std.proofs.lemmas.Cmp.{nat_list_cmp_total}
 use Rattle.std.specs.Prelude.{bytes_eq}
 use Rattle.std.proofs.lemmas.Slice.Eq.{bytes_eq-Decides}
 use Rattle.mtn_base.specs.Hex.{id_of}
-use Rattle.mtn_growth.specs.History.{Revision, revision_parents, IsGrown}
-use Rattle.mtn_log.specs.Lawful.{IsNext, IsHistory}
-use Rattle.mtn_log.specs.Making.{place_of}
-use Rattle.mtn_log.proofs.Histories.{Place, in_front, at_back, place, kept_at, last_at, history_more, history_is_grown}
-use Rattle.mtn_log.proofs.Places.{within, inside, no_place}
+use Rattle.mtn_history_laws.specs.History.{Revision, revision_parents, IsGrown}
+use Rattle.mtn_replay.specs.Lawful.{IsNext, IsHistory}
+use Rattle.mtn_replay.specs.Making.{place_of}
+use Rattle.mtn_replay.proofs.Histories.{Place, in_front, at_back, place, kept_at, last_at, history_more, history_is_grown}
+use Rattle.mtn_replay.proofs.Places.{within, inside, no_place}
 use Rattle.mtn_marking.specs.Graph.{IsMarkedAt}
 use Rattle.mtn_marking.specs.Marking.{Marks}
 use Rattle.mtn_marking.proofs.Staying.{marked_kept}
-use Rattle.mtn_chains.specs.Numbering.{fresh, IsNumbering}
+use Rattle.mtn_roster_deltas.specs.Numbering.{fresh, IsNumbering}
 use Rattle.mtn_model.specs.State.{Logged, State}
 use Rattle.mtn_model.specs.Table.{Table, Contents}
 use Rattle.mtn_records.specs.Fields.{number_text}

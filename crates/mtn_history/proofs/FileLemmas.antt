@@ -10,8 +10,8 @@ use Rattle.mtn_base.specs.declared.refusal.Cause.TheVariants.{Collision}
 use Rattle.std.proofs.lemmas.Slice.Eq.{bytes_eq-Decides}
 use Rattle.mtn_model.specs.Table.{Table, Contents, body_at, with_record, nothing, no_table}
 use Rattle.mtn_model.specs.State.{State, AreFiles, empty_state}
-use Rattle.mtn_log.specs.Lawful.{Keeps, IsLawful}
-use Rattle.mtn_log.proofs.Histories.{history_none, history_kept}
+use Rattle.mtn_replay.specs.Lawful.{Keeps, IsLawful}
+use Rattle.mtn_replay.proofs.Histories.{history_none, history_kept}
 use Rattle.mtn_ports.specs.Kept.{with_all, IsBody}
 use Rattle.mtn_ports.proofs.KeptLemmas.{with_all-append}
 use Rattle.mtn_history.specs.declared.pending.Pending.{Pending}

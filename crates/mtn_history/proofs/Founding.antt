@@ -2,8 +2,8 @@
 use Rattle.std.specs.Prelude.{IfSome}
 use Rattle.std.proofs.Common.{◌≡◌, ◌≢◌, ◌<◌, ℕ, Bool, true, false, List, length, Option, Some, refl, sym, ap, ◌∙◌, subst, arith}
 use Rattle.mtn_ancestry.specs.Log.{list_of}
-use Rattle.mtn_growth.specs.History.{Revision, parents_at, revision_parents, IsGrown}
-use Rattle.mtn_log.proofs.Histories.{history_is_grown}
+use Rattle.mtn_history_laws.specs.History.{Revision, parents_at, revision_parents, IsGrown}
+use Rattle.mtn_replay.proofs.Histories.{history_is_grown}
 use Rattle.mtn_model.specs.State.{State}
 use Rattle.mtn_model.specs.Table.{Contents}
 use Rattle.mtn_ports.specs.Kept.{Same, with_all}

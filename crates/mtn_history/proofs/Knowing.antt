@@ -7,7 +7,7 @@ use Rattle.std.specs.Map.{lookup}
 use Rattle.std.specs.Ordering.{nat_cmp}
 use Rattle.std.proofs.Common.{◌≡◌, ◌≢◌, ◌≤◌, ◌<◌, ◌+◌, ◌^◌, ◌⊎◌, inl, inr, ⊎_elim, ℕ, zero, suc, Bool, true, false, List, [], ◌∷◌, ◌++◌, Option, Some, None, Result, Ok, Err, refl, sym, ap, ◌∙◌, subst, arith}
 use Rattle.mtn_ancestry.proofs.Reaching.{at_other}
-use Rattle.mtn_chains.specs.Chain.{rebuilt}
+use Rattle.mtn_roster_deltas.specs.Chain.{rebuilt}
 use Rattle.mtn_model.specs.State.{Logged}
 use Rattle.mtn_model.specs.Table.{Contents, Table, body_at}
 use Rattle.mtn_ports.specs.Kept.{Same, with_all}

@@ -15,10 +15,10 @@ use Rattle.mtn_history.specs.declared.errors.StoreError.TheVariants.{Failed, Dam
 use Rattle.mtn_history.specs.declared.errors.Damage.TheVariants.{Bad, Missing}
 use Rattle.mtn_history.specs.Errors.{IfDamage}
 use Rattle.mtn_history.specs.Logs.{IsLogged, UnloggedAt, RepeatedAt, IsHeldAt, WrongBelow, IsReadTo}
-use Rattle.mtn_log.specs.Graphs.{Tells}
-use Rattle.mtn_log.proofs.Histories.{Place, in_front, at_back, place, kept_at, last_at}
-use Rattle.mtn_log.proofs.Places.{inside, within}
-use Rattle.mtn_growth.specs.History.{Revision, IsGrown}
+use Rattle.mtn_replay.specs.Graphs.{Tells}
+use Rattle.mtn_replay.proofs.Histories.{Place, in_front, at_back, place, kept_at, last_at}
+use Rattle.mtn_replay.proofs.Places.{inside, within}
+use Rattle.mtn_history_laws.specs.History.{Revision, IsGrown}
 use Rattle.mtn_records.specs.Records.{log_text}
 use Rattle.mtn_records.specs.RecordsApart.{log_apart}
 use Rattle.mtn_history.specs.Damage.{IsShown}

@@ -5,11 +5,11 @@ use Rattle.std.specs.List.{AllZip}
 use Rattle.std.proofs.Common.{◌≡◌, ◌≢◌, ◌≤◌, ◌<◌, ◌+◌, ◌^◌, ℕ, zero, suc, Bool, true, false, List, [], ◌∷◌, ◌++◌, length, get_or, take, Option, Some, None, Result, Err, refl, sym, ap, ◌∙◌, subst, inl, inr, arith}
 use Rattle.std.proofs.lemmas.List.{take_more}
 use Rattle.mtn_base.specs.declared.id.Id.{Id}
-use Rattle.mtn_chains.specs.Chain.{Entries}
-use Rattle.mtn_growth.specs.History.{Revision, IsPlaceOf}
-use Rattle.mtn_log.specs.Making.{place_of}
-use Rattle.mtn_log.proofs.Places.{within}
-use Rattle.mtn_log.proofs.Histories.{log_is_short}
+use Rattle.mtn_roster_deltas.specs.Chain.{Entries}
+use Rattle.mtn_history_laws.specs.History.{Revision, IsPlaceOf}
+use Rattle.mtn_replay.specs.Making.{place_of}
+use Rattle.mtn_replay.proofs.Places.{within}
+use Rattle.mtn_replay.proofs.Histories.{log_is_short}
 use Rattle.mtn_marking.specs.Graph.{IsMarkedAt}
 use Rattle.mtn_marking.specs.Marking.{MarkedTree}
 use Rattle.mtn_model.specs.State.{State}

@@ -8,8 +8,8 @@ use Rattle.std.specs.Cmp.Lexicographic.{slice_cmp}
 use Rattle.std.proofs.lemmas.Nat.{from_be_bytes-to_be_bytes_8}
 use Rattle.mtn_model.specs.Table.{Table, Contents, body_at}
 use Rattle.mtn_model.specs.State.{State}
-use Rattle.mtn_log.specs.Lawful.{IsLawful}
-use Rattle.mtn_log.proofs.Histories.{history_is_grown, log_is_short}
+use Rattle.mtn_replay.specs.Lawful.{IsLawful}
+use Rattle.mtn_replay.proofs.Histories.{history_is_grown, log_is_short}
 use Rattle.mtn_ports.specs.declared.batch.Put.{Put}
 use Rattle.mtn_ports.specs.Kept.{with_all, Adds, Same, MayLeave, IsBody}
 use Rattle.mtn_history.specs.declared.errors.Damage.{Damage}

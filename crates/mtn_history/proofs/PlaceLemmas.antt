@@ -4,11 +4,11 @@ use Rattle.std.proofs.Common.{◌≡◌, ◌<◌, ◌^◌, ℕ, Bool, true, List
 use Rattle.std.specs.FinMap.{get}
 use Rattle.mtn_base.specs.Hex.{id_of}
 use Rattle.mtn_base.specs.declared.id.Id.{Id}
-use Rattle.mtn_growth.specs.History.{Revision}
-use Rattle.mtn_log.specs.Lawful.{IsHistory}
-use Rattle.mtn_log.specs.Making.{place_of}
-use Rattle.mtn_log.proofs.Histories.{history_is_grown}
-use Rattle.mtn_log.proofs.Places.{within, inside, no_place, place_has, place_within}
+use Rattle.mtn_history_laws.specs.History.{Revision}
+use Rattle.mtn_replay.specs.Lawful.{IsHistory}
+use Rattle.mtn_replay.specs.Making.{place_of}
+use Rattle.mtn_replay.proofs.Histories.{history_is_grown}
+use Rattle.mtn_replay.proofs.Places.{within, inside, no_place, place_has, place_within}
 use Rattle.mtn_model.specs.State.{Logged}
 use Rattle.mtn_model.specs.Table.{Table, Contents, body_at}
 use Rattle.mtn_ports.specs.Kept.{with_all, IsBody}

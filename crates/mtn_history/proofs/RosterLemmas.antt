@@ -5,10 +5,10 @@ use Rattle.std.proofs.Common.{◌≡◌, ◌≤◌, ◌<◌, ◌+◌, ℕ, zero,
 use Rattle.std.proofs.lemmas.List.{length-append, length-reverse, append-nil, reverse-reverse}
 use mathlib.Core.List.{reverse-cons}
 use Rattle.std.proofs.lemmas.Bool.Decides.{nat_tests}
-use Rattle.mtn_chains.specs.Chain.{Entries, applied, after_record, after_all, rebuilt, deepest, ascend}
-use Rattle.mtn_chains.specs.Difference.{IsDifference}
-use Rattle.mtn_chains.specs.Spelled.{Spells}
-use Rattle.mtn_growth.specs.History.{Revision}
+use Rattle.mtn_roster_deltas.specs.Chain.{Entries, applied, after_record, after_all, rebuilt, deepest, ascend}
+use Rattle.mtn_roster_deltas.specs.Difference.{IsDifference}
+use Rattle.mtn_roster_deltas.specs.Spelled.{Spells}
+use Rattle.mtn_history_laws.specs.History.{Revision}
 use Rattle.mtn_marking.specs.Graph.{IsMarkedAt}
 use Rattle.mtn_marking.specs.Marking.{MarkedTree}
 use Rattle.mtn_model.specs.Table.{Contents, body_at}
@@ -29,9 +29,9 @@ use Rattle.mtn_history.specs.declared.errors.Damage.TheVariants.{Bad, Missing}
 use Rattle.mtn_history.specs.Revisions.{Kept, AreKept, AreRosters, IsRosterOf}
 use Rattle.mtn_history.specs.Rosters.{IsRostered, IsChainDown, IsPathDown, IsChainOf, IsRosterHeld, UnrosteredAt, UnrebuiltAt, UnmadeBelow, IsRebuilt, base_of}
 use Rattle.mtn_history.proofs.LogLemmas.{told_on}
-use Rattle.mtn_chains.proofs.Differing.{chain_grows}
-use Rattle.mtn_chains.proofs.Spelling.{one_tree}
-use Rattle.mtn_log.proofs.Places.{within, inside}
+use Rattle.mtn_roster_deltas.proofs.Differing.{chain_grows}
+use Rattle.mtn_roster_deltas.proofs.Spelling.{one_tree}
+use Rattle.mtn_replay.proofs.Places.{within, inside}
 use Rattle.mtn_history.specs.Revisions.{deeper, depth_on}
 
 one_body : (o : Option (List ℕ)) (a b : List ℕ) → o ≡ Some a → o ≡ Some b → a ≡ b

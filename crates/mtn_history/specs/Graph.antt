@@ -2,7 +2,7 @@
 use Rattle.std.proofs.Common.{◌∙◌, refl}
 use Rattle.std.specs.Prelude.{◌≡◌, ℕ, List, length, Option, IfSome}
 use Rattle.mtn_ancestry.specs.Ancestors.{ParentsAreEarlier}
-use Rattle.mtn_growth.specs.History.{parents_at}
+use Rattle.mtn_history_laws.specs.History.{parents_at}
 use Rattle.mtn_model.specs.Table.{Contents}
 use Rattle.mtn_model.specs.State.{State}
 use Rattle.mtn_ports.specs.Causes.{Rose}

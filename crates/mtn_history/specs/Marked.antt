@@ -2,8 +2,8 @@
 use Rattle.std.specs.Prelude.{◌≡◌, ◌<◌, ℕ, List, Option, Some, None, Result, Ok, Err, Contains, ⊤}
 use Rattle.mtn_base.specs.declared.id.Id.{Id}
 use Rattle.mtn_base.specs.declared.refusal.Cause.TheVariants.{UnknownRevision}
-use Rattle.mtn_growth.specs.History.{Revision}
-use Rattle.mtn_log.specs.Making.{place_of}
+use Rattle.mtn_history_laws.specs.History.{Revision}
+use Rattle.mtn_replay.specs.Making.{place_of}
 use Rattle.mtn_marking.specs.Graph.{IsMarkedAt}
 use Rattle.mtn_marking.specs.Marking.{MarkedTree}
 use Rattle.mtn_model.specs.State.{State}

@@ -4,10 +4,10 @@ use Rattle.std.specs.Option.{option_map_or}
 use Rattle.std.specs.FinMap.{get}
 use Rattle.mtn_ancestry.specs.Log.{list_of}
 use Rattle.mtn_ancestry.specs.declared.pos.ParentList.{ParentList}
-use Rattle.mtn_chains.specs.Chain.{Entries, deepest}
-use Rattle.mtn_chains.specs.Difference.{IsDifference}
-use Rattle.mtn_chains.specs.Numbering.{fresh, IsNumbering}
-use Rattle.mtn_growth.specs.History.{Revision}
+use Rattle.mtn_roster_deltas.specs.Chain.{Entries, deepest}
+use Rattle.mtn_roster_deltas.specs.Difference.{IsDifference}
+use Rattle.mtn_roster_deltas.specs.Numbering.{fresh, IsNumbering}
+use Rattle.mtn_history_laws.specs.History.{Revision}
 use Rattle.mtn_marking.specs.Graph.{IsMarkedAt}
 use Rattle.mtn_marking.specs.Marking.{Marks}
 use Rattle.mtn_model.specs.State.{Logged}

@@ -1,7 +1,7 @@
 -- Rosters: what is read of table 5, and what is damage.
 use Rattle.std.specs.Prelude.{◌≡◌, ◌<◌, ◌+◌, ◌⊎◌, length, ℕ, List, [], ◌∷◌, reverse, Option, Some, None}
-use Rattle.mtn_chains.specs.Chain.{Entries, rebuilt}
-use Rattle.mtn_chains.specs.Spelled.{Spells}
+use Rattle.mtn_roster_deltas.specs.Chain.{Entries, rebuilt}
+use Rattle.mtn_roster_deltas.specs.Spelled.{Spells}
 use Rattle.mtn_marking.specs.Marking.{MarkedTree}
 use Rattle.mtn_model.specs.Table.{Contents, body_at}
 use Rattle.mtn_records.specs.Bounds.{IsRosterAt}

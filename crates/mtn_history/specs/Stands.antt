@@ -4,8 +4,8 @@ use Rattle.mtn_history.specs.declared.errors.StoreError.{StoreError}
 use Rattle.mtn_history.specs.Errors.{IfDamage}
 use Rattle.mtn_model.specs.Table.{Contents, nothing, no_table}
 use Rattle.mtn_model.specs.State.{State, empty_state}
-use Rattle.mtn_log.specs.Lawful.{IsHistory, IsLawful}
-use Rattle.mtn_growth.specs.History.{Revision}
+use Rattle.mtn_replay.specs.Lawful.{IsHistory, IsLawful}
+use Rattle.mtn_history_laws.specs.History.{Revision}
 use Rattle.mtn_history.specs.Revisions.{Kept, AreKept, AreTexts, AreLogged, AreRosters}
 use Rattle.mtn_ports.specs.Kept.{with_all, IfTold}
 use Rattle.mtn_history.specs.Meta.{meta_of}

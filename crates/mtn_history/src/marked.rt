@@ -1,7 +1,7 @@
 // Rosters by the ids of their revisions, and the ids of what marks name.
 ghost use Rattle.std.specs.Prelude.{◌≡◌, ◌∷◌, [], List, ℕ, Err, IfOk, IfErr, IfSome};
 ghost use Rattle.std.specs.List.{AllZip};
-ghost use Rattle.mtn_growth.specs.History.{IsPlaceOf};
+ghost use Rattle.mtn_history_laws.specs.History.{IsPlaceOf};
 ghost use Rattle.mtn_model.specs.State.{State};
 ghost use Rattle.mtn_ports.specs.Causes.{Rose};
 ghost use Rattle.mtn_ports.specs.Kept.{Stays, with_all};

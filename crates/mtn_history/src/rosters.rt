@@ -9,7 +9,7 @@ ghost use Rattle.mtn_history.specs.Rosters.{IsRostered, IsChainOf, IsRosterHeld,
 use crate::damaged::{bad, missing};
 use crate::{Draft, ROSTERS, StoreError};
 use mtn_ancestry::Pos;
-use mtn_chains::{DEEPEST, rebuild};
+use mtn_roster_deltas::{DEEPEST, rebuild};
 use mtn_marking::MarkedRoster;
 use mtn_ports::Keeper;
 use mtn_records::{Numbered, RecordError, RosterRecord, read_roster};

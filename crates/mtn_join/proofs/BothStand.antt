@@ -14,8 +14,8 @@ use Rattle.mtn_roster.proofs.Tests.{told, both_true, same_id-is, same_id-self}
 use Rattle.mtn_roster.proofs.Forest.{same_some, name_of, split_of}
 use Rattle.mtn_roster.proofs.Ordered.{forest_of}
 use Rattle.mtn_roster.proofs.Leading.{get_within}
-use Rattle.mtn_edits.specs.Joining.{is_old}
-use Rattle.mtn_edits.specs.Laws.{CommonAreKnown}
+use Rattle.mtn_changeset_laws.specs.Joining.{is_old}
+use Rattle.mtn_changeset_laws.specs.Laws.{CommonAreKnown}
 use Rattle.mtn_join.specs.Join.{is_common_known}
 
 third : (a b c : Bool) → (a || b || c) ≡ true → a ≡ false → b ≡ false → c ≡ true

@@ -13,8 +13,8 @@ use Rattle.mtn_roster.proofs.Members.{head, taken}
 use Rattle.mtn_roster.proofs.Tests.{same_bytes-is, same_bytes-self}
 use Rattle.mtn_roster.proofs.Looking.{bytes_total, exact_bytes, find-placed}
 use Rattle.mtn_roster.proofs.Sorting.{one_sorted, ordered-rises, rises_placed, rising_differ}
-use Rattle.mtn_edits.specs.Changes.{or_else}
-use Rattle.mtn_edits.specs.Joining.{joined_attrs}
+use Rattle.mtn_changeset_laws.specs.Changes.{or_else}
+use Rattle.mtn_changeset_laws.specs.Joining.{joined_attrs}
 use Rattle.mtn_join.specs.Join.{both_attrs}
 
 -- lists by ascending keys that look up the same are one

@@ -21,9 +21,9 @@ use Rattle.mtn_roster.proofs.Paths.{exact_paths}
 use Rattle.mtn_roster.proofs.Pathing.{path_of-at}
 use Rattle.mtn_roster.proofs.Sorting.{no_split}
 use Rattle.mtn_roster.proofs.Leading.{get_within}
-use Rattle.mtn_edits.specs.Joining.{JoinWhy, join_why, fault_at, least, join_fault}
-use Rattle.mtn_edits.specs.Joining.JoinWhy.{Disagree}
-use Rattle.mtn_edits.proofs.Joins.{in_map, of_map}
+use Rattle.mtn_changeset_laws.specs.Joining.{JoinWhy, join_why, fault_at, least, join_fault}
+use Rattle.mtn_changeset_laws.specs.Joining.JoinWhy.{Disagree}
+use Rattle.mtn_changeset_laws.proofs.Joins.{in_map, of_map}
 use Rattle.mtn_join.specs.declared.pair.PairFault.{PairFault}
 use Rattle.mtn_join.specs.Join.{IsPairedAt, pair_why, IsAgreement, IsEnd, ArePaired, path_along, lesser_path, why_of}
 use Rattle.mtn_roster.proofs.Along.{held, leads, less, not_less, one_stop, reached}

@@ -26,9 +26,9 @@ use Rattle.mtn_roster.proofs.Sorting.{less_at, long_map, of_ordered, in_ordered,
 use Rattle.mtn_roster.proofs.Building.{differ_still}
 use Rattle.mtn_roster.proofs.Leading.{get_map, get_within}
 use Rattle.mtn_roster.proofs.Stops.{map-snoc}
-use Rattle.mtn_edits.specs.Joining.{join_fault, joined_name, joined_slot, joined_entry, counterpart, other_attrs, joined}
-use Rattle.mtn_edits.specs.Laws.{CommonAreKnown}
-use Rattle.mtn_edits.proofs.Joins.{in_map, of_map, one_name, joined_is_sane}
+use Rattle.mtn_changeset_laws.specs.Joining.{join_fault, joined_name, joined_slot, joined_entry, counterpart, other_attrs, joined}
+use Rattle.mtn_changeset_laws.specs.Laws.{CommonAreKnown}
+use Rattle.mtn_changeset_laws.proofs.Joins.{in_map, of_map, one_name, joined_is_sane}
 use Rattle.mtn_roster.specs.Attrs.{are_keyed}
 use Rattle.mtn_join.specs.Join.{both_attrs, IsPairedAt, IsMade, slot_along, paired_entry, unordered_entry}
 use Rattle.mtn_join.proofs.Keyed.{ordered_both, both_differ}

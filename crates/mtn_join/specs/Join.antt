@@ -13,8 +13,8 @@ use Rattle.mtn_roster.specs.declared.entry.Slot.{Slot}
 use Rattle.mtn_roster.specs.declared.entry.Slot.TheVariants.{Root, Below}
 use Rattle.mtn_roster.specs.Tree.{Tree, is_some_with, entry_of, attr_of, live_of, path_of}
 use Rattle.mtn_roster.specs.Walk.{by_path}
-use Rattle.mtn_edits.specs.Joining.{JoinWhy, is_old, join_why, joined_name, joined_entry, counterpart, other_attrs}
-use Rattle.mtn_edits.specs.Joining.JoinWhy.{Disagree, Revived}
+use Rattle.mtn_changeset_laws.specs.Joining.{JoinWhy, is_old, join_why, joined_name, joined_entry, counterpart, other_attrs}
+use Rattle.mtn_changeset_laws.specs.Joining.JoinWhy.{Disagree, Revived}
 use Rattle.mtn_join.specs.declared.pair.PairFault.{PairFault}
 use Rattle.mtn_join.specs.declared.pair.PairFault.TheVariants as pair
 use Rattle.mtn_join.specs.declared.two_edges.JoinError.{JoinError}

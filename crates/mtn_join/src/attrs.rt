@@ -1,6 +1,6 @@
 // The attributes of two nodes, by ascending keys.
 ghost use Rattle.std.specs.Prelude.{◌≡◌, IsTrue, IfOk};
-ghost use Rattle.mtn_edits.specs.Joining.{has_live as has_all_live, same_live as have_same_live};
+ghost use Rattle.mtn_changeset_laws.specs.Joining.{has_live as has_all_live, same_live as have_same_live};
 ghost use Rattle.mtn_roster.specs.Attrs.{are_keyed};
 ghost use Rattle.mtn_join.specs.Join.{is_live_in, both_attrs};
 

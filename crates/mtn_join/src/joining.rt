@@ -1,7 +1,7 @@
 // The entries of a joined tree, in the order of their paths.
 ghost use Rattle.std.specs.Prelude.{◌≡◌, IfOk, map};
 ghost use Rattle.mtn_roster.specs.Walk.{by_path, AreStops};
-ghost use Rattle.mtn_edits.specs.Joining.{joined_name};
+ghost use Rattle.mtn_changeset_laws.specs.Joining.{joined_name};
 ghost use Rattle.mtn_roster.specs.Attrs.{are_keyed};
 ghost use Rattle.mtn_join.specs.Join.{ArePaired, IsMade, slot_along, paired_entry, unordered_entry};
 ghost use Rattle.std.specs.Prelude.{Some, IsTrue};

@@ -1,6 +1,6 @@
 // Two nodes at one path, one of each side.
 ghost use Rattle.std.specs.Prelude.{◌≡◌, IsTrue, Some, option_map};
-ghost use Rattle.mtn_edits.specs.Joining.{is_old as is_old_in, same_body as have_same_body, disagree as nodes_disagree, is_revived as is_node_revived, join_why};
+ghost use Rattle.mtn_changeset_laws.specs.Joining.{is_old as is_old_in, same_body as have_same_body, disagree as nodes_disagree, is_revived as is_node_revived, join_why};
 ghost use Rattle.mtn_roster.specs.Attrs.{are_keyed};
 ghost use Rattle.mtn_join.specs.Join.{is_outside, why_of};
 

@@ -1,9 +1,9 @@
 // The joining of two trees.
 ghost use Rattle.std.specs.Prelude.{◌≡◌, Some, None, IfOk, IfErr, OnOk};
 ghost use Rattle.std.specs.Option.{option_map_or};
-ghost use Rattle.mtn_edits.specs.Joining.{join_fault, joined};
-ghost use Rattle.mtn_edits.specs.Joining.JoinWhy.{Disagree};
-ghost use Rattle.mtn_edits.specs.Laws.{CommonAreKnown};
+ghost use Rattle.mtn_changeset_laws.specs.Joining.{join_fault, joined};
+ghost use Rattle.mtn_changeset_laws.specs.Joining.JoinWhy.{Disagree};
+ghost use Rattle.mtn_changeset_laws.specs.Laws.{CommonAreKnown};
 ghost use Rattle.mtn_join.specs.Join.{is_outside, why_of, IsFaultOf};
 
 use crate::agreement::{Agreement, compare_walks, lesser_path_at};

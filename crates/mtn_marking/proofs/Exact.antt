@@ -3,9 +3,9 @@ use Rattle.std.specs.Prelude.{◌↔◌, IsSome, is_some, not, map, find, option
 use Rattle.std.proofs.Common.{◌≡◌, Bool, true, false, cond, List, [], ◌∷◌, Option, Some, refl, sym, ◌∙◌, ap, ℕ}
 use Rattle.mtn_base.specs.Names.{same_bytes}
 use Rattle.mtn_base.specs.declared.name.NodeName.{NodeName}
-use Rattle.mtn_growth.specs.Scalars.{Scalar, node_of, content_of, value_of, value_in}
-use Rattle.mtn_growth.specs.Scalars.Scalar.{SlotOf, ContentOf, AttrOf}
-use Rattle.mtn_growth.specs.Scalars.Value.{ContentValue, AttrValue}
+use Rattle.mtn_history_laws.specs.Scalars.{Scalar, node_of, content_of, value_of, value_in}
+use Rattle.mtn_history_laws.specs.Scalars.Scalar.{SlotOf, ContentOf, AttrOf}
+use Rattle.mtn_history_laws.specs.Scalars.Value.{ContentValue, AttrValue}
 use Rattle.mtn_roster.specs.declared.entry.Attr.{Attr}
 use Rattle.mtn_roster.specs.declared.entry.Body.{Body}
 use Rattle.mtn_roster.specs.declared.entry.Body.TheVariants.{Dir, File}

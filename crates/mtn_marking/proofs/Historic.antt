@@ -4,14 +4,14 @@ use Rattle.std.specs.List.{AllZip}
 use Rattle.std.proofs.Common.{◌≡◌, ℕ, List, [], ◌∷◌, ◌++◌, length, Option, Some, None, ◌⊎◌, inl, inr, ⊎_elim, refl, sym, ◌∙◌, ap, subst}
 use Rattle.mtn_base.specs.declared.name.NodeName.{NodeName}
 use Rattle.mtn_ancestry.proofs.Members.{Contains-nil, Contains-cases}
-use Rattle.mtn_growth.specs.History.{Revision, revision_tree, parents_at, tree_at, entry_at, IsPlaceOf, IsGrown}
-use Rattle.mtn_growth.specs.Scalars.{Scalar, Value, node_of, value_of, value_in, value_at, IsMark}
-use Rattle.mtn_growth.specs.Scalars.Scalar.{SlotOf}
-use Rattle.mtn_growth.specs.Scalars.Value.{SlotValue}
-use Rattle.mtn_growth.proofs.Born.{born_here, birth_kept}
-use Rattle.mtn_growth.proofs.Scalars.{root_marked, one_sided, two_sided}
-use Rattle.mtn_marks.specs.Rule.{IsMarkByRule, IsSideAt, AreUncommon}
-use Rattle.mtn_marks.proofs.Stable.{get_last}
+use Rattle.mtn_history_laws.specs.History.{Revision, revision_tree, parents_at, tree_at, entry_at, IsPlaceOf, IsGrown}
+use Rattle.mtn_history_laws.specs.Scalars.{Scalar, Value, node_of, value_of, value_in, value_at, IsMark}
+use Rattle.mtn_history_laws.specs.Scalars.Scalar.{SlotOf}
+use Rattle.mtn_history_laws.specs.Scalars.Value.{SlotValue}
+use Rattle.mtn_history_laws.proofs.Born.{born_here, birth_kept}
+use Rattle.mtn_history_laws.proofs.Scalars.{root_marked, one_sided, two_sided}
+use Rattle.mtn_mark_laws.specs.Rule.{IsMarkByRule, IsSideAt, AreUncommon}
+use Rattle.mtn_mark_laws.proofs.Stable.{get_last}
 use Rattle.mtn_roster.specs.declared.entry.Entry.{Entry}
 use Rattle.mtn_roster.specs.Tree.{Tree, entry_of}
 use Rattle.mtn_marking.specs.declared.node.Marking.{Marking}

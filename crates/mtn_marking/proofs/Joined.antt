@@ -6,7 +6,7 @@ use Rattle.std.proofs.lemmas.List.{get_or_default}
 use Rattle.std.proofs.lemmas.List.Elements.{Contains-append_left, Contains-append_right, Contains-append_cases}
 use Rattle.std.proofs.lemmas.List.Kept.{Contains-dedup_nat, Contains-from_dedup}
 use Rattle.std.proofs.lemmas.List.Sorted.{Contains-permutation, IsPermutation-sym}
-use Rattle.mtn_marks.specs.Rule.{AllKnown}
+use Rattle.mtn_mark_laws.specs.Rule.{AllKnown}
 
 pub unknown_at : (marks lacked : List ℕ) (i : ℕ) → i < length marks → Contains lacked (get_or marks i 0) → AllKnown marks lacked → ⊥
 unknown_at marks lacked i h c all = all (get_or marks i 0) (i, h, get_or_default marks i (get_or marks i 0) 0 h) c

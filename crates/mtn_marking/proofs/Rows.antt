@@ -2,7 +2,7 @@
 use Rattle.std.specs.Prelude.{Contains}
 use Rattle.std.proofs.Common.{◌≡◌, ◌↔◌, ◌⊎◌, ℕ, List, [], ◌∷◌, Bool, true, false, sym, ◌∙◌, subst, inl, inr, ⊎_elim}
 use Rattle.mtn_ancestry.proofs.Members.{Contains-nil, Contains-head, Contains-cases}
-use Rattle.mtn_marks.specs.Rule.{AllKnown, IsMarkByTests}
+use Rattle.mtn_mark_laws.specs.Rule.{AllKnown, IsMarkByTests}
 
 abbrev pub AreMarksByTests : ℕ → Bool → Bool → List ℕ → List ℕ → List ℕ → List ℕ → List ℕ → Type 0
 AreMarksByTests at a b l r ol or m = (x : ℕ) → Contains m x ↔ IsMarkByTests at a b l r ol or x

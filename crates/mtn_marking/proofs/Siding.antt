@@ -1,10 +1,10 @@
 -- A list holds what the rule says, case by case on what was told of the sides.
 use Rattle.std.specs.Prelude.{Contains, IsTrue, if◌then◌else◌}
 use Rattle.std.proofs.Common.{◌≡◌, ◌≢◌, ◌↔◌, ◌⊎◌, ℕ, List, [], ◌∷◌, Bool, true, false, Option, Some, None, refl, sym, ◌∙◌, subst, inl, inr, ⊎_elim}
-use Rattle.mtn_growth.specs.Scalars.{Value}
-use Rattle.mtn_marks.specs.Rule.{Side, IsMarkByRule}
-use Rattle.mtn_marks.specs.Rule.IsMarkByRule.{neither, left_equal, left_unlike, right_equal, right_unlike}
-use Rattle.mtn_marks.proofs.Tests.{tests_to_rule, rule_to_tests}
+use Rattle.mtn_history_laws.specs.Scalars.{Value}
+use Rattle.mtn_mark_laws.specs.Rule.{Side, IsMarkByRule}
+use Rattle.mtn_mark_laws.specs.Rule.IsMarkByRule.{neither, left_equal, left_unlike, right_equal, right_unlike}
+use Rattle.mtn_mark_laws.proofs.Tests.{tests_to_rule, rule_to_tests}
 use Rattle.mtn_marking.specs.declared.side.Have.{Have}
 use Rattle.mtn_marking.specs.Parts.{AreMarksBy}
 use Rattle.mtn_marking.proofs.Rows.{AreMarksByTests, only_at}

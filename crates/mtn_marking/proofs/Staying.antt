@@ -1,10 +1,10 @@
 -- Marks stay as the history grows.
 use Rattle.std.specs.Prelude.{IsSome}
 use Rattle.std.proofs.Common.{◌≡◌, ℕ, ◌<◌, List, [], ◌∷◌, ◌++◌, length, Option, Some, None, refl, sym, ◌∙◌, ap, subst}
-use Rattle.mtn_growth.specs.History.{Revision, revision_parents, revision_tree, parents_at, IsGrown}
-use Rattle.mtn_growth.specs.Scalars.{Scalar, Value, value_in, value_at}
-use Rattle.mtn_growth.proofs.Born.{birth_kept}
-use Rattle.mtn_marks.proofs.Stable.{Agree, turned, IsMarkOf-kept, get_kept, early_by}
+use Rattle.mtn_history_laws.specs.History.{Revision, revision_parents, revision_tree, parents_at, IsGrown}
+use Rattle.mtn_history_laws.specs.Scalars.{Scalar, Value, value_in, value_at}
+use Rattle.mtn_history_laws.proofs.Born.{birth_kept}
+use Rattle.mtn_mark_laws.proofs.Stable.{Agree, turned, IsMarkOf-kept, get_kept, early_by}
 use Rattle.mtn_marking.specs.Marking.{MarkedTree, marks_in}
 use Rattle.mtn_marking.specs.Graph.{AreMarksOf, IsMarkedAt}
 use Rattle.mtn_marking.proofs.Zips.{got_at}

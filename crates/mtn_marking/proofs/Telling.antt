@@ -3,7 +3,7 @@ use Rattle.std.specs.Prelude.{◌&&◌, IsTrue, map, find, option_map, slice_get
 use Rattle.std.proofs.Common.{◌≡◌, ◌↔◌, ℕ, zero, suc, Bool, true, List, [], ◌∷◌, Option, Some, sym, ◌∙◌, ap, subst}
 use Rattle.mtn_base.specs.Names.{same_bytes, same_name, bytes_cmp}
 use Rattle.mtn_base.specs.declared.name.NodeName.{NodeName}
-use Rattle.mtn_growth.specs.Scalars.Value.{AttrValue}
+use Rattle.mtn_history_laws.specs.Scalars.Value.{AttrValue}
 use Rattle.mtn_roster.specs.declared.entry.Attr.{Attr}
 use Rattle.mtn_roster.specs.declared.entry.Slot.{Slot}
 use Rattle.mtn_roster.specs.declared.entry.Slot.TheVariants.{Below}

@@ -5,10 +5,10 @@ use Rattle.std.proofs.Common.{◌≡◌, ℕ, zero, suc, ◌+◌, ◌<◌, ◌�
 use Rattle.std.proofs.lemmas.List.{take_more}
 use Rattle.mtn_base.specs.Names.{same_name, same_bytes}
 use Rattle.mtn_base.specs.declared.name.NodeName.{NodeName}
-use Rattle.mtn_growth.specs.Scalars.{Scalar, Value, node_of, content_of, value_of}
-use Rattle.mtn_growth.specs.Scalars.Scalar.{SlotOf, ContentOf, AttrOf}
-use Rattle.mtn_growth.specs.Scalars.Value.{SlotValue, ContentValue, AttrValue}
-use Rattle.mtn_marks.specs.Rule.{IsMarkByRule}
+use Rattle.mtn_history_laws.specs.Scalars.{Scalar, Value, node_of, content_of, value_of}
+use Rattle.mtn_history_laws.specs.Scalars.Scalar.{SlotOf, ContentOf, AttrOf}
+use Rattle.mtn_history_laws.specs.Scalars.Value.{SlotValue, ContentValue, AttrValue}
+use Rattle.mtn_mark_laws.specs.Rule.{IsMarkByRule}
 use Rattle.std.specs.Prelude.{◌↔◌, Contains, not, is_some}
 use Rattle.mtn_roster.specs.declared.entry.Attr.{Attr}
 use Rattle.mtn_roster.specs.declared.entry.Body.{Body}

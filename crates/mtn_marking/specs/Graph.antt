@@ -1,8 +1,8 @@
 -- Marks that are those of a whole history.
 use Rattle.std.specs.Prelude.{◌≡◌, ◌↔◌, ℕ, List, ◌++◌, ◌∷◌, [], length, Option, Some, None, Contains, IsSome}
 use Rattle.mtn_base.specs.declared.name.NodeName.{NodeName}
-use Rattle.mtn_growth.specs.History.{Revision, tree_at, IsPlaceOf, IsGrown}
-use Rattle.mtn_growth.specs.Scalars.{Scalar, value_at, IsMark}
+use Rattle.mtn_history_laws.specs.History.{Revision, tree_at, IsPlaceOf, IsGrown}
+use Rattle.mtn_history_laws.specs.Scalars.{Scalar, value_at, IsMark}
 use Rattle.mtn_marking.specs.declared.node.Marking.{Marking}
 use Rattle.mtn_roster.specs.Tree.{Tree}
 use Rattle.mtn_marking.specs.Marking.{MarkedTree, marks_in, marking_of}

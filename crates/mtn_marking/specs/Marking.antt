@@ -4,9 +4,9 @@ use Rattle.std.specs.List.{AllZip}
 use Rattle.std.specs.Option.{option_map_or}
 use Rattle.mtn_base.specs.Names.{same_bytes, same_name}
 use Rattle.mtn_base.specs.declared.name.NodeName.{NodeName}
-use Rattle.mtn_growth.specs.Scalars.{Scalar, Value, node_of, value_of, value_in}
-use Rattle.mtn_growth.specs.Scalars.Scalar.{SlotOf, ContentOf, AttrOf}
-use Rattle.mtn_marks.specs.Rule.{Side, IsMarkByRule}
+use Rattle.mtn_history_laws.specs.Scalars.{Scalar, Value, node_of, value_of, value_in}
+use Rattle.mtn_history_laws.specs.Scalars.Scalar.{SlotOf, ContentOf, AttrOf}
+use Rattle.mtn_mark_laws.specs.Rule.{Side, IsMarkByRule}
 use Rattle.mtn_roster.specs.declared.entry.Attr.{Attr}
 use Rattle.mtn_roster.specs.declared.entry.Entry.{Entry}
 use Rattle.mtn_roster.specs.Tree.{Tree, entry_of, is_dir}

@@ -2,10 +2,10 @@
 use Rattle.std.specs.Prelude.{◌≡◌, ◌↔◌, ℕ, List, [], ◌∷◌, Option, Some, None, Contains, IsTrue, map, option_map, slice_get}
 use Rattle.mtn_base.specs.Names.{bytes_cmp}
 use Rattle.mtn_base.specs.declared.name.NodeName.{NodeName}
-use Rattle.mtn_growth.specs.Scalars.{Scalar, Value, node_of, value_of}
-use Rattle.mtn_growth.specs.Scalars.Scalar.{ContentOf, AttrOf}
-use Rattle.mtn_growth.specs.Scalars.Value.{ContentValue, AttrValue}
-use Rattle.mtn_marks.specs.Rule.{Side, IsMarkByRule}
+use Rattle.mtn_history_laws.specs.Scalars.{Scalar, Value, node_of, value_of}
+use Rattle.mtn_history_laws.specs.Scalars.Scalar.{ContentOf, AttrOf}
+use Rattle.mtn_history_laws.specs.Scalars.Value.{ContentValue, AttrValue}
+use Rattle.mtn_mark_laws.specs.Rule.{Side, IsMarkByRule}
 use Rattle.mtn_roster.specs.declared.entry.Attr.{Attr}
 use Rattle.mtn_roster.specs.declared.entry.Body.{Body}
 use Rattle.mtn_roster.specs.declared.entry.Body.TheVariants.{Dir, File}

@@ -1,8 +1,8 @@
 //! Laws of marked trees, over the definitions alone.
 ghost use Rattle.std.specs.Prelude.{◌↔◌, ◌<◌, ◌++◌, ◌∷◌, [], ℕ, List, length, Option, IsSome};
 ghost use Rattle.mtn_base.specs.declared.name.NodeName.{NodeName};
-ghost use Rattle.mtn_growth.specs.History.{Revision, IsGrown};
-ghost use Rattle.mtn_growth.specs.Scalars.{Scalar, value_in};
+ghost use Rattle.mtn_history_laws.specs.History.{Revision, IsGrown};
+ghost use Rattle.mtn_history_laws.specs.Scalars.{Scalar, value_in};
 ghost use Rattle.mtn_roster.specs.Tree.{Tree, entry_of};
 ghost use Rattle.mtn_marking.specs.Graph.{AreMarksOf, IsMarkedAt};
 ghost use Rattle.mtn_marking.specs.Marking.{Marks, MarkedTree, AreFor, marking_of, marks_in};

@@ -1,8 +1,8 @@
 // The marks of a new revision's tree.
 ghost use Rattle.std.specs.Prelude.{ℕ, List, [], ◌∷◌, ◌++◌, IfOk};
 ghost use Rattle.std.specs.List.{AllZip};
-ghost use Rattle.mtn_growth.specs.History.{Revision, parents_at};
-ghost use Rattle.mtn_marks.specs.Rule.{AreUncommon};
+ghost use Rattle.mtn_history_laws.specs.History.{Revision, parents_at};
+ghost use Rattle.mtn_mark_laws.specs.Rule.{AreUncommon};
 ghost use Rattle.mtn_marking.specs.Marking.{AreFor, AreAllByRule, HaveBirths, on_none, on_one, on_two};
 ghost use Rattle.mtn_marking.specs.Graph.{Extends, IsMarkedAt};
 ghost use Rattle.mtn_marking.specs.Parts.{HasHere, IsMarkedNode, basis_of};

@@ -1,7 +1,7 @@
 // Sets of marks.
 ghost use Rattle.std.specs.Prelude.{◌≡◌, ◌↔◌, ◌⊎◌, ℕ, [], ◌∷◌, IsTrue, IfOk, Contains};
 ghost use Rattle.std.specs.List.Sorted.{IsStrictlyIncreasing};
-ghost use Rattle.mtn_marks.specs.Rule.{AllKnown};
+ghost use Rattle.mtn_mark_laws.specs.Rule.{AllKnown};
 
 use mtn_ancestry::{Pos, PosSet};
 use mtn_base::NoMemory;

@@ -1,6 +1,6 @@
 // The marks of one scalar.
 ghost use Rattle.std.specs.Prelude.{◌≡◌, ◌⊎◌, ℕ, ◌↔◌, IfOk, Contains, if◌then◌else◌};
-ghost use Rattle.mtn_marks.specs.Rule.{AllKnown, IsMarkByTests};
+ghost use Rattle.mtn_mark_laws.specs.Rule.{AllKnown, IsMarkByTests};
 ghost use Rattle.mtn_marking.specs.Parts.{AreMarksBy, HasHere};
 
 use crate::against::Against;

@@ -11,8 +11,8 @@ use Rattle.std.proofs.lemmas.List.Sorted.{Contains-permutation, IsPermutation-sy
 use Rattle.std.proofs.lemmas.Map.Keys.{IsStrictlyIncreasing-dedup}
 use Rattle.mtn_base.specs.Names.{bytes_cmp, name_cmp, same_bytes, same_name}
 use Rattle.mtn_base.specs.declared.name.NodeName.{NodeName}
-use Rattle.mtn_growth.specs.Scalars.{Scalar, node_of}
-use Rattle.mtn_growth.specs.Scalars.Scalar.{SlotOf, ContentOf, AttrOf}
+use Rattle.mtn_history_laws.specs.Scalars.{Scalar, node_of}
+use Rattle.mtn_history_laws.specs.Scalars.Scalar.{SlotOf, ContentOf, AttrOf}
 use Rattle.mtn_ids.proofs.Sorting.{contains_split, split_contains}
 use Rattle.mtn_marking.specs.Marking.{Marks, AreFor, IsFor, attr_marks_of, marking_of, marks_of}
 use Rattle.mtn_marking.specs.declared.node.AttrMarks.{AttrMarks}

@@ -5,7 +5,7 @@ use Rattle.std.proofs.Common.{◌≡◌, ◌||◌, ℕ, ◌≤◌, Bool, true, f
 use Rattle.mtn_base.specs.declared.id.Id.{Id}
 use Rattle.mtn_base.specs.declared.name.NodeName.{NodeName}
 use Rattle.mtn_basic_io.specs.Spelling.{longest}
-use Rattle.mtn_growth.specs.Scalars.{Scalar}
+use Rattle.mtn_history_laws.specs.Scalars.{Scalar}
 use Rattle.mtn_manifest.specs.Manifest.{body_lines}
 use Rattle.mtn_roster.specs.declared.entry.Attr.{Attr}
 use Rattle.mtn_roster.specs.declared.entry.Body.{Body}

@@ -1,7 +1,7 @@
 -- The positions that marks name.
 use Rattle.std.specs.Prelude.{◌≡◌, ℕ, List, [], ◌++◌, Some, Contains, unwrap_or}
 use Rattle.std.specs.List.{flat_map}
-use Rattle.mtn_growth.specs.Scalars.{Scalar}
+use Rattle.mtn_history_laws.specs.Scalars.{Scalar}
 use Rattle.mtn_marking.specs.Marking.{Marks, marks_in}
 use Rattle.mtn_marking.specs.declared.node.AttrMarks.{AttrMarks}
 use Rattle.mtn_marking.specs.declared.node.Marking.{Marking}

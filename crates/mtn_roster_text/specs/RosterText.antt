@@ -8,8 +8,8 @@ use Rattle.mtn_base.specs.declared.name.NodeName.{NodeName}
 use Rattle.mtn_basic_io.specs.Spelling.{LineText}
 use Rattle.mtn_basic_io.specs.declared.stanza.Value.{Value}
 use Rattle.mtn_basic_io.specs.declared.stanza.Value.TheVariants.{Text, Hex}
-use Rattle.mtn_growth.specs.Scalars.{Scalar}
-use Rattle.mtn_growth.specs.Scalars.Scalar.{SlotOf, ContentOf, AttrOf}
+use Rattle.mtn_history_laws.specs.Scalars.{Scalar}
+use Rattle.mtn_history_laws.specs.Scalars.Scalar.{SlotOf, ContentOf, AttrOf}
 use Rattle.mtn_manifest.specs.Manifest.{line_of, body_lines, head_stanza}
 use Rattle.mtn_roster.specs.declared.entry.Attr.{Attr}
 use Rattle.mtn_roster.specs.declared.entry.Body.{Body}

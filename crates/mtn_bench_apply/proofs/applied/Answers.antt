@@ -1,6 +1,6 @@
 -- What was read is lawful, so no path is renamed twice.
 use Rattle.mtn_changes.proofs.Unsorted.{unsorted}
-use Rattle.mtn_edits.proofs.Renaming.{renames_differ}
+use Rattle.mtn_changeset_laws.proofs.Renaming.{renames_differ}
 use Rattle.mtn_bench_apply.proofs.applied.Goals as goal
 
 pub apply-requires-clause-renames : goal.apply-requires-clause-renames

@@ -4,7 +4,7 @@ use Rattle.std.proofs.Common.{◌≡◌, ℕ, List, Option, None, Some, ap, ◌�
 use Rattle.mtn_changes.specs.declared.change.Change.{Change}
 use Rattle.mtn_roster.specs.declared.entry.Entry.{Entry}
 use Rattle.mtn_roster.specs.Tree.{Tree}
-use Rattle.mtn_edits.specs.Changes.{moves}
+use Rattle.mtn_changeset_laws.specs.Changes.{moves}
 use Rattle.mtn_apply.specs.declared.index.Edge.{Edge}
 use Rattle.mtn_apply.specs.declared.old.Node.{Node}
 use Rattle.mtn_apply.specs.Maps.{of_place}

@@ -2,7 +2,7 @@
 use Rattle.std.specs.Prelude.{option_and_then, slice_get}
 use Rattle.std.proofs.Common.{◌≡◌, Some, sym, ap, ◌∙◌}
 use Rattle.std.proofs.lemmas.Option.{slice_get-get_or}
-use Rattle.mtn_edits.specs.Changes.{added_by}
+use Rattle.mtn_changeset_laws.specs.Changes.{added_by}
 use Rattle.mtn_apply.specs.Index.{old_of, changes_of}
 use Rattle.mtn_apply.proofs.Gathered.{one_more}
 use Rattle.mtn_apply.proofs.after.push_added.Goals as goal

@@ -1,6 +1,6 @@
 use Rattle.std.specs.Prelude.{filter_map}
 use Rattle.std.proofs.Common.{◌≡◌, ◌++◌, take}
-use Rattle.mtn_edits.specs.Changes.{added_by}
+use Rattle.mtn_changeset_laws.specs.Changes.{added_by}
 use Rattle.mtn_apply.specs.Index.{old_of, changes_of}
 use Rattle.mtn_apply.proofs.after.push_added.Given as goal
 

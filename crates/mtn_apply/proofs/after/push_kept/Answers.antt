@@ -1,5 +1,5 @@
 -- What the new tree has of one old node more.
-use Rattle.mtn_edits.specs.Changes.{old_after}
+use Rattle.mtn_changeset_laws.specs.Changes.{old_after}
 use Rattle.mtn_apply.specs.Index.{old_of, changes_of}
 use Rattle.mtn_apply.proofs.Gathered.{one_more}
 use Rattle.mtn_apply.proofs.after.push_kept.Goals as goal

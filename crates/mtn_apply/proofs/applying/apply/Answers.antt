@@ -1,6 +1,6 @@
 -- The edge has the changes that were handed in.
 use Rattle.std.proofs.Common.{sym, ◌∙◌, subst}
-use Rattle.mtn_edits.specs.Laws.{RenamesDiffer}
+use Rattle.mtn_changeset_laws.specs.Laws.{RenamesDiffer}
 use Rattle.mtn_apply.proofs.applying.apply.Goals as goal
 
 pub applied-requires-clause-renames : goal.applied-requires-clause-renames

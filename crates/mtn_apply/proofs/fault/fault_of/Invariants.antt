@@ -1,5 +1,5 @@
 use Rattle.std.proofs.Common.{◌≡◌, take, drop}
-use Rattle.mtn_edits.specs.Changes.{first_fault, fault_from}
+use Rattle.mtn_changeset_laws.specs.Changes.{first_fault, fault_from}
 use Rattle.mtn_apply.specs.Index.{old_of, changes_of}
 use Rattle.mtn_apply.proofs.fault.fault_of.Given as goal
 

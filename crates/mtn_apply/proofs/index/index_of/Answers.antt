@@ -3,7 +3,7 @@ use Rattle.std.proofs.Common.{◌≡◌, ◌-◌, ◌+◌, ℕ, List, Some, slic
 use Rattle.std.proofs.lemmas.Option.{slice_get-get_or}
 use Rattle.mtn_roster.specs.Tree.{Tree}
 use Rattle.mtn_changes.specs.declared.change.Change.{Change}
-use Rattle.mtn_edits.specs.Laws.{IsOldTree}
+use Rattle.mtn_changeset_laws.specs.Laws.{IsOldTree}
 use Rattle.mtn_apply.specs.declared.index.Index.{Index}
 use Rattle.mtn_apply.specs.Old.{tree_in}
 use Rattle.mtn_apply.specs.Index.{IsIndex, IsIndexFrom}

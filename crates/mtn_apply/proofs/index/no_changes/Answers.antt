@@ -3,7 +3,7 @@ use Rattle.std.specs.Map.{lookup}
 use Rattle.std.specs.BTreeMap.{is_at}
 use Rattle.std.proofs.Common.{sym, ◌∙◌, ap, arith}
 use Rattle.mtn_base.specs.Names.{path_cmp}
-use Rattle.mtn_edits.specs.Changes.{aims_at, deletes, moves}
+use Rattle.mtn_changeset_laws.specs.Changes.{aims_at, deletes, moves}
 use Rattle.mtn_apply.proofs.Positions.{none_left}
 use Rattle.mtn_apply.proofs.index.no_changes.Goals as goal
 

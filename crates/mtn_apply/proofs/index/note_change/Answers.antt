@@ -1,6 +1,6 @@
 -- One change before those that are noted.
 use Rattle.std.proofs.Common.{sym, ap, ◌∙◌, cond, Some, Bool, arith}
-use Rattle.mtn_edits.specs.Changes.{aims_at, deletes, moves}
+use Rattle.mtn_changeset_laws.specs.Changes.{aims_at, deletes, moves}
 use Rattle.mtn_apply.specs.Maps.{of_path, of_place}
 use Rattle.mtn_apply.specs.Old.{tree_in}
 use Rattle.mtn_apply.proofs.Links.{get_in}

@@ -3,7 +3,7 @@ use Rattle.std.proofs.Common.{sym, ap, ◌∙◌, ◌<◌, cond, Some, option_co
 use Rattle.mtn_roster.specs.declared.entry.Entry.{Entry}
 use Rattle.mtn_roster.specs.Tree.{is_some_with}
 use Rattle.mtn_base.specs.Names.{same_name}
-use Rattle.mtn_edits.specs.Changes.{stands_at}
+use Rattle.mtn_changeset_laws.specs.Changes.{stands_at}
 use Rattle.mtn_apply.specs.Maps.{of_place}
 use Rattle.mtn_apply.specs.Old.{tree_in, entry_in}
 use Rattle.mtn_apply.proofs.Links.{get_in}

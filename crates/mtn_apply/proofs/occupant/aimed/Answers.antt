@@ -2,7 +2,7 @@
 use Rattle.std.specs.Prelude.{slice_get, option_and_then, find}
 use Rattle.std.proofs.Common.{◌≡◌, ℕ, List, Option, None, Some, ap, ◌∙◌}
 use Rattle.mtn_changes.specs.declared.change.Change.{Change}
-use Rattle.mtn_edits.specs.Changes.{aims_at}
+use Rattle.mtn_changeset_laws.specs.Changes.{aims_at}
 use Rattle.mtn_apply.specs.Index.{changes_of, first_at}
 use Rattle.mtn_apply.proofs.Positions.{found_at}
 use Rattle.mtn_apply.proofs.occupant.aimed.Goals as goal

@@ -1,7 +1,7 @@
 -- A place that is noted is that of a moved node.
 use Rattle.std.specs.Prelude.{is_some}
 use Rattle.std.proofs.Common.{ℕ, List, Option, ap, ◌∙◌}
-use Rattle.mtn_edits.specs.Changes.{moves}
+use Rattle.mtn_changeset_laws.specs.Changes.{moves}
 use Rattle.mtn_apply.specs.Maps.{of_place}
 use Rattle.mtn_apply.specs.Old.{entry_in}
 use Rattle.mtn_apply.specs.Index.{old_of, changes_of}

@@ -1,5 +1,5 @@
 use Rattle.std.proofs.Common.{◌≡◌, take, option_map}
-use Rattle.mtn_edits.specs.Changes.{occupant}
+use Rattle.mtn_changeset_laws.specs.Changes.{occupant}
 use Rattle.mtn_apply.specs.Old.{seen, IsPlaced}
 use Rattle.mtn_apply.specs.Index.{old_of, changes_of}
 use Rattle.mtn_apply.proofs.occupant.occupant_of.Given as goal

@@ -4,7 +4,7 @@ use Rattle.std.specs.List.{list_any}
 use Rattle.std.proofs.Common.{◌≡◌, ℕ, List, Option, None, Some, take, ap, sym, ◌∙◌}
 use Rattle.mtn_changes.specs.declared.change.Change.{Change}
 use Rattle.mtn_roster.specs.Tree.{is_some_with}
-use Rattle.mtn_edits.specs.Changes.{aims_at}
+use Rattle.mtn_changeset_laws.specs.Changes.{aims_at}
 use Rattle.mtn_apply.specs.Index.{changes_of, first_at}
 use Rattle.mtn_apply.proofs.Positions.{before_is}
 use Rattle.mtn_apply.proofs.target.is_aimed_before.Goals as goal

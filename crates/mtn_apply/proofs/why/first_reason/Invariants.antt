@@ -1,5 +1,5 @@
 use Rattle.std.proofs.Common.{◌≡◌, drop}
-use Rattle.mtn_edits.specs.Changes.{first_reason as first_of}
+use Rattle.mtn_changeset_laws.specs.Changes.{first_reason as first_of}
 use Rattle.mtn_apply.proofs.why.first_reason.Given as goal
 
 abbrev pub invariant-loop-reason : goal.invariant-loop-reason

@@ -1,7 +1,7 @@
 -- Each row is that of its kind of change.
 use Rattle.std.proofs.Common.{take, ap, sym, ◌∙◌}
 use Rattle.std.proofs.lemmas.Result.{IfOk-weaker}
-use Rattle.mtn_edits.specs.Changes.{why}
+use Rattle.mtn_changeset_laws.specs.Changes.{why}
 use Rattle.mtn_apply.specs.Index.{old_of, changes_of}
 use Rattle.mtn_apply.proofs.why.why_of.Goals as goal
 

@@ -1,8 +1,8 @@
 -- The parts of a node are marked by what the parents have of it.
 use Rattle.std.proofs.Common.{List, sym, subst}
 use Rattle.std.specs.List.{AllZip}
-use Rattle.mtn_growth.specs.Scalars.Scalar.{SlotOf}
-use Rattle.mtn_growth.specs.Scalars.Value.{SlotValue}
+use Rattle.mtn_history_laws.specs.Scalars.Scalar.{SlotOf}
+use Rattle.mtn_history_laws.specs.Scalars.Value.{SlotValue}
 use Rattle.mtn_roster.specs.declared.entry.Attr.{Attr}
 use Rattle.mtn_marking.specs.declared.node.AttrMarks.{AttrMarks}
 use Rattle.mtn_marking.specs.Marking.{side_of}

@@ -1,6 +1,6 @@
 use Rattle.std.proofs.Common.{sym, subst}
-use Rattle.mtn_growth.specs.Scalars.Scalar.{AttrOf}
-use Rattle.mtn_growth.specs.Scalars.Value.{AttrValue}
+use Rattle.mtn_history_laws.specs.Scalars.Scalar.{AttrOf}
+use Rattle.mtn_history_laws.specs.Scalars.Value.{AttrValue}
 use Rattle.mtn_marking.specs.Marking.{side_of}
 use Rattle.mtn_marking.specs.Parts.{seen, Tells}
 use Rattle.mtn_marking.proofs.known.have_attr.Goals as goal

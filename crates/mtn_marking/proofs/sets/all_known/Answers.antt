@@ -1,7 +1,7 @@
 -- Mark by mark.
 use Rattle.std.proofs.Common.{◌≡◌, ◌∙◌, below_more, refl, subst, sym, Contains, get_or, List, ℕ}
 use Rattle.std.proofs.lemmas.List.{get_or_default}
-use Rattle.mtn_marks.specs.Rule.{AllKnown}
+use Rattle.mtn_mark_laws.specs.Rule.{AllKnown}
 use Rattle.mtn_marking.proofs.Joined.{unknown_at, known_at}
 use Rattle.mtn_marking.proofs.sets.all_known.Goals as goal
 

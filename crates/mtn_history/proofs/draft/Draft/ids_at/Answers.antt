@@ -2,7 +2,7 @@ use Rattle.std.proofs.Common.{ℕ, List, Err, ap, ◌∙◌, subst, arith}
 use Rattle.std.proofs.lemmas.List.{take_all}
 use Rattle.std.specs.List.{AllZip}
 use Rattle.std.proofs.lemmas.Result.{err_from_is_err_and}
-use Rattle.mtn_growth.specs.History.{IsPlaceOf}
+use Rattle.mtn_history_laws.specs.History.{IsPlaceOf}
 use Rattle.mtn_ports.proofs.KeptLemmas.{stays_trans}
 use Rattle.mtn_history.specs.declared.pending.Pending.{Pending}
 use Rattle.mtn_history.specs.Stands.{IsFounded}

@@ -1,6 +1,6 @@
 use Rattle.std.proofs.Common.{◌≡◌, List, ℕ, take}
 use Rattle.std.specs.List.{AllZip}
-use Rattle.mtn_growth.specs.History.{IsPlaceOf}
+use Rattle.mtn_history_laws.specs.History.{IsPlaceOf}
 use Rattle.mtn_model.specs.State.{State}
 use Rattle.mtn_ports.specs.Kept.{Stays}
 use Rattle.mtn_history.specs.Stands.{IsFounded}

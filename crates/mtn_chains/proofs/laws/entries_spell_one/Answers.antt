@@ -1,5 +1,0 @@
-use Rattle.mtn_chains.proofs.Spelling.{one_tree}
-use Rattle.mtn_chains.proofs.laws.entries_spell_one.Goals as goal
-
-pub returns : goal.returns
-returns c = λ es t u a b. one_tree es t u a b

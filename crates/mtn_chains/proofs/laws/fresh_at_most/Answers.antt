@@ -1,5 +1,0 @@
-use Rattle.mtn_chains.proofs.Known.{fresh_long}
-use Rattle.mtn_chains.proofs.laws.fresh_at_most.Goals as goal
-
-pub returns : goal.returns
-returns c = λ known t. fresh_long known t.tree

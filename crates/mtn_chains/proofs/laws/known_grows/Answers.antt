@@ -1,5 +1,0 @@
-use Rattle.mtn_chains.proofs.Known.{all_known}
-use Rattle.mtn_chains.proofs.laws.known_grows.Goals as goal
-
-pub returns : goal.returns
-returns c = λ known next t new are is. all_known known next t new are is

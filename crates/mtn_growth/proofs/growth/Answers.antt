@@ -1,8 +1,0 @@
-use Rattle.mtn_growth.proofs.Growing.{grown_none, grown_more}
-use Rattle.mtn_growth.proofs.growth.Goals as goal
-
-pub returns-clause-nothing : goal.returns-clause-nothing
-returns-clause-nothing c = grown_none
-
-pub returns-clause-step : goal.returns-clause-step
-returns-clause-step c log new grown step = grown_more log new grown step

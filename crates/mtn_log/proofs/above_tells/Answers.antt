@@ -1,6 +1,0 @@
-use Rattle.mtn_log.proofs.Histories.{history_is_grown}
-use Rattle.mtn_log.proofs.Places.{above_tells}
-use Rattle.mtn_log.proofs.above_tells.Goals as goal
-
-pub returns : goal.returns
-returns c f files log h parent p is at = let grown = history_is_grown f files log h is in above_tells h grown.earlier parent p at

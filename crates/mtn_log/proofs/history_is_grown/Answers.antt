@@ -1,5 +1,0 @@
-use Rattle.mtn_log.proofs.Histories.{history_is_grown}
-use Rattle.mtn_log.proofs.history_is_grown.Goals as goal
-
-pub returns : goal.returns
-returns c f files log h is = history_is_grown f files log h is

@@ -1,5 +1,0 @@
-use Rattle.mtn_log.proofs.Histories.{log_is_short}
-use Rattle.mtn_log.proofs.log_is_short.Goals as goal
-
-pub returns : goal.returns
-returns c f files log h is = log_is_short f files log h is

@@ -1,5 +1,0 @@
-use Rattle.mtn_making.proofs.Lengths.{IsSummed}
-use Rattle.mtn_making.proofs.limits.long_place.Given as goal
-
-abbrev pub invariant-loop-stop : goal.invariant-loop-stop
-invariant-loop-stop l = IsSummed l.roster l.lengths.items l.stop-index

@@ -1,0 +1,67 @@
+-- The records are those of the state with the text.
+use Rattle.std.proofs.Common.{List, ℕ, refl, sym, ap, ◌∙◌, subst}
+use Rattle.std.specs.Prelude.{IfSome}
+use Rattle.mtn_changes.specs.declared.change.Edge.{Edge}
+use Rattle.mtn_roster_deltas.specs.Numbering.{shown, AreKnown}
+use Rattle.mtn_replay.specs.Lawful.{IsNext}
+use Rattle.mtn_replay.specs.Making.{made}
+use Rattle.mtn_model.specs.State.{State}
+use Rattle.mtn_ports.specs.Kept.{with_all}
+use Rattle.mtn_ports.proofs.KeptLemmas.{stays_trans}
+use Rattle.mtn_history.specs.Errors.{IfDamage}
+use Rattle.mtn_history.specs.Records.{with_revision}
+use Rattle.mtn_history.specs.Rosters.{IsRebuilt}
+use Rattle.mtn_history.specs.Stands.{IsDraft, IsFounded}
+use Rattle.mtn_history.specs.declared.pending.Pending.{Pending}
+use Rattle.mtn_history.proofs.Founding.{back}
+use Rattle.mtn_history.proofs.Knowing.{told_back}
+use Rattle.mtn_put_revision.specs.Finding.{IsFound, IsUnfounded}
+use Rattle.mtn_put_revision.specs.Keeping.{AreParents, IsFirstRebuilt, IsLogBodyOf, IsMade, IsRecordOn, with_text}
+use Rattle.mtn_put_revision.proofs.Grounds.{moved}
+use Rattle.mtn_put_revision.proofs.Numbers.{parents_known}
+use Rattle.mtn_put_revision.proofs.Putting.{kept_draft, new_rebuilt}
+use Rattle.mtn_put_revision.proofs.keep.keep.Goals as goal
+
+pub returns-in-Err-Clash-clause-stays : goal.returns-in-Err-Clash-clause-stays
+returns-in-Err-Clash-clause-stays g c = stays_trans g.K.Keeper.contents g.K.Keeper.leaves g.K.Keeper.faults _ _ _ c.in_ok-next.ensures.stays c.unfit.ensures.stays
+
+pub returns-in-Err-Clash-clause-damaged : goal.returns-in-Err-Clash-clause-damaged
+returns-in-Err-Clash-clause-damaged g c =
+    let told = g.K.Keeper.contents c.unfit.new.draft.keeper.now in
+    let mid = g.K.Keeper.contents c.next_number.new.draft.keeper.now in
+    let p = c.args.draft.now.pending in
+    let q = c.next_number.new.draft.pending in
+    let known = shown c.args.known.now.entries.now in
+    moved (λ (x : Pending). IfSome told (λ y. IfDamage c.unfit.result (IsFound told x (with_all y x.batch)))) q p c.in_ok-next.ensures.pending
+    (c.unfit.ensures.damaged (moved (λ (x : Pending). IsUnfounded mid x) p q (sym c.in_ok-next.ensures.pending) (λ f s d.
+    let are = parents_known f s.files s.log d.stands.history d.stands.kept d.stands.spelled d.stands.revisions c.args.known.now.places.now known
+    (c.requires.parents f s (back f (g.K.Keeper.contents c.args.draft.now.keeper.now) mid p s c.in_ok-next.ensures.stays.same d)) in
+    (rw c.in-Err-Clash.field-0-is at c.in-Err-Clash.ensures.clash) refl (subst (AreKnown known) (sym (c.in_ok-next.ensures.next f s d)) are))))
+
+pub keep_revision-requires-clause-right : goal.keep_revision-requires-clause-right
+keep_revision-requires-clause-right g c =
+    let mid = g.K.Keeper.contents c.next_number.new.draft.keeper.now in
+    let p = c.args.draft.now.pending in
+    let known = c.args.known.now in
+    let w = c.in_ok-body.field-0 in
+    moved (λ (x : Pending). IfSome mid (λ y. IsRebuilt (with_all y (with_revision x (record { id = c.args.id.0; text = c.args.text.now }) c.in_ok-log.log w.body).batch) x.count w.entries c.args.roster w.depth)) p c.next_number.new.draft.pending (sym c.in_ok-next.ensures.pending)
+    (subst (λ es. IfSome mid (λ y. IsRebuilt (with_all y (with_revision p (record { id = c.args.id.0; text = c.args.text.now }) c.in_ok-log.log w.body).batch) p.count es c.args.roster w.depth)) (sym c.in_ok-body.ensures.1)
+    (new_rebuilt mid p (record { id = c.args.id.0; text = c.args.text.now }) c.in_ok-log.log w.body known.places.now (shown known.entries.now) known.depth w.depth c.in-Ok.numbers.0 c.args.roster c.requires.room c.requires.below c.in-Ok.ensures.spells
+    (subst (λ n. IsRecordOn known.places.now (shown known.entries.now) known.depth c.in-Ok.numbers.0 n w.body w.depth) c.count.ensures c.in_ok-body.ensures.0)
+    (told_back (g.K.Keeper.contents c.args.draft.now.keeper.now) mid (λ y. IsFirstRebuilt (with_all y p.batch) known.places.now (shown known.entries.now) known.depth) c.in_ok-next.ensures.stays.same c.requires.first)))
+
+pub returns-clause-kept : goal.returns-clause-kept
+returns-clause-kept g c =
+    let told = g.K.Keeper.contents c.next_number.new.draft.keeper.now in
+    let p = c.args.draft.now.pending in
+    let known = c.args.known.now in
+    let w = c.in_ok-body.field-0 in
+    subst (λ h. (f : List ℕ → List ℕ) (s : State) → (d : IsFounded f (g.K.Keeper.contents h.now) p s) → (edges : List Edge) → IsMade d.stands.history edges c.args.id c.args.roster →
+    AreParents d.stands.history d.stands.kept edges known.places.now (shown known.entries.now) known.depth → IsNext f s.files d.stands.history (record { id = c.args.id.0; text = c.args.text.now }) (made d.stands.history c.args.id edges) →
+    IsDraft f d.records c.keep_revision.new.self.pending (with_text s (record { id = c.args.id.0; text = c.args.text.now }))) (sym c.in_ok-keep_revision.ensures.keeper) (λ f s d edges made_is parents accepted.
+    kept_draft f told p s d c.args.id c.args.text.now edges c.args.roster known.places.now (shown known.entries.now) known.depth c.in_ok-next.next c.in-Ok.numbers.1 w.depth c.in-Ok.numbers.0 w.body c.in_ok-log.log c.keep_revision.new.self.pending
+    c.requires.room (c.in_ok-next.ensures.next f s d) c.in-Ok.ensures.numbers c.in-Ok.ensures.next
+    (subst (λ n. IsRecordOn known.places.now (shown known.entries.now) known.depth c.in-Ok.numbers.0 n w.body w.depth) c.count.ensures c.in_ok-body.ensures.0)
+    (subst (λ n. IsLogBodyOf c.args.id c.in-Ok.numbers.1 known.places.now n c.in_ok-log.log) c.count.ensures c.in_ok-log.ensures)
+    (c.in_ok-keep_revision.ensures.ok ∙ ap (λ (q : Pending). with_revision q (record { id = c.args.id.0; text = c.args.text.now }) c.in_ok-log.log w.body) c.in_ok-next.ensures.pending)
+    made_is parents accepted)

@@ -1,0 +1,13 @@
+-- By how many there are.
+use Rattle.std.proofs.Common.{[], ◌∷◌}
+use Rattle.mtn_history.proofs.Founding.{grown}
+use Rattle.mtn_put_revision.proofs.Bases.{no_places, root_basis, under}
+use Rattle.mtn_put_revision.proofs.over.over_places.Goals as goal
+
+pub over-requires-clause-based : goal.over-requires-clause-based
+over-requires-clause-based g c κs within = λ f s d.
+    let on = c.requires.parents f s d in
+    let b = root_basis d.stands.history d.stands.kept c.args.fresh.now c.args.places.now c.requires.edges on (no_places c.args.places.now c.in-empty.len_below) in (
+      under d.stands.history c.args.fresh.now.read.now.edges _ c.args.fresh.now.id (b.0 ∷ []) (grown f (g.K.Keeper.contents c.args.draft.now.keeper.now) c.args.draft.now.pending s d) on.new b.1 b.2,
+      b.3,
+    )

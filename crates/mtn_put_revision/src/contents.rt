@@ -1,0 +1,89 @@
+// The contents that a revision brings.
+ghost use Rattle.std.specs.Prelude.{◌≡◌, List, ℕ, Err, find, is_none, IfOk, IfErr, IfSome};
+ghost use Rattle.std.specs.FinMap.{get};
+ghost use Rattle.mtn_base.specs.declared.id.Id.{Id as Named};
+ghost use Rattle.mtn_replay.specs.Making.{new_contents};
+ghost use Rattle.mtn_model.specs.State.{State};
+ghost use Rattle.mtn_ports.specs.Causes.{Rose};
+ghost use Rattle.mtn_ports.specs.Kept.{Stays};
+ghost use Rattle.mtn_history.specs.Errors.{IfDamage};
+ghost use Rattle.mtn_history.specs.Stands.{IsFounded};
+ghost use Rattle.mtn_put_revision.specs.Finding.{unknown_in, first_unknown};
+
+use mtn_base::Id;
+use mtn_changes::{Change, Edge};
+use mtn_history::{Draft, FILES, StoreError};
+use mtn_make_roster::new_content;
+use mtn_ports::Keeper;
+use std::alloc::Global;
+
+// The content that a change brings, where it is not held. `body` is room to read into.
+fn unknown_of<K: Keeper>(
+    draft: &mut Draft<'_, K>,
+    change: &Change,
+    body: &mut Vec<u8>,
+) -> Result<Option<Id>, StoreError>
+    ensures same_reference { draft.new.keeper.ghost_name ≡ draft.old.keeper.ghost_name }
+    ensures stays { Stays K.contents K.leaves K.faults draft.old.keeper.now draft.new.keeper.now }
+    ensures pending { draft.new.pending ≡ draft.old.pending }
+    ensures found { (f : List ℕ → List ℕ) (s : State) → IsFounded f (K.contents draft.new.keeper.now) draft.old.pending s →
+        IfOk result (λ id. id ≡ unknown_in s.files change.now) }
+    ensures sound { IfErr result (λ e. IfDamage e (λ _. ⊥)) }
+    ensures failed { result ≡ Err StoreError.Failed → Rose (K.faults draft.old.keeper.now) (K.faults draft.new.keeper.now) }
+{
+    match new_content(change) {
+        None => Ok(None),
+        Some(id) => {
+            if draft.get(FILES, id.as_slice(), body)? {
+                Ok(None)
+            } else {
+                Ok(Some(id))
+            }
+        }
+    }
+}
+
+// The first content of one edge that is not held.
+fn unknown_among<K: Keeper>(
+    draft: &mut Draft<'_, K>,
+    changes: &[Change],
+    body: &mut Vec<u8>,
+) -> Result<Option<Id>, StoreError>
+    ensures same_reference { draft.new.keeper.ghost_name ≡ draft.old.keeper.ghost_name }
+    ensures stays { Stays K.contents K.leaves K.faults draft.old.keeper.now draft.new.keeper.now }
+    ensures pending { draft.new.pending ≡ draft.old.pending }
+    ensures found { (f : List ℕ → List ℕ) (s : State) → IsFounded f (K.contents draft.new.keeper.now) draft.old.pending s →
+        IfOk result (λ id. id ≡ first_unknown s.files changes.now) }
+    ensures sound { IfErr result (λ e. IfDamage e (λ _. ⊥)) }
+    ensures failed { result ≡ Err StoreError.Failed → Rose (K.faults draft.old.keeper.now) (K.faults draft.new.keeper.now) }
+{
+    for change in changes {
+        if let Some(id) = unknown_of(draft, change, body)? {
+            return Ok(Some(id));
+        }
+    }
+    Ok(None)
+}
+
+/// The first content in the order of the text that is not held. It asks for one record for each.
+pub fn unknown_content<K: Keeper>(
+    alloc: Global,
+    draft: &mut Draft<'_, K>,
+    edges: &[Edge],
+) -> Result<Option<Id>, StoreError>
+    ensures same_reference { draft.new.keeper.ghost_name ≡ draft.old.keeper.ghost_name }
+    ensures stays { Stays K.contents K.leaves K.faults draft.old.keeper.now draft.new.keeper.now }
+    ensures pending { draft.new.pending ≡ draft.old.pending }
+    ensures found { (f : List ℕ → List ℕ) (s : State) → IsFounded f (K.contents draft.new.keeper.now) draft.old.pending s →
+        IfOk result (λ id. id ≡ find (λ (i : Named). is_none (get s.files i.0)) (new_contents edges.now)) }
+    ensures sound { IfErr result (λ e. IfDamage e (λ _. ⊥)) }
+    ensures failed { result ≡ Err StoreError.Failed → Rose (K.faults draft.old.keeper.now) (K.faults draft.new.keeper.now) }
+{
+    let mut body = Vec::new(alloc);
+    for edge in edges {
+        if let Some(id) = unknown_among(draft, edge.changes.changes.as_slice(), &mut body)? {
+            return Ok(Some(id));
+        }
+    }
+    Ok(None)
+}

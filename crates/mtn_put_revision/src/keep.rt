@@ -1,0 +1,72 @@
+// The records of a new revision, put behind the others.
+ghost use Rattle.std.specs.Prelude.{◌≡◌, ◌<◌, ◌≤◌, ◌^◌, All, List, ℕ, length, Err, IfErr, IfSome, OnOk, OnErr};
+ghost use Rattle.mtn_roster_deltas.specs.Numbering.{shown};
+ghost use Rattle.mtn_changes.specs.declared.change.Edge.{Edge};
+ghost use Rattle.mtn_replay.specs.Lawful.{IsNext};
+ghost use Rattle.mtn_replay.specs.Making.{made};
+ghost use Rattle.mtn_model.specs.State.{State};
+ghost use Rattle.mtn_ports.specs.Causes.{Rose};
+ghost use Rattle.mtn_ports.specs.Kept.{Stays, with_all};
+ghost use Rattle.mtn_history.specs.Errors.{IfDamage};
+ghost use Rattle.mtn_history.specs.Stands.{IsDraft, IsFounded};
+ghost use Rattle.mtn_put_revision.specs.Finding.{IsFound};
+ghost use Rattle.mtn_put_revision.specs.Keeping.{AreKeptAt, AreParents, IsFirstRebuilt, IsMade, with_text};
+
+use crate::records::{Known, Written, log_body, next_number, numbered, write_record};
+use crate::unfit::unfit;
+use mtn_ancestry::Pos;
+use mtn_base::Id;
+use mtn_roster_deltas::NumberError;
+use mtn_history::{Draft, Rebuilt, StoreError};
+use mtn_marking::MarkedRoster;
+use mtn_ports::Keeper;
+use std::alloc::Global;
+
+/// Puts the records of a revision with this tree and these parents, and the draft remembers its roster. An error leaves what
+/// is pending as it was.
+pub fn keep<K: Keeper>(
+    alloc: Global,
+    draft: &mut Draft<'_, K>,
+    id: Id,
+    text: &[u8],
+    roster: MarkedRoster,
+    known: &Known<'_>,
+) -> Result<(), StoreError>
+    requires room { draft.old.pending.count < 2147483648 }
+    requires few { length known.now.places.now ≤ 2 }
+    requires below { All (λ p. p < draft.old.pending.count) known.now.places.now }
+    requires parents { (f : List ℕ → List ℕ) (s : State) → (d : IsFounded f (K.contents draft.old.keeper.now) draft.old.pending s) →
+        AreKeptAt d.stands.kept known.now.places.now (shown known.now.entries.now) }
+    requires first { IfSome (K.contents draft.old.keeper.now) (λ c. IsFirstRebuilt (with_all c draft.old.pending.batch) known.now.places.now (shown known.now.entries.now) known.now.depth) }
+    ensures same_reference { draft.new.keeper.ghost_name ≡ draft.old.keeper.ghost_name }
+    ensures stays { Stays K.contents K.leaves K.faults draft.old.keeper.now draft.new.keeper.now }
+    ensures kept { (f : List ℕ → List ℕ) (s : State) → (d : IsFounded f (K.contents draft.new.keeper.now) draft.old.pending s) → (edges : List Edge) →
+        IsMade d.stands.history edges id roster → AreParents d.stands.history d.stands.kept edges known.now.places.now (shown known.now.entries.now) known.now.depth →
+        IsNext f s.files d.stands.history (record { id = id.0; text = text.now }) (made d.stands.history id edges) →
+        OnOk result (IsDraft f d.records draft.new.pending (with_text s (record { id = id.0; text = text.now }))) }
+    ensures err { OnErr result (draft.new.pending ≡ draft.old.pending) }
+    ensures damaged { IfSome (K.contents draft.new.keeper.now) (λ c. IfErr result (λ e. IfDamage e
+        (IsFound (K.contents draft.new.keeper.now) draft.old.pending (with_all c draft.old.pending.batch)))) }
+    ensures failed { result ≡ Err StoreError.Failed → Rose (K.faults draft.old.keeper.now) (K.faults draft.new.keeper.now) }
+{
+    let at = Pos(draft.count());
+    let next = next_number(draft)?;
+    let (entries, free) = match numbered(alloc, &roster, known.entries, next) {
+        Ok(numbers) => numbers,
+        Err(NumberError::Clash) => return Err(unfit(draft, known.places.first().copied())),
+        Err(NumberError::NoMemory) => return Err(StoreError::NoMemory),
+    };
+    let Written {
+        body,
+        entries,
+        depth,
+    } = write_record(alloc, known, entries, at)?;
+    let log = log_body(alloc, id, free, known.places, at)?;
+    let rebuilt = Rebuilt {
+        entries,
+        roster,
+        depth,
+    };
+    draft.keep_revision(id, text, log, body, rebuilt)?;
+    Ok(())
+}

@@ -1,0 +1,141 @@
+// The call `put_revision`.
+ghost use Rattle.std.specs.Prelude.{◌≡◌, List, ℕ, Some, None, Err, IfErr, IfSome, OnOk, OnErr};
+ghost use Rattle.mtn_changes.specs.RevisionText.{AreEdges};
+ghost use Rattle.mtn_replay.specs.Making.{place_of, refusal_of};
+ghost use Rattle.mtn_model.specs.State.{State};
+ghost use Rattle.mtn_model.specs.Table.{Contents};
+ghost use Rattle.mtn_ports.specs.Causes.{Rose};
+ghost use Rattle.mtn_ports.specs.Kept.{Stays, with_all};
+ghost use Rattle.mtn_history.specs.Damage.{IsDamage};
+ghost use Rattle.mtn_history.specs.Meta.{IsMetaOf};
+ghost use Rattle.mtn_history.specs.Errors.{IfStoreDamage};
+ghost use Rattle.mtn_history.specs.Stands.{IsDraft, IsFounded};
+ghost use Rattle.mtn_put_revision.specs.Finding.{IsFound, IsRefusal};
+ghost use Rattle.mtn_put_revision.specs.Keeping.{AcceptsNew, IsSpelled};
+ghost use Rattle.mtn_history.specs.Texts.{TextDamage};
+ghost use Rattle.mtn_put_revision.specs.Accepting.{AcceptsRevision, IsHeld, IsUnreadAs};
+
+use crate::over::{Fresh, over_places};
+use crate::places::places_of;
+use mtn_base::{Cause, Id, MAX_TEXT};
+use mtn_changes::{ChangeTextError, Revision, read_revision};
+use mtn_history::{Draft, HistoryError, StoreError};
+use mtn_ports::{Ident, Keeper};
+use std::alloc::Global;
+
+/// The most revisions of a log.
+pub const MAX_LOG: u64 = 2_147_483_648;
+
+// What a text that spells no revision is refused for.
+fn unread(error: ChangeTextError) -> HistoryError
+    ensures { IsUnreadAs error result }
+{
+    HistoryError::Refused(match error {
+        ChangeTextError::NotText { place } => Cause::NotText { place },
+        ChangeTextError::BadStanza { number } => Cause::BadStanza { number },
+        ChangeTextError::BadOrder { number } => Cause::BadOrder { number },
+        ChangeTextError::Repeated { number } => Cause::Repeated { number },
+        ChangeTextError::BadEdge { number } => Cause::BadEdge { number },
+        ChangeTextError::NoMemory => return HistoryError::Store(StoreError::NoMemory),
+    })
+}
+
+// Whether the log has this text under its id; a Collision where it has another there.
+fn is_held<K: Keeper>(
+    alloc: Global,
+    draft: &mut Draft<'_, K>,
+    id: Id,
+    text: &[u8],
+) -> Result<bool, HistoryError>
+    ensures same_reference { draft.new.keeper.ghost_name ≡ draft.old.keeper.ghost_name }
+    ensures stays { Stays K.contents K.leaves K.faults draft.old.keeper.now draft.new.keeper.now }
+    ensures pending { draft.new.pending ≡ draft.old.pending }
+    ensures held { (f : List ℕ → List ℕ) (c : Contents) (s : State) → K.contents draft.new.keeper.now ≡ Some c → IsDraft f c draft.old.pending s →
+        IsHeld s id text.now result }
+    ensures damaged { IfSome (K.contents draft.new.keeper.now) (λ c. IfErr result (λ e. IfStoreDamage e (TextDamage (with_all c draft.old.pending.batch)))) }
+    ensures failed { result ≡ Err (HistoryError.Store StoreError.Failed) → Rose (K.faults draft.old.keeper.now) (K.faults draft.new.keeper.now) }
+{
+    let mut held = Vec::new(alloc);
+    match draft.text_of(id, &mut held) {
+        Ok(()) => {
+            if held.as_slice() == text {
+                Ok(true)
+            } else {
+                Err(HistoryError::Refused(Cause::Collision { id }))
+            }
+        }
+        Err(HistoryError::Refused(_)) => Ok(false),
+        Err(HistoryError::Store(error)) => Err(HistoryError::Store(error)),
+    }
+}
+
+/// Accepts a revision by its text, and answers its id. A text that is held is accepted already. The first refusal is answered
+/// otherwise: a text of more than 64 MiB; the fault of a text that spells no revision; a Collision, where another text is held
+/// under the id; a full log; the first parent that is not held; a change that fails, or a path at which the trees of two edges
+/// cannot be joined; a tree of too many nodes, or a path that is too long; a content that is not held; another manifest. Any
+/// error leaves what is pending as it was. It asks for a record for each parent and new content, at most sixteen for each
+/// parent's roster, and those of the walk between two parents.
+pub fn put_revision<I: Ident, K: Keeper>(
+    alloc: Global,
+    ident: &I,
+    draft: &mut Draft<'_, K>,
+    text: &[u8],
+) -> Result<Id, HistoryError>
+    ensures same_reference { draft.new.keeper.ghost_name ≡ draft.old.keeper.ghost_name }
+    ensures stays { Stays K.contents K.leaves K.faults draft.old.keeper.now draft.new.keeper.now }
+    ensures accepts { (c : Contents) (s : State) → K.contents draft.new.keeper.now ≡ Some c → IsDraft (I.meaning ident.now) c draft.old.pending s →
+        AcceptsRevision (I.meaning ident.now) c s text.now result draft.new.pending }
+    ensures err { OnErr result (draft.new.pending ≡ draft.old.pending) }
+    ensures damaged { IfSome (K.contents draft.new.keeper.now) (λ c. IsMetaOf (with_all c draft.old.pending.batch) (record { count = draft.old.pending.count; is_new = draft.old.pending.is_new }) →
+        IfErr result (λ e. IfStoreDamage e (IsDamage (with_all c draft.old.pending.batch)))) }
+    ensures failed { result ≡ Err (HistoryError.Store StoreError.Failed) → Rose (K.faults draft.old.keeper.now) (K.faults draft.new.keeper.now) }
+{
+    if text.len() > MAX_TEXT {
+        return Err(HistoryError::Refused(Cause::TextTooLong {
+            length: text.len() as u64,
+        }));
+    }
+    let read = match read_revision(alloc, text) {
+        Ok(read) => read,
+        Err(error) => return Err(unread(error)),
+    };
+    let id = ident.id(text);
+    if is_held(alloc, draft, id, text)? {
+        return Ok(id);
+    }
+    let fresh = Fresh {
+        text,
+        read: &read,
+        id,
+    };
+    accept(alloc, ident, draft, &fresh)?;
+    Ok(id)
+}
+
+// Accepts a text that is new to the log.
+fn accept<I: Ident, K: Keeper>(
+    alloc: Global,
+    ident: &I,
+    draft: &mut Draft<'_, K>,
+    fresh: &Fresh<'_>,
+) -> Result<(), HistoryError>
+    requires edges { AreEdges fresh.now.read.now.edges }
+    requires new { (f : List ℕ → List ℕ) (s : State) → (d : IsFounded f (K.contents draft.old.keeper.now) draft.old.pending s) → place_of d.stands.history fresh.now.id ≡ None }
+    ensures same_reference { draft.new.keeper.ghost_name ≡ draft.old.keeper.ghost_name }
+    ensures stays { Stays K.contents K.leaves K.faults draft.old.keeper.now draft.new.keeper.now }
+    ensures accepts { (s : State) → (d : IsFounded (I.meaning ident.now) (K.contents draft.new.keeper.now) draft.old.pending s) →
+        IsSpelled (I.meaning ident.now) fresh.now → OnOk result (AcceptsNew (I.meaning ident.now) d.records s d.stands.history fresh.now draft.new.pending) }
+    ensures refused { (s : State) → (d : IsFounded (I.meaning ident.now) (K.contents draft.new.keeper.now) draft.old.pending s) →
+        IfErr result (IsRefusal (refusal_of (I.meaning ident.now) s.files d.stands.history fresh.now.id fresh.now.read.now)) }
+    ensures err { OnErr result (draft.new.pending ≡ draft.old.pending) }
+    ensures damaged { IfSome (K.contents draft.new.keeper.now) (λ c. IfErr result (λ e. IfStoreDamage e
+        (IsFound (K.contents draft.new.keeper.now) draft.old.pending (with_all c draft.old.pending.batch)))) }
+    ensures failed { result ≡ Err (HistoryError.Store StoreError.Failed) → Rose (K.faults draft.old.keeper.now) (K.faults draft.new.keeper.now) }
+{
+    let count = draft.count();
+    if count >= MAX_LOG {
+        return Err(HistoryError::Refused(Cause::LogFull { count }));
+    }
+    let places = places_of(alloc, draft, fresh.read.edges.as_slice())?;
+    over_places(alloc, ident, draft, fresh, &places)
+}

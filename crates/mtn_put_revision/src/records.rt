@@ -1,0 +1,202 @@
+// The records of a new revision.
+ghost use Rattle.std.specs.Prelude.{◌≡◌, ◌<◌, ◌≤◌, ◌+◌, All, List, ℕ, length, Err, IfOk, IfErr, IfSome};
+ghost use Rattle.mtn_ancestry.specs.Log.{list_of};
+ghost use Rattle.mtn_roster_deltas.specs.Numbering.{fresh, shown, AreKnown, IsNumbering};
+ghost use Rattle.mtn_roster_deltas.specs.Spelled.{Spells};
+ghost use Rattle.mtn_model.specs.State.{State};
+ghost use Rattle.mtn_ports.specs.Causes.{Rose};
+ghost use Rattle.mtn_ports.specs.Kept.{Stays, with_all};
+ghost use Rattle.mtn_records.specs.Bounds.{IsRosterAt};
+ghost use Rattle.mtn_records.specs.declared.record.RosterRecord.TheVariants.{Whole};
+ghost use Rattle.mtn_history.specs.Errors.{IfDamage};
+ghost use Rattle.mtn_history.specs.Revisions.{next_of};
+ghost use Rattle.mtn_history.specs.Stands.{IsFounded};
+ghost use Rattle.mtn_put_revision.specs.Finding.{IsFound};
+ghost use Rattle.mtn_put_revision.specs.Keeping.{IsDeltaBody, IsLogBodyOf, IsWhole, IsWrittenOn};
+
+use mtn_ancestry::{ParentList, Pos};
+use mtn_base::{Bytes, Id, List as Items, NoMemory};
+use mtn_roster_deltas::{DEEPEST, NumberError, delta, number};
+use mtn_history::{Draft, StoreError};
+use mtn_make_roster::MAX_NODES;
+use mtn_marking::MarkedRoster;
+use mtn_ports::Keeper;
+use mtn_records::{LogRecord, Numbered, RosterRecord, is_record_at, write_log, write_roster};
+use std::alloc::Global;
+
+/// The greatest number that a log can have as its next: 100,000 for each of 2,147,483,648 revisions, from 1.
+const LAST_NUMBER: u64 = 214_748_364_800_001;
+
+/// The parents of a new revision: their positions in the order of the edges, the entries of each, and how deep the record of
+/// the first stands.
+#[derive(Clone, Copy)]
+pub struct Known<'a> {
+    pub places: &'a [Pos],
+    pub entries: &'a [&'a Numbered],
+    pub depth: u8,
+}
+
+/// The least number that no node has yet, by the last record of the log.
+pub fn next_number<K: Keeper>(draft: &mut Draft<'_, K>) -> Result<u64, StoreError>
+    ensures same_reference { draft.new.keeper.ghost_name ≡ draft.old.keeper.ghost_name }
+    ensures stays { Stays K.contents K.leaves K.faults draft.old.keeper.now draft.new.keeper.now }
+    ensures pending { draft.new.pending ≡ draft.old.pending }
+    ensures room { IfOk result (λ n. n ≤ 214748364800001) }
+    ensures next { (f : List ℕ → List ℕ) (s : State) → (d : IsFounded f (K.contents draft.new.keeper.now) draft.old.pending s) →
+        IfOk result (λ n. n ≡ next_of d.stands.kept) }
+    ensures damaged { IfSome (K.contents draft.new.keeper.now) (λ c. IfErr result (λ e. IfDamage e
+        (IsFound (K.contents draft.new.keeper.now) draft.old.pending (with_all c draft.old.pending.batch)))) }
+    ensures failed { result ≡ Err StoreError.Failed → Rose (K.faults draft.old.keeper.now) (K.faults draft.new.keeper.now) }
+{
+    let count = draft.count();
+    if count == 0 {
+        return Ok(1);
+    }
+    let at = Pos(count - 1);
+    let log = draft.logged(at)?;
+    if log.next_node > LAST_NUMBER {
+        return Err(draft.log_held(at));
+    }
+    Ok(log.next_node)
+}
+
+/// The entries of a marked tree under numbers, and the next number after them. A tree of too many nodes, which no history
+/// has, wants memory.
+pub fn numbered(
+    alloc: Global,
+    roster: &MarkedRoster,
+    known: &[&Numbered],
+    next: u64,
+) -> Result<(Numbered, u64), NumberError>
+    requires { next ≤ 214748364800001 }
+    ensures spells { IfOk result (λ r. Spells r.0 roster.now) }
+    ensures numbers { AreKnown (shown known.now) next → IfOk result (λ r. IsNumbering (shown known.now) next roster.now r.0) }
+    ensures next { AreKnown (shown known.now) next → IfOk result (λ r. r.1 ≡ next + length (fresh (shown known.now) roster.now.tree)) }
+    ensures clash { result ≡ Err NumberError.Clash → AreKnown (shown known.now) next → ⊥ }
+{
+    if roster.roster().len() > MAX_NODES {
+        return Err(NumberError::NoMemory);
+    }
+    number(alloc, roster, known, next)
+}
+
+/// The body of a roster's record, with the entries that it tells and how many deltas it stands above a whole one.
+#[derive(Drop)]
+pub struct Written {
+    pub body: Bytes,
+    pub entries: Numbered,
+    pub depth: u8,
+}
+
+// The body of a roster's record under its position. A field that is longer than its record can tell wants memory.
+fn record_body(alloc: Global, roster: &RosterRecord, at: Pos) -> Result<Bytes, NoMemory>
+    ensures { IfOk result (λ body. IsRosterAt at body roster.now) }
+{
+    if !is_record_at(roster, at) {
+        return Err(NoMemory);
+    }
+    let mut body = Vec::new(alloc);
+    write_roster(roster, &mut body)?;
+    Ok(Items::from_vec(body))
+}
+
+// The entries of a whole record.
+fn into_entries(roster: RosterRecord) -> Numbered
+    requires { IsWhole roster }
+    ensures { roster ≡ Whole result }
+{
+    match roster {
+        RosterRecord::Whole(entries) => entries,
+        RosterRecord::Delta { .. } => unreachable!(),
+    }
+}
+
+// The record has all entries.
+fn whole(alloc: Global, entries: Numbered, at: Pos) -> Result<Written, NoMemory>
+    ensures { IfOk result (λ w. IsRosterAt at w.body (Whole entries) × (w.entries ≡ entries) × (w.depth ≡ 0)) }
+{
+    let record = RosterRecord::Whole(entries);
+    let body = record_body(alloc, &record, at)?;
+    Ok(Written {
+        body,
+        entries: into_entries(record),
+        depth: 0,
+    })
+}
+
+// The record has what differs from the entries of another.
+fn differing(
+    alloc: Global,
+    below: &Numbered,
+    base: Pos,
+    depth: u8,
+    entries: Numbered,
+    at: Pos,
+) -> Result<Written, NoMemory>
+    ensures { IfOk result (λ w. IsDeltaBody below.now base depth entries at w.body × (w.entries ≡ entries) × (w.depth ≡ depth)) }
+{
+    let record = delta(alloc, below, base, depth, &entries)?;
+    let body = record_body(alloc, &record, at)?;
+    Ok(Written {
+        body,
+        entries,
+        depth,
+    })
+}
+
+/// The record of a roster: what differs from the first parent's, or whole where there is none or a chain would get too deep.
+pub fn write_record(
+    alloc: Global,
+    known: &Known<'_>,
+    entries: Numbered,
+    at: Pos,
+) -> Result<Written, NoMemory>
+    ensures { IfOk result (λ w. IsWrittenOn known.now.places.now (shown known.now.entries.now) known.now.depth entries at w) }
+{
+    match (known.places, known.entries) {
+        ([base, ..], [below, ..]) => {
+            if known.depth < DEEPEST {
+                differing(alloc, below, *base, known.depth + 1, entries, at)
+            } else {
+                whole(alloc, entries, at)
+            }
+        }
+        _ => whole(alloc, entries, at),
+    }
+}
+
+// The parents of a record of the log.
+fn parent_list(places: &[Pos]) -> ParentList
+    requires { length places.now ≤ 2 }
+    ensures { list_of result ≡ places.now }
+{
+    match places {
+        [] => ParentList::Zero,
+        [one] => ParentList::One(*one),
+        [first, second] => ParentList::Two(*first, *second),
+        _ => unreachable!(),
+    }
+}
+
+/// The body of a record of the log under its position.
+pub fn log_body(
+    alloc: Global,
+    id: Id,
+    next_node: u64,
+    places: &[Pos],
+    at: Pos,
+) -> Result<Bytes, NoMemory>
+    requires few { length places.now ≤ 2 }
+    requires below { All (λ p. p < at) places.now }
+    ensures { IfOk result (λ body. IsLogBodyOf id next_node places.now at body) }
+{
+    let log = LogRecord {
+        id,
+        next_node,
+        parents: parent_list(places),
+    };
+    let _twenty = id.as_slice();
+    let mut body = Vec::new(alloc);
+    write_log(&log, &mut body)?;
+    Ok(Items::from_vec(body))
+}

@@ -1,0 +1,78 @@
+// The tree of a new revision, or its first refusal behind the parents.
+ghost use Rattle.std.specs.Prelude.{◌≡◌, List, ℕ, None, Err, IfOk, IfErr, IfSome, OnOk};
+ghost use Rattle.mtn_changes.specs.RevisionText.{AreEdges};
+ghost use Rattle.mtn_basic_io.specs.Spelling.{spelling};
+ghost use Rattle.mtn_replay.specs.Making.{made_tree};
+ghost use Rattle.mtn_make_roster.specs.Basis.{Underlies};
+ghost use Rattle.mtn_manifest.specs.Manifest.{manifest_of};
+ghost use Rattle.mtn_model.specs.State.{State};
+ghost use Rattle.mtn_ports.specs.Causes.{Rose};
+ghost use Rattle.mtn_ports.specs.Kept.{Stays, with_all};
+ghost use Rattle.mtn_history.specs.Errors.{IfDamage, IfStoreDamage};
+ghost use Rattle.mtn_history.specs.Stands.{IsFounded};
+ghost use Rattle.mtn_put_revision.specs.Finding.{IsFound, IsRefusal, IsUnfounded, made_refusal_of};
+
+use crate::contents::unknown_content;
+use crate::unfit::unfit;
+use mtn_ancestry::Pos;
+use mtn_base::{Cause, Id, NoMemory};
+use mtn_changes::Revision;
+use mtn_history::{Draft, HistoryError, StoreError};
+use mtn_make_roster::{Basis, MakeError, make};
+use mtn_manifest::write;
+use mtn_ports::{Ident, Keeper};
+use mtn_roster::Roster;
+use std::alloc::Global;
+
+// The id of a tree's manifest.
+fn manifest_id<I: Ident>(alloc: Global, ident: &I, roster: &Roster) -> Result<Id, NoMemory>
+    ensures { IfOk result (λ id. id.0 ≡ I.meaning ident.now (spelling (manifest_of roster.now))) }
+{
+    let mut text = Vec::new(alloc);
+    write(roster, &mut text)?;
+    Ok(ident.id(&text))
+}
+
+/// The tree that a text's edges make over the basis, or the first refusal that is not the parents': of a change, of joining,
+/// of too much, of a content, of the manifest's id.
+pub fn tree_of<I: Ident, K: Keeper>(
+    alloc: Global,
+    ident: &I,
+    draft: &mut Draft<'_, K>,
+    read: &Revision,
+    basis: &Basis,
+    parent: Option<Pos>,
+    new: Id,
+) -> Result<Roster, HistoryError>
+    requires edges { AreEdges read.now.edges }
+    requires based { (f : List ℕ → List ℕ) (s : State) → (d : IsFounded f (K.contents draft.old.keeper.now) draft.old.pending s) →
+        Underlies d.stands.history read.now.edges basis.now new }
+    ensures same_reference { draft.new.keeper.ghost_name ≡ draft.old.keeper.ghost_name }
+    ensures stays { Stays K.contents K.leaves K.faults draft.old.keeper.now draft.new.keeper.now }
+    ensures pending { draft.new.pending ≡ draft.old.pending }
+    ensures tree { (f : List ℕ → List ℕ) (s : State) → (d : IsFounded f (K.contents draft.new.keeper.now) draft.old.pending s) →
+        IfOk result (λ roster. roster ≡ made_tree d.stands.history new read.now.edges) }
+    ensures fine { (s : State) → (d : IsFounded (I.meaning ident.now) (K.contents draft.new.keeper.now) draft.old.pending s) →
+        OnOk result (made_refusal_of (I.meaning ident.now) s.files d.stands.history new read.now ≡ None) }
+    ensures refused { (s : State) → (d : IsFounded (I.meaning ident.now) (K.contents draft.new.keeper.now) draft.old.pending s) →
+        IfErr result (IsRefusal (made_refusal_of (I.meaning ident.now) s.files d.stands.history new read.now)) }
+    ensures damaged { IfSome (K.contents draft.new.keeper.now) (λ c. IfErr result (λ e. IfStoreDamage e
+        (IsFound (K.contents draft.new.keeper.now) draft.old.pending (with_all c draft.old.pending.batch)))) }
+    ensures failed { result ≡ Err (HistoryError.Store StoreError.Failed) → Rose (K.faults draft.old.keeper.now) (K.faults draft.new.keeper.now) }
+{
+    let edges = read.edges.as_slice();
+    let roster = match make(alloc, edges, basis, new) {
+        Ok(roster) => roster,
+        Err(MakeError::Refused(cause)) => return Err(HistoryError::Refused(cause)),
+        Err(MakeError::Damaged) => return Err(HistoryError::Store(unfit(draft, parent))),
+        Err(MakeError::NoMemory) => return Err(HistoryError::Store(StoreError::NoMemory)),
+    };
+    if let Some(id) = unknown_content(alloc, draft, edges)? {
+        return Err(HistoryError::Refused(Cause::UnknownFile { id }));
+    }
+    let computed = manifest_id(alloc, ident, &roster)?;
+    if computed != read.manifest {
+        return Err(HistoryError::Refused(Cause::ManifestDiffers { computed }));
+    }
+    Ok(roster)
+}

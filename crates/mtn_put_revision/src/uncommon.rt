@@ -1,0 +1,108 @@
+// What each of two parents has above it that the other lacks.
+ghost use Rattle.std.specs.Prelude.{◌≡◌, ◌<◌, List, ℕ, true, if◌then◌else◌, Err, IfOk, IfErr, IfSome, OnOk};
+ghost use Rattle.std.specs.BTreeSet.{contains};
+ghost use Rattle.std.specs.Ordering.{is_eq};
+ghost use Rattle.mtn_base.specs.declared.id.Id.{Id as Named};
+ghost use Rattle.mtn_join.specs.Join.{id_cmp};
+ghost use Rattle.mtn_history_laws.specs.History.{IsPlaceOf};
+ghost use Rattle.mtn_make_roster.specs.Basis.{AreUncommonIn};
+ghost use Rattle.mtn_model.specs.State.{State};
+ghost use Rattle.mtn_ports.specs.Causes.{Rose};
+ghost use Rattle.mtn_ports.specs.Kept.{Stays, with_all};
+ghost use Rattle.mtn_history.specs.Errors.{IfDamage};
+ghost use Rattle.mtn_history.specs.Stands.{IsFounded};
+ghost use Rattle.mtn_put_revision.specs.Finding.{IsFound, AreIdsAt};
+
+use mtn_ancestry::{Pos, PosSet, WalkError, uncommon};
+use mtn_base::{Id, NoMemory};
+use mtn_history::{Draft, StoreError};
+use mtn_make_roster::Uncommon;
+use mtn_ports::Keeper;
+use std::alloc::Global;
+use std::collections::BTreeSet;
+
+// The id of a revision. No position from `count` up stands above a revision, so that none is asked for.
+fn id_at<K: Keeper>(draft: &mut Draft<'_, K>, at: Pos) -> Result<Id, StoreError>
+    ensures same_reference { draft.new.keeper.ghost_name ≡ draft.old.keeper.ghost_name }
+    ensures stays { Stays K.contents K.leaves K.faults draft.old.keeper.now draft.new.keeper.now }
+    ensures pending { draft.new.pending ≡ draft.old.pending }
+    ensures id { (f : List ℕ → List ℕ) (s : State) → (d : IsFounded f (K.contents draft.new.keeper.now) draft.old.pending s) →
+        IfOk result (λ id. IsPlaceOf d.stands.history id at) }
+    ensures damaged { IfSome (K.contents draft.new.keeper.now) (λ c. IfErr result (λ e. IfDamage e
+        (IsFound (K.contents draft.new.keeper.now) draft.old.pending (with_all c draft.old.pending.batch)))) }
+    ensures failed { result ≡ Err StoreError.Failed → Rose (K.faults draft.old.keeper.now) (K.faults draft.new.keeper.now) }
+{
+    if at.0 >= draft.count() {
+        return Err(StoreError::NoMemory);
+    }
+    Ok(draft.log_at(at)?.id)
+}
+
+// One more id.
+fn add_id(ids: &mut BTreeSet<Id>, id: Id) -> Result<(), NoMemory>
+    ensures { OnOk result ((i : Named) → contains id_cmp ids.new i ≡ (if is_eq (id_cmp id i) then true else contains id_cmp ids.old i)) }
+{
+    let _ = ids.insert(id)?;
+    Ok(())
+}
+
+// The ids of revisions. It asks for one record for each that the draft does not remember.
+fn ids_of<K: Keeper>(
+    alloc: Global,
+    draft: &mut Draft<'_, K>,
+    positions: &[Pos],
+) -> Result<BTreeSet<Id>, StoreError>
+    ensures same_reference { draft.new.keeper.ghost_name ≡ draft.old.keeper.ghost_name }
+    ensures stays { Stays K.contents K.leaves K.faults draft.old.keeper.now draft.new.keeper.now }
+    ensures pending { draft.new.pending ≡ draft.old.pending }
+    ensures ids { (f : List ℕ → List ℕ) (s : State) → (d : IsFounded f (K.contents draft.new.keeper.now) draft.old.pending s) →
+        IfOk result (AreIdsAt d.stands.history positions.now) }
+    ensures damaged { IfSome (K.contents draft.new.keeper.now) (λ c. IfErr result (λ e. IfDamage e
+        (IsFound (K.contents draft.new.keeper.now) draft.old.pending (with_all c draft.old.pending.batch)))) }
+    ensures failed { result ≡ Err StoreError.Failed → Rose (K.faults draft.old.keeper.now) (K.faults draft.new.keeper.now) }
+{
+    let mut ids = BTreeSet::new(alloc);
+    for at in positions {
+        add_id(&mut ids, id_at(draft, *at)?)?;
+    }
+    Ok(ids)
+}
+
+/// What each of two revisions has above it that the other lacks. It asks for the records of the log that the walk between
+/// them asks for, which the draft remembers, and for those that the walk found without asking.
+pub fn uncommon_of<K: Keeper>(
+    alloc: Global,
+    draft: &mut Draft<'_, K>,
+    left: Pos,
+    right: Pos,
+) -> Result<(Uncommon, Uncommon), StoreError>
+    requires left { left < draft.old.pending.count }
+    requires right { right < draft.old.pending.count }
+    ensures same_reference { draft.new.keeper.ghost_name ≡ draft.old.keeper.ghost_name }
+    ensures stays { Stays K.contents K.leaves K.faults draft.old.keeper.now draft.new.keeper.now }
+    ensures pending { draft.new.pending ≡ draft.old.pending }
+    ensures lefts { (f : List ℕ → List ℕ) (s : State) → (d : IsFounded f (K.contents draft.new.keeper.now) draft.old.pending s) →
+        IfOk result (λ u. AreUncommonIn d.stands.history left right u.0) }
+    ensures rights { (f : List ℕ → List ℕ) (s : State) → (d : IsFounded f (K.contents draft.new.keeper.now) draft.old.pending s) →
+        IfOk result (λ u. AreUncommonIn d.stands.history right left u.1) }
+    ensures damaged { IfSome (K.contents draft.new.keeper.now) (λ c. IfErr result (λ e. IfDamage e
+        (IsFound (K.contents draft.new.keeper.now) draft.old.pending (with_all c draft.old.pending.batch)))) }
+    ensures failed { result ≡ Err StoreError.Failed → Rose (K.faults draft.old.keeper.now) (K.faults draft.new.keeper.now) }
+{
+    let (lefts, rights) = match uncommon(alloc, draft, left, right) {
+        Ok(sets) => sets,
+        Err(WalkError::Asked(error)) => return Err(error),
+        Err(WalkError::NoMemory) => return Err(StoreError::NoMemory),
+    };
+    let left_ids = ids_of(alloc, draft, lefts.as_slice())?;
+    let right_ids = ids_of(alloc, draft, rights.as_slice())?;
+    let lefts = Uncommon {
+        positions: lefts,
+        ids: left_ids,
+    };
+    let rights = Uncommon {
+        positions: rights,
+        ids: right_ids,
+    };
+    Ok((lefts, rights))
+}

@@ -1,0 +1,42 @@
+// The record from which no history goes on.
+ghost use Rattle.std.specs.Prelude.{◌≡◌, IfSome};
+ghost use Rattle.mtn_ports.specs.Causes.{Rose};
+ghost use Rattle.mtn_ports.specs.Kept.{Stays, with_all};
+ghost use Rattle.mtn_history.specs.Errors.{IfDamage};
+ghost use Rattle.mtn_put_revision.specs.Finding.{IsFound, IsUnfounded};
+
+use mtn_ancestry::Pos;
+use mtn_history::{Draft, StoreError};
+use mtn_ports::Keeper;
+
+// The last record of the log; an empty one has none, and nothing but want of memory.
+fn last_held<K: Keeper>(draft: &mut Draft<'_, K>) -> StoreError
+    ensures same_reference { draft.new.keeper.ghost_name ≡ draft.old.keeper.ghost_name }
+    ensures stays { Stays K.contents K.leaves K.faults draft.old.keeper.now draft.new.keeper.now }
+    ensures pending { draft.new.pending ≡ draft.old.pending }
+    ensures damaged { IsUnfounded (K.contents draft.old.keeper.now) draft.old.pending → IfSome (K.contents draft.new.keeper.now) (λ c. IfDamage result
+        (IsFound (K.contents draft.new.keeper.now) draft.old.pending (with_all c draft.old.pending.batch))) }
+    ensures failed { result ≡ StoreError.Failed → Rose (K.faults draft.old.keeper.now) (K.faults draft.new.keeper.now) }
+{
+    let count = draft.count();
+    if count == 0 {
+        return StoreError::NoMemory;
+    }
+    draft.log_held(Pos(count - 1))
+}
+
+/// The roster's record of a new revision's first parent, or without one the last record of the log: those of a store that
+/// stands for no state, as the caller found.
+pub fn unfit<K: Keeper>(draft: &mut Draft<'_, K>, parent: Option<Pos>) -> StoreError
+    ensures same_reference { draft.new.keeper.ghost_name ≡ draft.old.keeper.ghost_name }
+    ensures stays { Stays K.contents K.leaves K.faults draft.old.keeper.now draft.new.keeper.now }
+    ensures pending { draft.new.pending ≡ draft.old.pending }
+    ensures damaged { IsUnfounded (K.contents draft.old.keeper.now) draft.old.pending → IfSome (K.contents draft.new.keeper.now) (λ c. IfDamage result
+        (IsFound (K.contents draft.new.keeper.now) draft.old.pending (with_all c draft.old.pending.batch))) }
+    ensures failed { result ≡ StoreError.Failed → Rose (K.faults draft.old.keeper.now) (K.faults draft.new.keeper.now) }
+{
+    match parent {
+        Some(at) => draft.roster_held(at),
+        None => last_held(draft),
+    }
+}

@@ -1,0 +1,44 @@
+-- The history that the texts of a log spell, and lawful states.
+use Rattle.std.specs.Prelude.{◌≡◌, ◌≤◌, ℕ, List, length, take, Some, None, slice_get}
+use Rattle.std.specs.FinMap.{empty, get}
+use Rattle.mtn_base.specs.Hex.{id_of}
+use Rattle.mtn_basic_io.specs.Spelling.{AreStanzas}
+use Rattle.mtn_changes.specs.declared.change.Revision.{Revision as Spelled}
+use Rattle.mtn_changes.specs.RevisionText.{IsRevisionText, revision_stanzas}
+use Rattle.mtn_history_laws.specs.History.{Revision}
+use Rattle.mtn_model.specs.Table.{Table}
+use Rattle.mtn_model.specs.State.{Logged, State, AreFiles}
+use Rattle.mtn_replay.specs.Making.{made, place_of, refusal_of}
+
+-- the text spells this revision, whose ids are twenty bytes each
+pub record Spells (text : List ℕ) (r : Spelled) : Type 0 where
+  pub reads : IsRevisionText text r
+  pub stanzas : AreStanzas (revision_stanzas r)
+
+-- A text of the log, and the revision that it makes of the history before it: within its limit of 64 MiB, of a new id
+-- that is the ident's, and accepted by every rule
+pub record IsNext (f : List ℕ → List ℕ) (files : Table) (h : List Revision) (l : Logged) (v : Revision) : Type 0 where
+  pub short : length l.text ≤ 67108864
+  pub id : f l.text ≡ l.id
+  pub fresh : place_of h (id_of l.id) ≡ None
+  pub read : Spelled
+  pub spells : Spells l.text read
+  pub accepted : refusal_of f files h (id_of l.id) read ≡ None
+  pub made : v ≡ made h (id_of l.id) read.edges
+
+-- every file of the one table is in the other
+abbrev pub Keeps : Table → Table → Type 0
+Keeps files more = (id bytes : List ℕ) → get files id ≡ Some bytes → get more id ≡ Some bytes
+
+-- the revisions of a log, each made of the history before it
+pub record IsHistory (f : List ℕ → List ℕ) (files : Table) (log : List Logged) (h : List Revision) : Type 0 where
+  pub long : length h ≡ length log
+  pub each : (k : ℕ) (l : Logged) (v : Revision) → slice_get log k ≡ Some l → slice_get h k ≡ Some v → IsNext f files (take k h) l v
+
+-- A lawful state: its files, and a log that spells a history. No command of today adds a certificate; one that does puts
+-- their law in place of the last field
+pub record IsLawful (f : List ℕ → List ℕ) (s : State) : Type 0 where
+  pub files : AreFiles f s.files
+  pub history : List Revision
+  pub log : IsHistory f s.files s.log history
+  pub certs : s.certs ≡ empty

@@ -1,6 +1,0 @@
-use Rattle.std.proofs.Common.{◌≡◌, take, map}
-use Rattle.mtn_views.specs.Views.{mark_stanza}
-use Rattle.mtn_views.proofs.content.marks_text.Given as goal
-
-abbrev pub invariant-loop-id : goal.invariant-loop-id
-invariant-loop-id l = l.stanzas.items ≡ map mark_stanza (take l.id-index l.ids)
