@@ -5,11 +5,12 @@ use Rattle.mtn_base.specs.Names.{same_id}
 use Rattle.mtn_base.specs.declared.id.Id.{Id}
 use Rattle.mtn_base.specs.declared.name.NodeName.{NodeName}
 use Rattle.mtn_roster.specs.declared.entry.Entry.{Entry}
-use Rattle.mtn_roster.specs.Tree.{Tree, is_some_with}
-use Rattle.mtn_roster.proofs.Finding.{passing_some}
+use Rattle.mtn_roster.specs.Tree.{Tree}
+use Rattle.mtn_base.specs.Lists.{is_some_with}
+use Rattle.mtn_base.proofs.Finding.{passing_some}
 use Rattle.mtn_roster.proofs.Forest.{name_of, split_of}
 use Rattle.mtn_roster.proofs.BySlot.{standing}
-use Rattle.mtn_roster.proofs.Tests.{same_id-is, same_id-self}
+use Rattle.mtn_base.proofs.Tests.{same_id-is, same_id-self}
 use Rattle.mtn_changeset_laws.specs.Laws.{IsOldTree, NoneBornIn}
 use Rattle.mtn_changeset_laws.proofs.AfterSane.{forest_before}
 use Rattle.mtn_apply.proofs.OldKeys.{placed_in}

@@ -16,14 +16,15 @@ use Rattle.mtn_roster.specs.declared.entry.Attr.{Attr}
 use Rattle.mtn_roster.specs.declared.entry.Entry.{Entry}
 use Rattle.mtn_roster.specs.declared.entry.Body.{Body}
 use Rattle.mtn_roster.specs.declared.entry.Body.TheVariants.{Dir, File}
-use Rattle.mtn_roster.specs.Tree.{Tree, entry_of, placed, ordered, in_order, rises, IsSane, IsSaneMap}
+use Rattle.mtn_roster.specs.Tree.{Tree, entry_of, in_order, IsSane, IsSaneMap}
+use Rattle.mtn_base.specs.Lists.{placed, ordered, rises}
 use Rattle.mtn_roster.specs.Building.{NamesDiffer, KeysDiffer, with_keys_in_order, tree_of, IsBuildable}
-use Rattle.mtn_roster.proofs.Finding.{Split, later, list_any-here}
-use Rattle.mtn_roster.proofs.Members.{head, of_append, of_filter_map}
-use Rattle.mtn_roster.proofs.Tests.{same_bytes-is, same_bytes-self, same_name-is, same_name-self, same_path-self}
+use Rattle.mtn_base.proofs.Finding.{Split, later, list_any-here}
+use Rattle.mtn_base.proofs.Members.{head, of_append, of_filter_map}
+use Rattle.mtn_base.proofs.Tests.{same_bytes-is, same_bytes-self, same_name-is, same_name-self, same_path-self}
 use Rattle.mtn_roster.proofs.Forest.{IsForest}
-use Rattle.mtn_roster.proofs.Looking.{bytes_total, exact_bytes, names_total, exact_names}
-use Rattle.mtn_roster.proofs.Sorting.{low_at, rest_rises, goes, of_ordered, in_ordered, one_sorted, ordered-rises, rising_differ}
+use Rattle.mtn_base.proofs.Orders.{bytes_total, exact_bytes, names_total, exact_names}
+use Rattle.mtn_base.proofs.Sorting.{low_at, rest_rises, goes, of_ordered, in_ordered, one_sorted, ordered-rises, rising_differ}
 use Rattle.mtn_changes.specs.declared.change.Change.{Change}
 use Rattle.mtn_changes.specs.declared.change.Change.TheVariants.{Delete, Rename, AddDir, AddFile, Patch, Clear, Set}
 use Rattle.mtn_changeset_laws.specs.Changes.{aims_at, edited, edited_by, is_deleted, moves, slot_by, slot_up, old_after, added_by, added_at, first_fault, tree_after}

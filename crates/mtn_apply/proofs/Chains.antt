@@ -9,9 +9,9 @@ use Rattle.mtn_base.specs.declared.id.Id.{Id}
 use Rattle.mtn_roster.specs.declared.entry.Attr.{Attr}
 use Rattle.mtn_roster.specs.declared.entry.Entry.{Entry}
 use Rattle.mtn_roster.specs.Tree.{Tree}
-use Rattle.mtn_roster.proofs.Looking.{bytes_total}
-use Rattle.mtn_roster.proofs.Members.{taken}
-use Rattle.mtn_roster.proofs.Sorting.{rises_placed}
+use Rattle.mtn_base.proofs.Orders.{bytes_total}
+use Rattle.mtn_base.proofs.Members.{taken}
+use Rattle.mtn_base.proofs.Sorting.{rises_placed}
 use Rattle.mtn_changes.specs.declared.change.Change.{Change}
 use Rattle.mtn_changes.specs.declared.change.Change.TheVariants.{Delete, Rename, AddDir, AddFile, Patch, Clear, Set}
 use Rattle.mtn_changeset_laws.specs.Changes.{edited, edited_by}

@@ -9,14 +9,15 @@ use Rattle.mtn_base.specs.Names.{same_bytes, bytes_cmp, name_cmp}
 use Rattle.mtn_base.specs.declared.name.NodeName.{NodeName}
 use Rattle.mtn_roster.specs.declared.entry.Entry.{Entry}
 use Rattle.mtn_roster.specs.declared.entry.Slot.TheVariants.{Below}
-use Rattle.mtn_roster.specs.Tree.{Tree, is_some_with, entry_of, IsSane}
+use Rattle.mtn_roster.specs.Tree.{Tree, entry_of, IsSane}
+use Rattle.mtn_base.specs.Lists.{is_some_with}
 use Rattle.mtn_roster.specs.Walk.{is_below, component, children_of}
-use Rattle.mtn_roster.proofs.Finding.{Split, later, some_passes, list_any-here}
-use Rattle.mtn_roster.proofs.Members.{head, split_cons, taken}
-use Rattle.mtn_roster.proofs.Tests.{both_true, same_bytes-is, same_bytes-self}
+use Rattle.mtn_base.proofs.Finding.{Split, later, some_passes, list_any-here}
+use Rattle.mtn_base.proofs.Members.{head, split_cons, taken}
+use Rattle.mtn_base.proofs.Tests.{both_true, same_bytes-is, same_bytes-self}
 use Rattle.mtn_roster.proofs.Ordered.{forest_of}
-use Rattle.mtn_roster.proofs.Looking.{bytes_total, names_total, exact_bytes}
-use Rattle.mtn_roster.proofs.Sorting.{no_split, of_ordered, in_ordered, less_at}
+use Rattle.mtn_base.proofs.Orders.{bytes_total, names_total, exact_bytes}
+use Rattle.mtn_base.proofs.Sorting.{no_split, of_ordered, in_ordered, less_at}
 use Rattle.mtn_roster.proofs.Walking.{of_filter, in_filter, filter_rises, below_slot}
 use Rattle.mtn_changeset_laws.specs.Laws.{IsOldTree}
 

@@ -7,7 +7,8 @@ use Rattle.std.proofs.lemmas.Option.{slice_get-get_or}
 use Rattle.mtn_base.specs.Names.{same_name}
 use Rattle.mtn_base.specs.declared.id.Id.{Id}
 use Rattle.mtn_base.specs.declared.name.NodeName.{NodeName}
-use Rattle.mtn_roster.specs.Tree.{Tree, is_some_with}
+use Rattle.mtn_roster.specs.Tree.{Tree}
+use Rattle.mtn_base.specs.Lists.{is_some_with}
 use Rattle.mtn_changes.specs.declared.change.Change.{Change}
 use Rattle.mtn_apply.specs.Edits.{touches, next_edit}
 use Rattle.mtn_apply.proofs.Positions.{one_before, none_left}

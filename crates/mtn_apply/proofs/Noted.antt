@@ -7,10 +7,10 @@ use Rattle.std.proofs.lemmas.Bool.{cases_lt}
 use Rattle.mtn_base.specs.Names.{name_cmp, same_name}
 use Rattle.mtn_roster.specs.declared.entry.Entry.{Entry}
 use Rattle.mtn_roster.specs.Tree.{Tree}
-use Rattle.mtn_roster.proofs.Members.{taken}
-use Rattle.mtn_roster.proofs.Looking.{names_total}
-use Rattle.mtn_roster.proofs.Sorting.{less_at}
-use Rattle.mtn_roster.proofs.Tests.{same_name-is, same_name-self}
+use Rattle.mtn_base.proofs.Members.{taken}
+use Rattle.mtn_base.proofs.Orders.{names_total}
+use Rattle.mtn_base.proofs.Sorting.{less_at}
+use Rattle.mtn_base.proofs.Tests.{same_name-is, same_name-self}
 use Rattle.mtn_changeset_laws.specs.Laws.{IsOldTree}
 use Rattle.mtn_apply.specs.Maps.{of_place}
 use Rattle.mtn_apply.specs.Index.{first_from}

@@ -8,11 +8,12 @@ use Rattle.mtn_roster.specs.declared.entry.Entry.{Entry}
 use Rattle.mtn_roster.specs.declared.entry.Attr.{Attr}
 use Rattle.mtn_roster.specs.declared.entry.Slot.{Slot}
 use Rattle.mtn_roster.specs.declared.entry.Slot.TheVariants.{Root}
-use Rattle.mtn_roster.specs.Tree.{Tree, at_slot, root_of, child_of, node_up, node_at, is_dir, same_slot, rises}
-use Rattle.mtn_roster.proofs.Finding.{Split, found, later}
-use Rattle.mtn_roster.proofs.Members.{head}
+use Rattle.mtn_roster.specs.Tree.{Tree, at_slot, root_of, child_of, node_up, node_at, is_dir, same_slot}
+use Rattle.mtn_base.specs.Lists.{rises}
+use Rattle.mtn_base.proofs.Finding.{Split, found, later}
+use Rattle.mtn_base.proofs.Members.{head}
 use Rattle.mtn_roster.proofs.Forest.{chained}
-use Rattle.mtn_roster.proofs.Sorting.{no_split}
+use Rattle.mtn_base.proofs.Sorting.{no_split}
 use Rattle.mtn_changes.specs.declared.change.Change.{Change}
 use Rattle.mtn_changes.specs.declared.change.Change.TheVariants.{Delete, Rename, AddDir, AddFile, Patch, Clear, Set}
 use Rattle.mtn_changeset_laws.specs.Changes.{Occupant, is_kept, if_kept, kept_child, put_by, occupant_by, occupant_up, occupant, aims_at}

@@ -9,9 +9,9 @@ use Rattle.std.proofs.Common.{◌≡◌, ℕ, true, List, [], ◌∷◌, ◌++�
 use Rattle.mtn_base.specs.Names.{bytes_cmp}
 use Rattle.mtn_roster.specs.declared.entry.Attr.{Attr}
 use Rattle.mtn_roster.specs.Tree.{with_attr}
-use Rattle.mtn_roster.proofs.Looking.{bytes_total, exact_bytes}
-use Rattle.mtn_roster.proofs.Members.{head}
-use Rattle.mtn_roster.proofs.Sorting.{low_at, rest_rises}
+use Rattle.mtn_base.proofs.Orders.{bytes_total, exact_bytes}
+use Rattle.mtn_base.proofs.Members.{head}
+use Rattle.mtn_base.proofs.Sorting.{low_at, rest_rises}
 use Rattle.mtn_roster.specs.Attrs.{are_keyed}
 use Rattle.mtn_apply.specs.Edits.{attr_at}
 

@@ -11,12 +11,12 @@ use Rattle.std.proofs.lemmas.List.{at_drop_more, at_drop_all}
 use Rattle.mtn_base.specs.Names.{path_cmp, name_cmp, same_path, same_name}
 use Rattle.mtn_base.specs.declared.name.NodeName.{NodeName}
 use Rattle.std.proofs.lemmas.Option.{slice_get-get_or}
-use Rattle.mtn_roster.proofs.Members.{placed_at}
+use Rattle.mtn_base.proofs.Members.{placed_at}
 use Rattle.std.proofs.lemmas.Bool.Decides.{nat_tests}
-use Rattle.mtn_roster.specs.Tree.{is_some_with}
-use Rattle.mtn_roster.proofs.Looking.{paths_total, names_total, exact_names}
+use Rattle.mtn_base.specs.Lists.{is_some_with}
+use Rattle.mtn_base.proofs.Orders.{paths_total, names_total, exact_names}
 use Rattle.mtn_roster.proofs.Paths.{exact_paths}
-use Rattle.mtn_roster.proofs.Tests.{same_path-is, same_path-self, same_name-is, same_name-self}
+use Rattle.mtn_base.proofs.Tests.{same_path-is, same_path-self, same_name-is, same_name-self}
 
 eq_was : (r : Ordering) → is_eq r ≡ true → r ≡ Equal
 eq_was Less h = absurd cc

@@ -3,7 +3,7 @@ use Rattle.std.specs.BTreeMap.{is_at}
 use Rattle.std.proofs.Common.{◌≡◌, ℕ, Bool, true, false, cond, List, Option, Some, None, refl, sym, ◌∙◌, ap}
 use Rattle.mtn_base.specs.Names.{path_cmp, name_cmp, same_path, same_name}
 use Rattle.mtn_base.specs.declared.name.NodeName.{NodeName}
-use Rattle.mtn_roster.proofs.Tests.{same_path-is, same_name-is}
+use Rattle.mtn_base.proofs.Tests.{same_path-is, same_name-is}
 use Rattle.mtn_apply.specs.Spare.{is_spare}
 use Rattle.mtn_apply.proofs.Positions.{at_path, at_name}
 

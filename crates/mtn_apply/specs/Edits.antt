@@ -8,7 +8,8 @@ use Rattle.mtn_base.specs.declared.name.NodeName.{NodeName}
 use Rattle.mtn_roster.specs.declared.entry.Attr.{Attr}
 use Rattle.mtn_roster.specs.declared.entry.Entry.{Entry}
 use Rattle.mtn_roster.specs.declared.entry.Body.TheVariants.{File}
-use Rattle.mtn_roster.specs.Tree.{Tree, is_some_with, with_attr}
+use Rattle.mtn_roster.specs.Tree.{Tree, with_attr}
+use Rattle.mtn_base.specs.Lists.{is_some_with}
 use Rattle.mtn_changes.specs.declared.change.Change.{Change}
 use Rattle.mtn_changes.specs.declared.change.Change.TheVariants.{Patch, Clear, Set}
 use Rattle.mtn_changeset_laws.specs.Changes.{is_at, old_after, added_by}

@@ -1,6 +1,6 @@
 -- Marks that tell of paths that they are not in a map.
 use Rattle.std.specs.Prelude.{ℕ, ◌+◌, ◌-◌, ◌*◌, ◌%◌, Bool, cond, nat_eq, List, length, fold, slice_get, Option, Some, None}
-use Rattle.mtn_roster.specs.Tree.{is_some_with}
+use Rattle.mtn_base.specs.Lists.{is_some_with}
 
 -- a number of some bytes, one byte more each time
 abbrev pub next_number : ℕ → ℕ → ℕ

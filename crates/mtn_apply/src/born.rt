@@ -2,7 +2,7 @@
 ghost use Rattle.std.specs.Prelude.{◌≡◌, ◌↔◌, IsTrue, slice_get};
 ghost use Rattle.mtn_base.specs.Names.{same_id};
 ghost use Rattle.mtn_roster.specs.declared.entry.Entry.{Entry};
-ghost use Rattle.mtn_roster.specs.Tree.{is_some_with};
+ghost use Rattle.mtn_base.specs.Lists.{is_some_with};
 ghost use Rattle.mtn_changeset_laws.specs.Laws.{NoneBornIn};
 ghost use Rattle.mtn_apply.specs.Old.{tree_in};
 

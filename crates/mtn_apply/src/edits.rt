@@ -4,7 +4,7 @@ ghost use Rattle.mtn_apply.specs.Maps.{of_name};
 ghost use Rattle.mtn_base.specs.Names.{same_name};
 ghost use Rattle.mtn_base.specs.declared.name.NodeName.{NodeName};
 ghost use Rattle.mtn_roster.specs.declared.entry.Entry.{Entry};
-ghost use Rattle.mtn_roster.specs.Tree.{is_some_with};
+ghost use Rattle.mtn_base.specs.Lists.{is_some_with};
 ghost use Rattle.mtn_changes.specs.declared.change.Change.{Change};
 ghost use Rattle.mtn_changeset_laws.specs.Changes.{occupant_name, edited_by};
 ghost use Rattle.mtn_apply.specs.Old.{seen};

@@ -2,7 +2,8 @@
 ghost use Rattle.std.specs.Prelude.{◌≡◌, ◌+◌, ℕ, List, Some, cond, length, slice_get, option_copied, IfOk, OnOk};
 ghost use Rattle.mtn_apply.specs.Maps.{of_place, of_path};
 ghost use Rattle.mtn_base.specs.Names.{same_path};
-ghost use Rattle.mtn_roster.specs.Tree.{Tree, is_some_with};
+ghost use Rattle.mtn_roster.specs.Tree.{Tree};
+ghost use Rattle.mtn_base.specs.Lists.{is_some_with};
 ghost use Rattle.mtn_roster.specs.declared.entry.Entry.{Entry};
 ghost use Rattle.mtn_changeset_laws.specs.Changes.{aims_at, deletes, moves, stands_at};
 ghost use Rattle.mtn_apply.specs.Old.{tree_in};

@@ -1,6 +1,7 @@
 // Who stands where in the new tree.
 ghost use Rattle.std.specs.Prelude.{◌≡◌, ◌<◌, not, find, length, slice_get, option_map, option_and_then, option_copied, IfOk};
-ghost use Rattle.mtn_roster.specs.Tree.{Tree, is_some_with, root_of};
+ghost use Rattle.mtn_roster.specs.Tree.{Tree, root_of};
+ghost use Rattle.mtn_base.specs.Lists.{is_some_with};
 ghost use Rattle.mtn_changeset_laws.specs.Changes.Occupant.{Old};
 ghost use Rattle.mtn_changeset_laws.specs.Changes.{aims_at, put_by as puts, is_deleted as deletes_it, is_moved as moves_it, is_kept as keeps_it, if_kept as kept_or_none, kept_child as kept_below, occupant_by, occupant};
 ghost use Rattle.mtn_apply.specs.Old.{tree_in, seen, entry_in, IsNode, IsOldNode, IsPlaced};

@@ -1,7 +1,8 @@
 // The tests on the target of a change.
 ghost use Rattle.std.specs.Prelude.{◌≡◌, ◌||◌, ◌&&◌, ◌∷◌, [], ℕ, List, not, take, reverse, option_map, option_and_then, option_copied, is_none, is_some, Some, IfOk};
 ghost use Rattle.mtn_base.specs.Names.{same_path};
-ghost use Rattle.mtn_roster.specs.Tree.{is_some_with, mtn};
+ghost use Rattle.mtn_base.specs.Lists.{is_some_with};
+ghost use Rattle.mtn_roster.specs.Tree.{mtn};
 ghost use Rattle.mtn_changeset_laws.specs.Changes.{aside_up, parent_up, is_empty, is_file as stands_file, is_taken as takes, lacks_parent as lacks, is_below_file as below_file, kept_child as kept_below, hangs_there as hangs, is_slot_below as slot_is_below, aims_at};
 ghost use Rattle.std.specs.List.{list_any};
 ghost use Rattle.mtn_changeset_laws.specs.Changes.Occupant.{Old};

@@ -1,2 +1,9 @@
 pub mod IdLemmas
 pub mod PathLemmas
+pub mod Finding
+pub mod Members
+pub mod Tests
+pub mod Orders
+pub mod Placed
+pub mod Sorting
+pub mod IdOrder

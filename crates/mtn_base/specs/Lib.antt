@@ -3,3 +3,5 @@ pub mod Hex
 pub mod Names
 pub mod Paths
 pub mod Refusals
+pub mod Lists
+pub mod Ids

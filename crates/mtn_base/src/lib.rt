@@ -5,10 +5,13 @@
 //! as its contract says.
 //!
 //! The crates above rely on this: ids, components and paths are read and printed exactly, compared by
-//! their bytes, and a refusal prints exactly one line.
+//! their bytes, and a refusal prints exactly one line. Lists in the order of a key are `specs/Lists.antt`;
+//! ids that are put in order are the same ids, ascending, each once, and two such lists with the same ids
+//! are one (`proofs/IdOrder.antt`).
 #![tactic(auto)]
 
 mod id;
+mod ids;
 mod limit;
 mod list;
 mod name;
@@ -19,6 +22,7 @@ mod refusal;
 mod refusal_line;
 
 pub use id::Id;
+pub use ids::put_in_order;
 pub use limit::{MAX_LOG, MAX_TEXT, room_in_log};
 pub use list::{Bytes, List};
 pub use name::NodeName;

@@ -17,9 +17,9 @@ use Rattle.mtn_roster.specs.Tree.EndsAtRoot.{top, under}
 use Rattle.mtn_changeset_laws.specs.Changes.{Occupant, occupant, occupant_name, occupant_body, occupant_up, is_content, has_content, is_deleted, put_by, slot_up, is_at, edited, edited_by, old_after, added_at, added_by, tree_after}
 use Rattle.mtn_changeset_laws.specs.Changes.Occupant.{Old, Added}
 use Rattle.mtn_changeset_laws.specs.Laws.{NoneBornIn}
-use Rattle.mtn_roster.proofs.Finding.{passing_some, Split, later, found, finds_some}
-use Rattle.mtn_roster.proofs.Members.{head, of_append, in_left, in_right, of_filter_map, in_filter_map}
-use Rattle.mtn_roster.proofs.Tests.{same_name-is, same_name-self, same_path-self}
+use Rattle.mtn_base.proofs.Finding.{passing_some, Split, later, found, finds_some}
+use Rattle.mtn_base.proofs.Members.{head, of_append, in_left, in_right, of_filter_map, in_filter_map}
+use Rattle.mtn_base.proofs.Tests.{same_name-is, same_name-self, same_path-self}
 use Rattle.mtn_changeset_laws.proofs.Passing.{Passes, patched}
 use Rattle.mtn_roster.proofs.Forest.{IsForest, same_some, split_of, at_slot-of, node_there, one_path}
 use Rattle.mtn_roster.proofs.Looking.{entry_of-in_order}

@@ -11,7 +11,7 @@ use Rattle.mtn_roster.specs.declared.entry.Entry.{Entry}
 use Rattle.mtn_changeset_laws.specs.Changes.{Occupant, first_fault, tree_after, occupant, occupant_name}
 use Rattle.mtn_changeset_laws.specs.Changes.Occupant.{Old, Added}
 use Rattle.mtn_changeset_laws.specs.Laws.{IsOldTree, RenamesDiffer, NoneBornIn, AreNamedByPath}
-use Rattle.mtn_roster.proofs.Finding.{Split}
+use Rattle.mtn_base.proofs.Finding.{Split}
 use Rattle.mtn_changeset_laws.proofs.Passing.{passes}
 use Rattle.mtn_roster.proofs.Forest.{IsForest}
 use Rattle.mtn_changeset_laws.proofs.After.{after_sane, at_paths}

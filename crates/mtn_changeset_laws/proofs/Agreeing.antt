@@ -10,9 +10,10 @@ use Rattle.mtn_roster.specs.declared.entry.Entry.{Entry}
 use Rattle.mtn_roster.specs.declared.entry.Attr.{Attr}
 use Rattle.mtn_roster.specs.declared.entry.Body.{Body}
 use Rattle.mtn_roster.specs.declared.entry.Body.TheVariants.{Dir, File}
-use Rattle.mtn_roster.specs.Tree.{is_some_with, attr_of, live_of, with_attr}
-use Rattle.mtn_roster.proofs.Finding.{Split, either_false, found, passing_some}
-use Rattle.mtn_roster.proofs.Tests.{same_bytes-is, same_id-is, same_name-is}
+use Rattle.mtn_base.specs.Lists.{is_some_with}
+use Rattle.mtn_roster.specs.Tree.{attr_of, live_of, with_attr}
+use Rattle.mtn_base.proofs.Finding.{Split, either_false, found, passing_some}
+use Rattle.mtn_base.proofs.Tests.{same_bytes-is, same_id-is, same_name-is}
 use Rattle.mtn_roster.proofs.Looking.{attr_of-with_attr}
 use Rattle.mtn_changeset_laws.specs.Changes.{or_else}
 use Rattle.mtn_changeset_laws.specs.Joining.{is_old, same_body, has_live, same_live, disagree, joined_attrs}

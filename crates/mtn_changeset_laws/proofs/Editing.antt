@@ -19,14 +19,15 @@ use Rattle.mtn_changes.specs.Slots.{slot_of, slot_cmp}
 use Rattle.mtn_changes.specs.Sorting.{AreUnsorted}
 use Rattle.mtn_changes.proofs.Places.{slot_total}
 use Rattle.mtn_changes.proofs.Sorted.{at}
-use Rattle.mtn_roster.specs.Tree.{Tree, is_some_with, node_at, attr_of, with_attr}
-use Rattle.mtn_roster.proofs.Finding.{Split, later}
-use Rattle.mtn_roster.proofs.Members.{head, split_cons}
-use Rattle.mtn_roster.proofs.Tests.{told, both_true, same_path-is, same_path-self, same_bytes-is, same_bytes-self, same_name-self}
+use Rattle.mtn_roster.specs.Tree.{Tree, node_at, attr_of, with_attr}
+use Rattle.mtn_base.specs.Lists.{is_some_with}
+use Rattle.mtn_base.proofs.Finding.{Split, later}
+use Rattle.mtn_base.proofs.Members.{head, split_cons}
+use Rattle.mtn_base.proofs.Tests.{told, both_true, same_path-is, same_path-self, same_bytes-is, same_bytes-self, same_name-self}
 use Rattle.mtn_roster.proofs.Forest.{IsForest, same_some, one_path}
 use Rattle.mtn_roster.proofs.Looking.{attr_of-with_attr}
 use Rattle.mtn_roster.proofs.Ordered.{forest_of}
-use Rattle.mtn_roster.proofs.Sorting.{no_split}
+use Rattle.mtn_base.proofs.Sorting.{no_split}
 use Rattle.mtn_changeset_laws.specs.Changes.{Occupant, first_fault, occupant, occupant_name, occupant_body, is_at, edited, edited_by, or_else, slot_up, tree_after}
 use Rattle.mtn_changeset_laws.specs.Changes.Occupant.{Old, Added}
 use Rattle.mtn_changeset_laws.specs.Laws.{IsOldTree, NoneBornIn, occupant_attrs, IsEditedOf}

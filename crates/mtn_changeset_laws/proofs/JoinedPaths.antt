@@ -6,9 +6,9 @@ use Rattle.mtn_roster.specs.declared.entry.Entry.{Entry}
 use Rattle.mtn_roster.specs.declared.entry.Slot.{Slot}
 use Rattle.mtn_roster.specs.declared.entry.Slot.TheVariants.{Root, Below}
 use Rattle.mtn_roster.specs.Tree.{Tree, entry_of, at_slot, child_of, node_up, node_at, path_of, attr_of, live_of, IsSane}
-use Rattle.mtn_roster.proofs.Tests.{told}
-use Rattle.mtn_roster.proofs.Finding.{Split}
-use Rattle.mtn_roster.proofs.Members.{in_right}
+use Rattle.mtn_base.proofs.Tests.{told}
+use Rattle.mtn_base.proofs.Finding.{Split}
+use Rattle.mtn_base.proofs.Members.{in_right}
 use Rattle.mtn_roster.proofs.Forest.{IsForest, same_some, split_of, at_slot-is, at_slot-of, node_below, node_there}
 use Rattle.mtn_roster.proofs.Ordered.{forest_of}
 use Rattle.mtn_roster.proofs.Pathing.{path_of-at}

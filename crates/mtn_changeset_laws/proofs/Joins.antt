@@ -14,18 +14,20 @@ use Rattle.mtn_roster.specs.declared.entry.Body.{Body}
 use Rattle.mtn_roster.specs.declared.entry.Body.TheVariants.{Dir, File}
 use Rattle.mtn_roster.specs.declared.entry.Slot.{Slot}
 use Rattle.mtn_roster.specs.declared.entry.Slot.TheVariants.{Root, Below}
-use Rattle.mtn_roster.specs.Tree.{Tree, rises, entry_of, node_at, path_of, attr_of, with_attr, is_dir, is_dir_body, mtn, EndsAtRoot, IsSane, IsSaneMap}
+use Rattle.mtn_roster.specs.Tree.{Tree, entry_of, node_at, path_of, attr_of, with_attr, is_dir, is_dir_body, mtn, EndsAtRoot, IsSane, IsSaneMap}
+use Rattle.mtn_base.specs.Lists.{rises}
 use Rattle.mtn_roster.specs.Tree.EndsAtRoot.{top, under}
 use Rattle.mtn_changeset_laws.specs.Joining.{JoinWhy, is_old, same_body, same_live, disagree, is_revived, join_why, fault_at, least, join_fault, joined_name, counterpart, joined_slot, joined_attrs, other_attrs, joined_entry, joined}
 use Rattle.mtn_changeset_laws.specs.Joining.JoinWhy.{Disagree, Revived}
 use Rattle.mtn_changeset_laws.specs.Laws.{CommonAreKnown}
-use Rattle.mtn_roster.proofs.Finding.{Split, later, found, finds_some, either_false}
-use Rattle.mtn_roster.proofs.Members.{head, split_cons, in_left, in_filter_map}
-use Rattle.mtn_roster.proofs.Tests.{told, both_true, same_id-is, same_id-self, same_name-is, same_name-self}
+use Rattle.mtn_base.proofs.Finding.{Split, later, found, finds_some, either_false}
+use Rattle.mtn_base.proofs.Members.{head, split_cons, in_left, in_filter_map}
+use Rattle.mtn_base.proofs.Tests.{told, both_true, same_id-is, same_id-self, same_name-is, same_name-self}
 use Rattle.mtn_changeset_laws.proofs.Passing.{unnot}
 use Rattle.mtn_roster.proofs.Forest.{IsForest, same_some, name_of, own, split_of, node_there}
-use Rattle.mtn_roster.proofs.Looking.{entry_of-in_order, keeps_key, bytes_total, attr_of-with_attr}
-use Rattle.mtn_roster.proofs.Sorting.{rises_placed}
+use Rattle.mtn_roster.proofs.Looking.{entry_of-in_order, keeps_key, attr_of-with_attr}
+use Rattle.mtn_base.proofs.Orders.{bytes_total}
+use Rattle.mtn_base.proofs.Sorting.{rises_placed}
 use Rattle.mtn_roster.proofs.Ordered.{forest_of, in_order-rises}
 use Rattle.mtn_changeset_laws.proofs.Keeping.{has_rising_keys, in_order-all}
 use Rattle.mtn_roster.proofs.Pathing.{path_leads, path_of-at}

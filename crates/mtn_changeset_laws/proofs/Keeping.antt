@@ -13,11 +13,12 @@ use Rattle.mtn_roster.specs.declared.entry.Attr.{Attr}
 use Rattle.mtn_roster.specs.declared.entry.Body.TheVariants.{Dir, File}
 use Rattle.mtn_changes.specs.declared.change.Change.{Change}
 use Rattle.mtn_changes.specs.declared.change.Change.TheVariants.{Delete, Rename, AddDir, AddFile, Patch, Clear, Set}
-use Rattle.mtn_roster.specs.Tree.{Tree, placed, rises, in_order, is_in_order, with_attr}
+use Rattle.mtn_roster.specs.Tree.{Tree, in_order, is_in_order, with_attr}
+use Rattle.mtn_base.specs.Lists.{placed, rises}
 use Rattle.mtn_changeset_laws.specs.Changes.{is_at, edited, edited_by, is_deleted, old_after, added_by, tree_after, slot_up, slot_by, moves}
-use Rattle.mtn_roster.proofs.Tests.{both_true}
-use Rattle.mtn_roster.proofs.Looking.{bytes_total}
-use Rattle.mtn_roster.proofs.Sorting.{rises_placed}
+use Rattle.mtn_base.proofs.Tests.{both_true}
+use Rattle.mtn_base.proofs.Orders.{bytes_total}
+use Rattle.mtn_base.proofs.Sorting.{rises_placed}
 use Rattle.mtn_roster.proofs.Ordered.{in_order-rises}
 
 all_placed : {X K : Type 0} (cmp : K → K → Ordering) (key : X → K) (p : X → Bool) (a : X) (xs : List X) → p a ≡ true → list_all p xs ≡ true → list_all p (placed cmp key a xs) ≡ true

@@ -12,13 +12,14 @@ use Rattle.mtn_roster.specs.declared.entry.Slot.{Slot}
 use Rattle.mtn_roster.specs.declared.entry.Slot.TheVariants.{Root, Below}
 use Rattle.mtn_changes.specs.declared.change.Change.{Change}
 use Rattle.mtn_changes.specs.declared.change.Change.TheVariants.{Delete, Rename, AddDir, AddFile, Patch, Clear, Set}
-use Rattle.mtn_roster.specs.Tree.{Tree, is_some_with, entry_of, at_slot, root_of, child_of, node_at, is_dir, is_dir_body, mtn, EndsAtRoot}
+use Rattle.mtn_roster.specs.Tree.{Tree, entry_of, at_slot, root_of, child_of, node_at, is_dir, is_dir_body, mtn, EndsAtRoot}
+use Rattle.mtn_base.specs.Lists.{is_some_with}
 use Rattle.mtn_roster.specs.Tree.EndsAtRoot.{top, under}
 use Rattle.mtn_roster.specs.Walk.{is_below}
 use Rattle.mtn_changeset_laws.specs.Changes.{Occupant, occupant_name, occupant_body, is_file, is_empty, stands_at, moves, deletes, is_deleted, is_moved, is_kept, if_kept, aims_at, put_by, kept_child, occupant_by, occupant_up, aside_up, parent_up, has_kept_child, slot_up, slot_by}
 use Rattle.mtn_changeset_laws.specs.Changes.Occupant.{Old, Added}
-use Rattle.mtn_roster.proofs.Finding.{Split, found, find-first, find-none, finds_some, some_passes, none_passes, passing_some}
-use Rattle.mtn_roster.proofs.Tests.{told, both_true, same_name-is, same_name-self, same_path-is, same_path-self}
+use Rattle.mtn_base.proofs.Finding.{Split, found, find-first, find-none, finds_some, some_passes, none_passes, passing_some}
+use Rattle.mtn_base.proofs.Tests.{told, both_true, same_name-is, same_name-self, same_path-is, same_path-self}
 use Rattle.mtn_changeset_laws.proofs.Passing.{unnot, is_there, Passes, Target, renamed, added_file, deleted, target}
 use Rattle.mtn_roster.proofs.Forest.{IsForest, chained, same_some, name_of, split_of, own, at_slot-is, at_slot-of, node_there, one_path}
 

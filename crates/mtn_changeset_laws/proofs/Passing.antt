@@ -10,11 +10,12 @@ use Rattle.mtn_base.specs.declared.refusal.Why.{Why}
 use Rattle.mtn_roster.specs.declared.entry.Entry.{Entry}
 use Rattle.mtn_changes.specs.declared.change.Change.{Change}
 use Rattle.mtn_changes.specs.declared.change.Change.TheVariants.{Delete, Rename, AddDir, AddFile, Patch, Clear, Set}
-use Rattle.mtn_roster.specs.Tree.{Tree, is_some_with, node_at, mtn}
+use Rattle.mtn_roster.specs.Tree.{Tree, node_at, mtn}
+use Rattle.mtn_base.specs.Lists.{is_some_with}
 use Rattle.mtn_changeset_laws.specs.Changes.{Fault, Occupant, why, or_else, fault_from, first_fault, occupant, occupant_up, aside_up, parent_up, aims_at, is_empty, is_file, is_deleted, has_kept_child, kept_child, has_content}
 use Rattle.mtn_changeset_laws.specs.Changes.Occupant.{Old}
-use Rattle.mtn_roster.proofs.Finding.{Split, either_false}
-use Rattle.mtn_roster.proofs.Tests.{same_path-is}
+use Rattle.mtn_base.proofs.Finding.{Split, either_false}
+use Rattle.mtn_base.proofs.Tests.{same_path-is}
 
 pub not_first : (b : Bool) (w : Why) (o : Option Why) → cond b (Some w) o ≡ None → (b ≡ false) × (o ≡ None)
 not_first true w o h = absurd cc

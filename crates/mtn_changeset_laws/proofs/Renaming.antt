@@ -11,9 +11,9 @@ use Rattle.mtn_changes.specs.Slots.{slot_of}
 use Rattle.mtn_changes.specs.Sorting.{AreUnsorted}
 use Rattle.mtn_changes.proofs.Places.{slot_total}
 use Rattle.mtn_changes.proofs.Sorted.{at, count_more}
-use Rattle.mtn_roster.proofs.Finding.{Split}
-use Rattle.mtn_roster.proofs.Members.{split_cons, taken}
-use Rattle.mtn_roster.proofs.Sorting.{no_split}
+use Rattle.mtn_base.proofs.Finding.{Split}
+use Rattle.mtn_base.proofs.Members.{split_cons, taken}
+use Rattle.mtn_base.proofs.Sorting.{no_split}
 use Rattle.mtn_changeset_laws.specs.Laws.{RenamesDiffer}
 
 pub split_of_contains : {X : Type 0} (xs : List X) (x : X) → Contains xs x → Split xs x

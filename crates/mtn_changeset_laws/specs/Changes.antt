@@ -16,7 +16,8 @@ use Rattle.mtn_roster.specs.declared.entry.Body.TheVariants.{Dir, File}
 use Rattle.mtn_changes.specs.declared.change.Change.{Change}
 use Rattle.mtn_changes.specs.declared.change.Change.TheVariants.{Delete, Rename, AddDir, AddFile, Patch, Clear, Set}
 use Rattle.mtn_roster.specs.Walk.{is_below}
-use Rattle.mtn_roster.specs.Tree.{Tree, is_some_with, is_dir, is_dir_body, same_slot, root_of, child_of, node_at, live_of, with_attr, in_order, mtn}
+use Rattle.mtn_roster.specs.Tree.{Tree, is_dir, is_dir_body, same_slot, root_of, child_of, node_at, live_of, with_attr, in_order, mtn}
+use Rattle.mtn_base.specs.Lists.{is_some_with}
 
 -- what stands at a path of the new tree: a node of the old one, or one that a change adds
 pub data Occupant : Type 0 where

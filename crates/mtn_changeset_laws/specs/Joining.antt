@@ -12,7 +12,8 @@ use Rattle.mtn_roster.specs.declared.entry.Slot.{Slot}
 use Rattle.mtn_roster.specs.declared.entry.Slot.TheVariants.{Root, Below}
 use Rattle.mtn_roster.specs.declared.entry.Body.{Body}
 use Rattle.mtn_roster.specs.declared.entry.Body.TheVariants.{Dir, File}
-use Rattle.mtn_roster.specs.Tree.{Tree, is_some_with, entry_of, node_at, path_of, attr_of, live_of, with_attr, in_order}
+use Rattle.mtn_roster.specs.Tree.{Tree, entry_of, node_at, path_of, attr_of, live_of, with_attr, in_order}
+use Rattle.mtn_base.specs.Lists.{is_some_with}
 
 -- the node is not born in the new revision
 abbrev pub is_old : Id → Entry → Bool

@@ -12,8 +12,8 @@ use Rattle.mtn_graph_queries.specs.declared.query.Query.{Query}
 use Rattle.mtn_graph_queries.specs.declared.query.Query.TheVariants.{Parents, Children, Ancestors, Descendents, CommonAncestors, EraseAncestors, Toposort, AncestryDifference, Leaves, Roots}
 use Rattle.mtn_graph_queries.specs.Lines.{HasParents, IsGraph}
 use Rattle.mtn_graph_queries.specs.Queries.{by_place, order_of, IsAnswer, IsHeld, IsListOf, IsParent}
-use Rattle.mtn_ids.specs.Ids.{by_id}
-use Rattle.mtn_ids.proofs.Sorting.{by_id_total, one_way_of, OneWay}
+use Rattle.mtn_base.specs.Ids.{by_id}
+use Rattle.mtn_base.proofs.IdOrder.{by_id_total, one_way_of, OneWay}
 use Rattle.mtn_graph_queries.proofs.Sorting.{one_list_of}
 
 pub one_way_id : OneWay by_id

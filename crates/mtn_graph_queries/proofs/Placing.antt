@@ -11,7 +11,7 @@ use Rattle.mtn_graph_queries.specs.declared.query.QueryError.{QueryError}
 use Rattle.mtn_graph_queries.specs.declared.query.QueryError.TheVariants.{Unknown, NoMemory}
 use Rattle.mtn_graph_queries.specs.Queries.{NamesUnknown}
 use Rattle.mtn_graph_queries.specs.Queries.{first_unknown}
-use Rattle.mtn_ids.proofs.Sorting.{contains_nil, contains_head, contains_later, contains_cases}
+use Rattle.mtn_base.proofs.IdOrder.{contains_nil, contains_head, contains_later, contains_cases}
 
 module _ (h : List Revision) where
   -- a held id is known

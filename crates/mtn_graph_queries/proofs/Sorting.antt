@@ -6,8 +6,8 @@ use Rattle.std.specs.declared.cmp.Ordering.{Ordering}
 use Rattle.std.specs.declared.cmp.Ordering.TheVariants.{Less}
 use Rattle.std.proofs.Common.{◌≡◌, ◌↔◌, List, [], ◌∷◌, subst, sym}
 use Rattle.mtn_base.specs.declared.id.Id.{Id}
-use Rattle.mtn_ids.specs.Ids.{by_id, in_id_order}
-use Rattle.mtn_ids.proofs.Sorting.{contains_head, contains_later, in_order_ascends, in_order_same, one_list, OneWay}
+use Rattle.mtn_base.specs.Ids.{by_id, in_id_order}
+use Rattle.mtn_base.proofs.IdOrder.{contains_head, contains_later, in_order_ascends, in_order_same, one_list, OneWay}
 use Rattle.mtn_graph_queries.specs.Queries.{IsListOf}
 
 pub each_to : {X : Type 0} (P : X → Type 0) (xs : List X) → ((x : X) → Contains xs x → P x) → AllByRecursion P xs

@@ -11,7 +11,7 @@ use Rattle.mtn_ancestry.specs.Sets.{IsAscendingListOf}
 use Rattle.mtn_ancestry.specs.declared.pos.LogEntry.{LogEntry}
 use Rattle.mtn_ancestry.specs.declared.pos.ParentList.{ParentList}
 use Rattle.mtn_ancestry.proofs.Listing.{increasing_push}
-use Rattle.mtn_ids.proofs.Sorting.{contains_nil}
+use Rattle.mtn_base.proofs.IdOrder.{contains_nil}
 use Rattle.std.proofs.lemmas.List.Elements.{Contains-push, Contains-append_left, Contains-push_cases}
 
 -- exactly the positions below n with P

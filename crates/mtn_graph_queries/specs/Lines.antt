@@ -1,7 +1,7 @@
 -- The whole graph as lines: each revision with its parents (Monotone's manual: automate graph).
 use Rattle.std.specs.Prelude.{List, map, All}
 use Rattle.mtn_history_laws.specs.History.{Revision}
-use Rattle.mtn_ids.specs.Ids.{by_id}
+use Rattle.mtn_base.specs.Ids.{by_id}
 use Rattle.mtn_graph_queries.specs.Queries.{IsHeld, IsParent, IsListOf}
 use Rattle.mtn_graph_queries.specs.declared.query.Line.{Line}
 

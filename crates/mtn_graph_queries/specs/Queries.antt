@@ -8,7 +8,7 @@ use Rattle.std.specs.declared.cmp.Ordering.{Ordering}
 use Rattle.mtn_base.specs.declared.id.Id.{Id}
 use Rattle.mtn_ancestry.specs.Ancestors.{IsAncestor}
 use Rattle.mtn_history_laws.specs.History.{Revision, parents_at, IsPlaceOf}
-use Rattle.mtn_ids.specs.Ids.{by_id}
+use Rattle.mtn_base.specs.Ids.{by_id}
 use Rattle.mtn_replay.specs.Making.{place_of}
 use Rattle.mtn_graph_queries.specs.declared.query.Query.{Query}
 use Rattle.mtn_graph_queries.specs.declared.query.Query.TheVariants.{Parents, Children, Ancestors, Descendents, CommonAncestors, EraseAncestors, Toposort, AncestryDifference, Leaves, Roots}

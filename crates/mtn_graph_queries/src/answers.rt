@@ -3,7 +3,7 @@ ghost use Rattle.std.specs.Prelude.{◌≡◌, ◌<◌, List as Seq, Some, lengt
 ghost use Rattle.mtn_base.specs.declared.id.Id.{Id};
 ghost use Rattle.mtn_history_laws.specs.History.{IsPlaceOf, Revision};
 ghost use Rattle.mtn_replay.specs.Graphs.{Tells};
-ghost use Rattle.mtn_ids.specs.Ids.{by_id};
+ghost use Rattle.mtn_base.specs.Ids.{by_id};
 ghost use Rattle.mtn_graph_queries.specs.Queries.{Answers, IsAnswer, IsListOf, IsParent};
 
 use crate::ids::{ids_at, sorted_ids};

@@ -2,12 +2,11 @@
 ghost use Rattle.std.specs.Prelude.{◌≡◌, Contains, IfOk};
 ghost use Rattle.mtn_ancestry.specs.Log.{IsLog};
 ghost use Rattle.mtn_graph_queries.specs.Places.{ids_at as at_places};
-ghost use Rattle.mtn_ids.specs.Ids.{by_id};
+ghost use Rattle.mtn_base.specs.Ids.{by_id};
 ghost use Rattle.mtn_graph_queries.specs.Queries.{IsListOf};
 
 use mtn_ancestry::{Graph, Pos};
-use mtn_base::{Id, List, NoMemory};
-use mtn_ids::put_in_order;
+use mtn_base::{Id, List, NoMemory, put_in_order};
 use std::alloc::Global;
 
 // The ids of the revisions at these positions, in their order.

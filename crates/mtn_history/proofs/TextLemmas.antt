@@ -8,7 +8,7 @@ use Rattle.std.specs.Cmp.Lexicographic.{slice_cmp}
 use Rattle.std.specs.List.{copy_within}
 use Rattle.mtn_base.specs.Names.{same_bytes}
 use Rattle.mtn_base.specs.declared.id.Id.{Id}
-use Rattle.mtn_roster.proofs.Tests.{same_bytes-is, same_bytes-self}
+use Rattle.mtn_base.proofs.Tests.{same_bytes-is, same_bytes-self}
 use Rattle.mtn_model.specs.Table.{Table, Contents, body_at}
 use Rattle.mtn_model.specs.State.{Logged, State}
 use Rattle.mtn_ports.specs.Kept.{with_all, IsBody}

@@ -13,7 +13,7 @@ use Rattle.mtn_roster.specs.declared.entry.Slot.TheVariants.{Root, Below}
 use Rattle.mtn_roster.specs.Tree.{Tree, IsSane, path_up, path_of}
 use Rattle.mtn_roster.specs.Walk.{by_path, IsAbove}
 use Rattle.mtn_roster.proofs.Forest.{same_some}
-use Rattle.mtn_roster.proofs.Tests.{both_true, same_bytes-is, same_bytes-self}
+use Rattle.mtn_base.proofs.Tests.{both_true, same_bytes-is, same_bytes-self}
 use Rattle.mtn_roster.proofs.Walking.{child_path}
 use Rattle.mtn_join.specs.Join.{IsPairedAt, hangs_alike}
 use Rattle.mtn_roster.proofs.Along.{held, named_by, one_stop}

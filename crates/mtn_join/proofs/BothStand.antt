@@ -8,9 +8,9 @@ use Rattle.mtn_base.specs.declared.id.Id.{Id}
 use Rattle.mtn_base.specs.declared.name.NodeName.{NodeName}
 use Rattle.mtn_roster.specs.declared.entry.Entry.{Entry}
 use Rattle.mtn_roster.specs.Tree.{Tree, IsSane, entry_of}
-use Rattle.mtn_roster.proofs.Finding.{Split}
-use Rattle.mtn_roster.proofs.Members.{taken, place_of}
-use Rattle.mtn_roster.proofs.Tests.{told, both_true, same_id-is, same_id-self}
+use Rattle.mtn_base.proofs.Finding.{Split}
+use Rattle.mtn_base.proofs.Members.{taken, place_of}
+use Rattle.mtn_base.proofs.Tests.{told, both_true, same_id-is, same_id-self}
 use Rattle.mtn_roster.proofs.Forest.{same_some, name_of, split_of}
 use Rattle.mtn_roster.proofs.Ordered.{forest_of}
 use Rattle.mtn_roster.proofs.Leading.{get_within}

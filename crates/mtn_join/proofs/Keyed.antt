@@ -6,13 +6,15 @@ use Rattle.std.proofs.lemmas.List.{take_more}
 use Rattle.mtn_base.specs.Names.{same_bytes, bytes_cmp}
 use Rattle.mtn_roster.specs.declared.entry.Attr.{Attr}
 use Rattle.mtn_roster.specs.Attrs.{are_keyed}
-use Rattle.mtn_roster.specs.Tree.{ordered, attr_of, with_attr}
-use Rattle.mtn_roster.proofs.Finding.{Split, later, found}
+use Rattle.mtn_base.specs.Lists.{ordered}
+use Rattle.mtn_roster.specs.Tree.{attr_of, with_attr}
+use Rattle.mtn_base.proofs.Finding.{Split, later, found}
 use Rattle.mtn_roster.proofs.Keyed.{key_of, keyed_by, own_key}
-use Rattle.mtn_roster.proofs.Members.{head, taken}
-use Rattle.mtn_roster.proofs.Tests.{same_bytes-is, same_bytes-self}
-use Rattle.mtn_roster.proofs.Looking.{bytes_total, exact_bytes, find-placed}
-use Rattle.mtn_roster.proofs.Sorting.{one_sorted, ordered-rises, rises_placed, rising_differ}
+use Rattle.mtn_base.proofs.Members.{head, taken}
+use Rattle.mtn_base.proofs.Tests.{same_bytes-is, same_bytes-self}
+use Rattle.mtn_base.proofs.Orders.{bytes_total, exact_bytes}
+use Rattle.mtn_base.proofs.Placed.{find-placed}
+use Rattle.mtn_base.proofs.Sorting.{one_sorted, ordered-rises, rises_placed, rising_differ}
 use Rattle.mtn_changeset_laws.specs.Changes.{or_else}
 use Rattle.mtn_changeset_laws.specs.Joining.{joined_attrs}
 use Rattle.mtn_join.specs.Join.{both_attrs}

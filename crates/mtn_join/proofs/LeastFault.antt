@@ -12,14 +12,14 @@ use Rattle.mtn_base.specs.declared.id.Id.{Id}
 use Rattle.mtn_roster.specs.declared.entry.Entry.{Entry}
 use Rattle.mtn_roster.specs.Tree.{Tree, IsSane, node_at, path_of}
 use Rattle.mtn_roster.specs.Walk.{by_path}
-use Rattle.mtn_roster.proofs.Finding.{Split, later}
-use Rattle.mtn_roster.proofs.Members.{head, split_cons, of_append, in_left, in_right, of_filter_map, in_filter_map}
+use Rattle.mtn_base.proofs.Finding.{Split, later}
+use Rattle.mtn_base.proofs.Members.{head, split_cons, of_append, in_left, in_right, of_filter_map, in_filter_map}
 use Rattle.mtn_roster.proofs.Forest.{same_some, split_of, node_there}
-use Rattle.mtn_roster.proofs.Looking.{paths_total}
+use Rattle.mtn_base.proofs.Orders.{paths_total}
 use Rattle.mtn_roster.proofs.Ordered.{forest_of}
 use Rattle.mtn_roster.proofs.Paths.{exact_paths}
 use Rattle.mtn_roster.proofs.Pathing.{path_of-at}
-use Rattle.mtn_roster.proofs.Sorting.{no_split}
+use Rattle.mtn_base.proofs.Sorting.{no_split}
 use Rattle.mtn_roster.proofs.Leading.{get_within}
 use Rattle.mtn_changeset_laws.specs.Joining.{JoinWhy, join_why, fault_at, least, join_fault}
 use Rattle.mtn_changeset_laws.specs.Joining.JoinWhy.{Disagree}

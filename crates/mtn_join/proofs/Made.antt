@@ -16,13 +16,13 @@ use Rattle.mtn_roster.specs.declared.entry.Slot.TheVariants.{Root, Below}
 use Rattle.mtn_roster.specs.Tree.{Tree, IsSane, IsSaneMap, entry_of, node_at, path_of, in_order}
 use Rattle.mtn_roster.specs.Walk.{by_path, IsAbove}
 use Rattle.mtn_roster.specs.Building.{NamesDiffer, KeysDiffer, IsBuildable, with_keys_in_order, tree_of}
-use Rattle.mtn_roster.proofs.Finding.{Split, later}
-use Rattle.mtn_roster.proofs.Members.{head, taken}
-use Rattle.mtn_roster.proofs.Tests.{same_name-is, same_name-self}
+use Rattle.mtn_base.proofs.Finding.{Split, later}
+use Rattle.mtn_base.proofs.Members.{head, taken}
+use Rattle.mtn_base.proofs.Tests.{same_name-is, same_name-self}
 use Rattle.mtn_roster.proofs.Forest.{same_some, node_there}
-use Rattle.mtn_roster.proofs.Looking.{names_total, paths_total, exact_names}
+use Rattle.mtn_base.proofs.Orders.{names_total, paths_total, exact_names}
 use Rattle.mtn_roster.proofs.Ordered.{forest_of, in_order-rises}
-use Rattle.mtn_roster.proofs.Sorting.{less_at, long_map, of_ordered, in_ordered, one_sorted}
+use Rattle.mtn_base.proofs.Sorting.{less_at, long_map, of_ordered, in_ordered, one_sorted}
 use Rattle.mtn_roster.proofs.Building.{differ_still}
 use Rattle.mtn_roster.proofs.Leading.{get_map, get_within}
 use Rattle.mtn_roster.proofs.Stops.{map-snoc}

@@ -11,7 +11,8 @@ use Rattle.mtn_roster.specs.declared.entry.Attr.{Attr}
 use Rattle.mtn_roster.specs.declared.entry.Entry.{Entry}
 use Rattle.mtn_roster.specs.declared.entry.Slot.{Slot}
 use Rattle.mtn_roster.specs.declared.entry.Slot.TheVariants.{Root, Below}
-use Rattle.mtn_roster.specs.Tree.{Tree, is_some_with, entry_of, attr_of, live_of, path_of}
+use Rattle.mtn_roster.specs.Tree.{Tree, entry_of, attr_of, live_of, path_of}
+use Rattle.mtn_base.specs.Lists.{is_some_with}
 use Rattle.mtn_roster.specs.Walk.{by_path}
 use Rattle.mtn_changeset_laws.specs.Joining.{JoinWhy, is_old, join_why, joined_name, joined_entry, counterpart, other_attrs}
 use Rattle.mtn_changeset_laws.specs.Joining.JoinWhy.{Disagree, Revived}

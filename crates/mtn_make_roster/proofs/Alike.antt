@@ -24,7 +24,7 @@ use Rattle.mtn_roster.specs.declared.entry.Entry.{Entry}
 use Rattle.mtn_roster.specs.Tree.{Tree, IsSane, entry_of, node_at, path_of}
 use Rattle.mtn_roster.proofs.Forest.{node_there}
 use Rattle.mtn_roster.proofs.Ordered.{forest_of}
-use Rattle.mtn_roster.proofs.Tests.{same_id-self}
+use Rattle.mtn_base.proofs.Tests.{same_id-self}
 use Rattle.mtn_make_roster.specs.Basis.{AreUncommonIn}
 use Rattle.mtn_make_roster.specs.declared.basis.Uncommon.{Uncommon}
 

@@ -15,8 +15,8 @@ use Rattle.mtn_roster.proofs.Along.{held, named_by, take_at, stop_has}
 use Rattle.mtn_roster.proofs.Leading.{get_map, get_within}
 use Rattle.mtn_roster.proofs.Walking.{child_path}
 use Rattle.mtn_roster.proofs.Forest.{same_some}
-use Rattle.mtn_roster.proofs.Members.{taken}
-use Rattle.mtn_roster.proofs.Finding.{Split}
+use Rattle.mtn_base.proofs.Members.{taken}
+use Rattle.mtn_base.proofs.Finding.{Split}
 use Rattle.mtn_roster.proofs.Ordered.{forest_of}
 use Rattle.mtn_make_roster.specs.Limits.{is_long, slashed, slashed_at, IsMet}
 

@@ -5,12 +5,12 @@ use Rattle.std.specs.Result.{result_ok}
 use Rattle.std.proofs.Common.{◌≡◌, ◌≢◌, ℕ, ◌<◌, ◌≤◌, Bool, true, false, cond, length, get_or, set, Result, Ok, Err, Some, refl, sym, ◌∙◌, ap}
 use Rattle.mtn_base.specs.Names.{name_cmp, same_name}
 use Rattle.mtn_base.specs.declared.name.NodeName.{NodeName}
-use Rattle.mtn_roster.specs.Tree.{rises}
-use Rattle.mtn_roster.proofs.Looking.{names_total, exact_names}
-use Rattle.mtn_roster.proofs.Tests.{same_name-is, same_name-self}
+use Rattle.mtn_base.specs.Lists.{rises}
+use Rattle.mtn_base.proofs.Orders.{names_total, exact_names}
+use Rattle.mtn_base.proofs.Tests.{same_name-is, same_name-self}
 use Rattle.mtn_marking.specs.declared.node.NodeMarks.{NodeMarks}
 use Rattle.mtn_marking.specs.Marking.{Marks, marking_of}
-use Rattle.mtn_roster.proofs.Members.{taken}
+use Rattle.mtn_base.proofs.Members.{taken}
 use Rattle.mtn_marking.proofs.Keyed.{IsPlaceFor, place_for, halved, find-set, keys-set, find-insert, rises-insert}
 
 abbrev pub name_of : NodeMarks → NodeName

@@ -10,12 +10,12 @@ use Rattle.std.specs.Cmp.{IsTotalOrder, first_so, second_so, tied_itself}
 use Rattle.std.proofs.Common.{◌≡◌, ℕ, zero, suc, ◌<◌, ◌≤◌, Bool, true, false, cond, List, [], ◌∷◌, length, get_or, set, Option, Some, None, Result, Ok, Err, refl, sym, ◌∙◌, ap, subst, arith, inl, inr}
 use Rattle.std.proofs.lemmas.Bool.{cases_lt}
 use Rattle.std.proofs.lemmas.List.Sorted.{searchable_from_sorted}
-use Rattle.mtn_roster.specs.Tree.{rises}
-use Rattle.mtn_roster.proofs.Finding.{Found, found}
-use Rattle.mtn_roster.proofs.Members.{taken, place_of}
+use Rattle.mtn_base.specs.Lists.{rises}
+use Rattle.mtn_base.proofs.Finding.{Found, found}
+use Rattle.mtn_base.proofs.Members.{taken, place_of}
 use Rattle.mtn_roster.proofs.Searching.{sorted_of_rises}
-use Rattle.mtn_roster.proofs.Sorting.{lt_was, all_at}
-use Rattle.mtn_roster.proofs.Tests.{both_true}
+use Rattle.mtn_base.proofs.Sorting.{lt_was, all_at}
+use Rattle.mtn_base.proofs.Tests.{both_true}
 
 shadowed : {X : Type 0} (s t : Bool) (x y z : Option X) → s ≡ t → cond s x z ≡ cond s x (cond t y z)
 shadowed true t x y z e = refl

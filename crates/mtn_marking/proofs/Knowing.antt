@@ -7,10 +7,11 @@ use Rattle.mtn_base.specs.Names.{same_name, name_cmp, bytes_cmp}
 use Rattle.mtn_base.specs.declared.name.NodeName.{NodeName}
 use Rattle.mtn_roster.specs.declared.entry.Attr.{Attr}
 use Rattle.mtn_roster.specs.declared.entry.Entry.{Entry}
-use Rattle.mtn_roster.specs.Tree.{Tree, rises, entry_of, IsSane}
-use Rattle.mtn_roster.proofs.Finding.{found}
-use Rattle.mtn_roster.proofs.Looking.{names_total, exact_names}
-use Rattle.mtn_roster.proofs.Tests.{same_name-is, same_name-self}
+use Rattle.mtn_roster.specs.Tree.{Tree, entry_of, IsSane}
+use Rattle.mtn_base.specs.Lists.{rises}
+use Rattle.mtn_base.proofs.Finding.{found}
+use Rattle.mtn_base.proofs.Orders.{names_total, exact_names}
+use Rattle.mtn_base.proofs.Tests.{same_name-is, same_name-self}
 use Rattle.mtn_marking.specs.declared.node.NodeMarks.{NodeMarks}
 use Rattle.mtn_marking.specs.Marking.{Marks, IsFor, AreFor, known_in, paired}
 use Rattle.mtn_marking.proofs.Keyed.{found_there}

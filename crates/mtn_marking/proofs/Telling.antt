@@ -7,10 +7,12 @@ use Rattle.mtn_history_laws.specs.Scalars.Value.{AttrValue}
 use Rattle.mtn_roster.specs.declared.entry.Attr.{Attr}
 use Rattle.mtn_roster.specs.declared.entry.Slot.{Slot}
 use Rattle.mtn_roster.specs.declared.entry.Slot.TheVariants.{Below}
-use Rattle.mtn_roster.specs.Tree.{rises, same_slot, attr_of}
-use Rattle.mtn_roster.proofs.Finding.{found}
-use Rattle.mtn_roster.proofs.Looking.{bytes_total, exact_bytes}
-use Rattle.mtn_roster.proofs.Tests.{same_slot-is, same_slot-self, same_bytes-is, same_bytes-self}
+use Rattle.mtn_base.specs.Lists.{rises}
+use Rattle.mtn_roster.specs.Tree.{same_slot, attr_of}
+use Rattle.mtn_base.proofs.Finding.{found}
+use Rattle.mtn_base.proofs.Orders.{bytes_total, exact_bytes}
+use Rattle.mtn_roster.proofs.Slots.{same_slot-is, same_slot-self}
+use Rattle.mtn_base.proofs.Tests.{same_bytes-is, same_bytes-self}
 use Rattle.mtn_marking.specs.declared.node.AttrMarks.{AttrMarks}
 use Rattle.mtn_marking.specs.declared.side.Have.{Have}
 use Rattle.mtn_marking.specs.Marking.{side, attr_marks_of}

@@ -15,7 +15,7 @@ use Rattle.mtn_roster.specs.declared.entry.Body.{Body}
 use Rattle.mtn_roster.specs.declared.entry.Body.TheVariants.{Dir, File}
 use Rattle.mtn_roster.specs.declared.entry.Entry.{Entry}
 use Rattle.mtn_roster.specs.Tree.{Tree, entry_of, attr_of, is_dir_body}
-use Rattle.mtn_roster.proofs.Tests.{same_name-is, same_bytes-is}
+use Rattle.mtn_base.proofs.Tests.{same_name-is, same_bytes-is}
 use Rattle.mtn_marking.specs.declared.node.AttrMarks.{AttrMarks}
 use Rattle.mtn_marking.specs.declared.node.Marking.{Marking}
 use Rattle.mtn_marking.specs.declared.node.NodeMarks.{NodeMarks}

@@ -10,7 +10,8 @@ use Rattle.mtn_roster.specs.declared.entry.Attr.{Attr}
 use Rattle.mtn_roster.specs.declared.entry.Body.{Body}
 use Rattle.mtn_roster.specs.declared.entry.Body.TheVariants.{Dir, File}
 use Rattle.mtn_roster.specs.declared.entry.Entry.{Entry}
-use Rattle.mtn_roster.specs.Tree.{Tree, rises}
+use Rattle.mtn_roster.specs.Tree.{Tree}
+use Rattle.mtn_base.specs.Lists.{rises}
 use Rattle.mtn_marking.specs.declared.against.Against.{Against}
 use Rattle.mtn_marking.specs.declared.known.Known.{Known}
 use Rattle.mtn_marking.specs.declared.side.Have.{Have}

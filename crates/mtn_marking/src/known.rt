@@ -4,7 +4,7 @@ ghost use Rattle.mtn_base.specs.Names.{bytes_cmp, same_bytes};
 ghost use Rattle.mtn_base.specs.declared.name.NodeName.{NodeName};
 ghost use Rattle.mtn_history_laws.specs.Scalars.Scalar.{SlotOf, ContentOf, AttrOf};
 ghost use Rattle.mtn_history_laws.specs.Scalars.Value.{SlotValue, ContentValue, AttrValue};
-ghost use Rattle.mtn_roster.specs.Tree.{rises};
+ghost use Rattle.mtn_base.specs.Lists.{rises};
 ghost use Rattle.mtn_roster.specs.declared.entry.Attr.{Attr};
 ghost use Rattle.mtn_marking.specs.Marking.{birth_or, known_by, side_of};
 ghost use Rattle.mtn_marking.specs.Parts.{seen, IsOrderly, Tells};

@@ -2,7 +2,7 @@
 ghost use Rattle.std.specs.Prelude.{◌≡◌, ◌≢◌, ◌<◌, [], map, length, slice_get, option_and_then, option_copied, find, Some, IsTrue, IfSome, OnOk, OnErr};
 ghost use Rattle.mtn_base.specs.Names.{name_cmp, same_name};
 ghost use Rattle.mtn_base.specs.declared.name.NodeName.{NodeName};
-ghost use Rattle.mtn_roster.specs.Tree.{rises};
+ghost use Rattle.mtn_base.specs.Lists.{rises};
 ghost use Rattle.mtn_marking.specs.declared.node.NodeMarks.{NodeMarks};
 ghost use Rattle.mtn_marking.specs.Marking.{marking_of};
 
@@ -20,7 +20,7 @@ pub struct MarkMap {
 impl Model for MarkMap {
     ghost use Rattle.std.specs.Prelude.{List, IsTrue, map};
     ghost use Rattle.mtn_base.specs.Names.{name_cmp};
-    ghost use Rattle.mtn_roster.specs.Tree.{rises};
+    ghost use Rattle.mtn_base.specs.Lists.{rises};
     ghost use Rattle.mtn_marking.specs.declared.node.NodeMarks.{NodeMarks};
 
     ghost Value = { List NodeMarks };

@@ -23,7 +23,7 @@ use Rattle.mtn_records.specs.declared.entry.NumberedEntry.{NumberedEntry}
 use Rattle.mtn_records.specs.declared.record.RosterRecord.{RosterRecord}
 use Rattle.mtn_records.specs.declared.record.RosterRecord.TheVariants.{Whole}
 use Rattle.mtn_roster.specs.Tree.{Tree, entry_of}
-use Rattle.mtn_roster.proofs.Tests.{same_id-is, same_id-self}
+use Rattle.mtn_base.proofs.Tests.{same_id-is, same_id-self}
 use Rattle.mtn_roster_deltas.specs.Chain.{Entries, ascend, deepest}
 use Rattle.mtn_roster_deltas.specs.Difference.{IsDeltaTo, IsDifference}
 use Rattle.mtn_roster_deltas.specs.Numbering.{all_of, fresh, number_among, AreKnown, IsNumbering}

@@ -13,7 +13,7 @@ use Rattle.mtn_base.specs.Names.{same_id}
 use Rattle.mtn_ancestry.specs.Ancestors.{IsAncestor, itself, through, ParentsAreEarlier}
 use Rattle.mtn_history_laws.specs.History.{Revision, parents_at, IsPlaceOf, TellsAncestors}
 use Rattle.mtn_changeset_laws.specs.Laws.{IsFresh, PassesAncestors}
-use Rattle.mtn_roster.proofs.Tests.{same_id-is, same_id-self}
+use Rattle.mtn_base.proofs.Tests.{same_id-is, same_id-self}
 use Rattle.mtn_replay.specs.Making.{place_of, has_id, reaches, is_above}
 
 -- a place within a list has an element

@@ -5,7 +5,7 @@ use Rattle.std.specs.Option.{option_map_or}
 use Rattle.std.specs.declared.cmp.Ordering.TheVariants.{Less, Equal}
 use Rattle.std.specs.Cmp.{tied_itself}
 use Rattle.std.specs.List.{cons_option}
-use Rattle.mtn_roster.proofs.Looking.{bytes_total}
+use Rattle.mtn_base.proofs.Orders.{bytes_total}
 use Rattle.mtn_base.specs.declared.id.Id.{Id}
 use Rattle.mtn_base.specs.Names.{bytes_cmp}
 use Rattle.mtn_changes.specs.declared.change.Change.{Change}

@@ -13,15 +13,15 @@ use Rattle.mtn_roster.specs.declared.entry.Entry.{Entry}
 use Rattle.mtn_roster.specs.declared.walk.Stop.{Stop}
 use Rattle.mtn_roster.specs.Tree.{Tree, IsSane, entry_of, node_at, path_of}
 use Rattle.mtn_roster.specs.Walk.{by_path, IsAbove, AreStops}
-use Rattle.mtn_roster.proofs.Finding.{Split}
-use Rattle.mtn_roster.proofs.Members.{taken, place_of}
-use Rattle.mtn_roster.proofs.Tests.{same_path-is, same_path-self}
+use Rattle.mtn_base.proofs.Finding.{Split}
+use Rattle.mtn_base.proofs.Members.{taken, place_of}
+use Rattle.mtn_base.proofs.Tests.{same_path-is, same_path-self}
 use Rattle.mtn_roster.proofs.Forest.{same_some, split_of}
-use Rattle.mtn_roster.proofs.Looking.{paths_total, names_total}
+use Rattle.mtn_base.proofs.Orders.{paths_total, names_total}
 use Rattle.mtn_roster.proofs.Ordered.{forest_of}
 use Rattle.mtn_roster.proofs.Paths.{exact_paths}
 use Rattle.mtn_roster.proofs.Pathing.{path_leads}
-use Rattle.mtn_roster.proofs.Sorting.{long_map, less_at, of_ordered, in_ordered, ordered-rises}
+use Rattle.mtn_base.proofs.Sorting.{long_map, less_at, of_ordered, in_ordered, ordered-rises}
 use Rattle.mtn_roster.proofs.BySlot.{slot_is}
 use Rattle.mtn_roster.proofs.Leading.{get_map, get_within}
 use Rattle.mtn_roster.specs.Attrs.{are_keyed}

@@ -5,14 +5,15 @@ use Rattle.std.proofs.Common.{◌≡◌, Bool, true, false, List, [], ◌∷◌,
 use Rattle.mtn_base.specs.Names.{bytes_cmp, same_name, name_cmp}
 use Rattle.mtn_roster.specs.declared.entry.Attr.{Attr}
 use Rattle.mtn_roster.specs.declared.entry.Entry.{Entry}
-use Rattle.mtn_roster.specs.Tree.{rises, entry_of, is_in_order, IsSane, IsSaneMap}
+use Rattle.mtn_base.specs.Lists.{rises}
+use Rattle.mtn_roster.specs.Tree.{entry_of, is_in_order, IsSane, IsSaneMap}
 use Rattle.mtn_roster.specs.Building.{NamesDiffer, with_keys_in_order, tree_of}
-use Rattle.mtn_roster.proofs.Finding.{Split, later}
-use Rattle.mtn_roster.proofs.Members.{head, split_cons}
-use Rattle.mtn_roster.proofs.Tests.{both_true}
-use Rattle.mtn_roster.proofs.Looking.{bytes_total, names_total}
+use Rattle.mtn_base.proofs.Finding.{Split, later}
+use Rattle.mtn_base.proofs.Members.{head, split_cons}
+use Rattle.mtn_base.proofs.Tests.{both_true}
+use Rattle.mtn_base.proofs.Orders.{bytes_total, names_total}
 use Rattle.mtn_roster.proofs.Ordered.{in_order-rises}
-use Rattle.mtn_roster.proofs.Sorting.{no_split, ordered-rises, of_ordered}
+use Rattle.mtn_base.proofs.Sorting.{no_split, ordered-rises, of_ordered}
 
 module _ (f : Entry → Entry) (same : (e : Entry) → (f e).name ≡ e.name) where
   none_kept : (e : Entry) (es : List Entry) → AllByRecursion (λ (d : Entry). same_name e.name d.name ≡ false) es → AllByRecursion (λ (d : Entry). same_name (f e).name d.name ≡ false) (map f es)

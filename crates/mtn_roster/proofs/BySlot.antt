@@ -17,11 +17,11 @@ use Rattle.mtn_roster.specs.declared.entry.Slot.{Slot}
 use Rattle.mtn_roster.specs.declared.entry.Slot.TheVariants.{Root, Below}
 use Rattle.mtn_roster.specs.Tree.{Tree, at_slot, same_slot}
 use Rattle.mtn_roster.specs.Index.{IsIndex, slot_cmp, slot_in}
-use Rattle.mtn_roster.proofs.Finding.{Split, found, finds_some}
-use Rattle.mtn_roster.proofs.Tests.{same_slot-is, same_slot-self}
-use Rattle.mtn_roster.proofs.Sorting.{less_at}
-use Rattle.mtn_roster.proofs.Looking.{bytes_total, names_total, exact_names, exact_bytes}
-use Rattle.mtn_roster.proofs.Members.{taken, place_of}
+use Rattle.mtn_base.proofs.Finding.{Split, found, finds_some}
+use Rattle.mtn_roster.proofs.Slots.{same_slot-is, same_slot-self}
+use Rattle.mtn_base.proofs.Sorting.{less_at}
+use Rattle.mtn_base.proofs.Orders.{bytes_total, names_total, exact_names, exact_bytes}
+use Rattle.mtn_base.proofs.Members.{taken, place_of}
 use Rattle.mtn_roster.proofs.Searching.{sorted_of_rises}
 
 abbrev pair_cmp : NodeName × List ℕ → NodeName × List ℕ → Ordering

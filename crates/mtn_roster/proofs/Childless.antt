@@ -10,8 +10,8 @@ use Rattle.mtn_roster.specs.Tree.{Tree, entry_of, is_dir, IsSane}
 use Rattle.mtn_base.specs.Names.{same_name}
 use Rattle.mtn_roster.specs.Index.{IsIndex, slot_in}
 use Rattle.mtn_roster.specs.Walk.{is_below}
-use Rattle.mtn_roster.proofs.Members.{taken}
-use Rattle.mtn_roster.proofs.Tests.{same_name-is}
+use Rattle.mtn_base.proofs.Members.{taken}
+use Rattle.mtn_base.proofs.Tests.{same_name-is}
 use Rattle.mtn_roster.proofs.Ordered.{distinct_of}
 use Rattle.mtn_roster.proofs.BySlot.{slot_is}
 use Rattle.mtn_roster.proofs.Running.{filter_none}

@@ -7,8 +7,9 @@ use Rattle.mtn_roster.specs.declared.entry.Entry.{Entry}
 use Rattle.mtn_roster.specs.declared.entry.Slot.{Slot}
 use Rattle.mtn_roster.specs.declared.entry.Slot.TheVariants.{Root, Below}
 use Rattle.mtn_roster.specs.Tree.{Tree, entry_of, at_slot, child_of, node_up, same_slot, is_dir, mtn, EndsAtRoot}
-use Rattle.mtn_roster.proofs.Finding.{Split, found, finds_some}
-use Rattle.mtn_roster.proofs.Tests.{same_name-is, same_slot-is, same_slot-self}
+use Rattle.mtn_base.proofs.Finding.{Split, found, finds_some}
+use Rattle.mtn_base.proofs.Tests.{same_name-is}
+use Rattle.mtn_roster.proofs.Slots.{same_slot-is, same_slot-self}
 
 pub chained : {A B : Type 0} (f : A → Option B) (o : Option A) (y : B) → option_and_then f o ≡ Some y → (x : A) × (o ≡ Some x) × (f x ≡ Some y)
 chained f None y h = absurd cc

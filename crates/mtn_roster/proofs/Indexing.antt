@@ -10,9 +10,9 @@ use Rattle.mtn_roster.specs.declared.entry.Entry.{Entry}
 use Rattle.mtn_roster.specs.Tree.{Tree, same_slot}
 use Rattle.mtn_roster.specs.Index.{ArePlaces, IsIndex, slot_cmp, slot_in}
 use Rattle.mtn_roster.specs.Building.{SlotsDiffer}
-use Rattle.mtn_roster.proofs.Members.{taken}
-use Rattle.mtn_roster.proofs.Tests.{same_slot-is, same_slot-self}
-use Rattle.mtn_roster.proofs.Sorting.{Sorts}
+use Rattle.mtn_base.proofs.Members.{taken}
+use Rattle.mtn_roster.proofs.Slots.{same_slot-is, same_slot-self}
+use Rattle.mtn_base.proofs.Sorting.{Sorts}
 use Rattle.mtn_roster.proofs.BySlot.{slots_total, exact_slots, slot_is}
 
 module _ (t : Tree) where

@@ -12,11 +12,11 @@ use Rattle.std.proofs.lemmas.List.Sorted.{searchable_from_sorted}
 use Rattle.mtn_base.specs.Names.{same_bytes, bytes_cmp}
 use Rattle.mtn_roster.specs.declared.entry.Attr.{Attr}
 use Rattle.mtn_roster.specs.Attrs.{are_keyed}
-use Rattle.mtn_roster.proofs.Finding.{Split, found}
-use Rattle.mtn_roster.proofs.Members.{split_cons, taken, place_of}
-use Rattle.mtn_roster.proofs.Tests.{same_bytes-is, same_bytes-self}
-use Rattle.mtn_roster.proofs.Looking.{bytes_total, exact_bytes}
-use Rattle.mtn_roster.proofs.Sorting.{lt_was, all_at, no_split}
+use Rattle.mtn_base.proofs.Finding.{Split, found}
+use Rattle.mtn_base.proofs.Members.{split_cons, taken, place_of}
+use Rattle.mtn_base.proofs.Tests.{same_bytes-is, same_bytes-self}
+use Rattle.mtn_base.proofs.Orders.{bytes_total, exact_bytes}
+use Rattle.mtn_base.proofs.Sorting.{lt_was, all_at, no_split}
 use Rattle.mtn_roster.proofs.Searching.{sorted_of_rises}
 
 abbrev pub key_of : Attr → List ℕ

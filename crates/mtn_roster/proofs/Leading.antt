@@ -9,11 +9,11 @@ use Rattle.mtn_roster.specs.declared.walk.Stop.{Stop}
 use Rattle.mtn_roster.specs.Tree.{Tree}
 use Rattle.mtn_roster.specs.Index.{slot_in}
 use Rattle.mtn_roster.specs.Walk.{by_path, is_below, IsAbove, AreStops}
-use Rattle.mtn_roster.proofs.Finding.{Split, later}
-use Rattle.mtn_roster.proofs.Members.{head, split_cons, of_append}
+use Rattle.mtn_base.proofs.Finding.{Split, later}
+use Rattle.mtn_base.proofs.Members.{head, split_cons, of_append}
 use Rattle.mtn_roster.proofs.Forest.{same_some}
-use Rattle.mtn_roster.proofs.Sorting.{no_split}
-use Rattle.mtn_roster.proofs.Tests.{same_name-is}
+use Rattle.mtn_base.proofs.Sorting.{no_split}
+use Rattle.mtn_base.proofs.Tests.{same_name-is}
 
 module _ {X : Type 0} where
   pub get_left : (xs ys : List X) (i : ℕ) (x : X) → slice_get xs i ≡ Some x → slice_get (xs ++ ys) i ≡ Some x

@@ -1,9 +1,6 @@
-pub mod Finding
-pub mod Members
-pub mod Tests
+pub mod Slots
 pub mod Forest
 pub mod Looking
-pub mod Sorting
 pub mod Ordered
 pub mod Searching
 pub mod BySlot

@@ -13,16 +13,17 @@ use Rattle.mtn_base.specs.declared.name.NodeName.{NodeName}
 use Rattle.mtn_roster.specs.declared.entry.Entry.{Entry}
 use Rattle.mtn_roster.specs.declared.entry.Slot.TheVariants.{Below}
 use Rattle.mtn_roster.specs.declared.walk.Stop.{Stop}
-use Rattle.mtn_roster.specs.Tree.{Tree, entry_of, rises, IsSane}
+use Rattle.mtn_roster.specs.Tree.{Tree, entry_of, IsSane}
+use Rattle.mtn_base.specs.Lists.{rises}
 use Rattle.mtn_roster.specs.Index.{IsIndex, slot_cmp, slot_in}
 use Rattle.mtn_roster.specs.Walk.{by_path, path_at, is_below, component, children_of, AreStops}
-use Rattle.mtn_roster.proofs.Finding.{Split, later}
-use Rattle.mtn_roster.proofs.Members.{head, of_filter_map, in_filter_map, taken}
+use Rattle.mtn_base.proofs.Finding.{Split, later}
+use Rattle.mtn_base.proofs.Members.{head, of_filter_map, in_filter_map, taken}
 use Rattle.mtn_roster.proofs.Forest.{name_of, same_some}
-use Rattle.mtn_roster.proofs.Tests.{both_true, same_bytes-is, same_bytes-self}
-use Rattle.mtn_roster.proofs.Looking.{bytes_total, names_total, exact_bytes}
+use Rattle.mtn_base.proofs.Tests.{both_true, same_bytes-is, same_bytes-self}
+use Rattle.mtn_base.proofs.Orders.{bytes_total, names_total, exact_bytes}
 use Rattle.mtn_roster.proofs.Ordered.{forest_of}
-use Rattle.mtn_roster.proofs.Sorting.{lt_was, less_at, ordered-rises, of_ordered, in_ordered, one_sorted}
+use Rattle.mtn_base.proofs.Sorting.{lt_was, less_at, ordered-rises, of_ordered, in_ordered, one_sorted}
 use Rattle.mtn_roster.proofs.BySlot.{slot_is, standing}
 use Rattle.mtn_roster.proofs.Walking.{has, path_at-is, child_path, kids, of_filter, in_filter, filter_rises, below_slot, some_entries, sibling_less, in_index, of_index}
 use Rattle.mtn_roster.proofs.Stops.{map-snoc, map-map}

@@ -15,14 +15,15 @@ use Rattle.mtn_roster.specs.declared.entry.Slot.TheVariants.{Root, Below}
 use Rattle.mtn_roster.specs.Building.{IsUp, AreUps}
 use Rattle.mtn_roster.specs.Index.{slot_cmp, slot_in}
 use Rattle.mtn_roster.specs.Walk.{component, parent_cmp}
-use Rattle.mtn_roster.specs.Tree.{Tree, entry_of, rises}
-use Rattle.mtn_roster.proofs.Finding.{Split, later}
+use Rattle.mtn_roster.specs.Tree.{Tree, entry_of}
+use Rattle.mtn_base.specs.Lists.{rises}
+use Rattle.mtn_base.proofs.Finding.{Split, later}
 use Rattle.mtn_roster.proofs.Forest.{name_of}
-use Rattle.mtn_roster.proofs.Members.{head, taken, any_default}
-use Rattle.mtn_roster.proofs.Tests.{same_name-is}
+use Rattle.mtn_base.proofs.Members.{head, taken, any_default}
+use Rattle.mtn_base.proofs.Tests.{same_name-is}
 use Rattle.mtn_roster.proofs.Ordered.{distinct_of}
-use Rattle.mtn_roster.proofs.Looking.{names_total}
-use Rattle.mtn_roster.proofs.Sorting.{less_at}
+use Rattle.mtn_base.proofs.Orders.{names_total}
+use Rattle.mtn_base.proofs.Sorting.{less_at}
 
 split_at : {X : Type 0} (xs : List X) (k : ℕ) (x : X) → slice_get xs k ≡ Some x → Split xs x
 split_at [] k x h = absurd cc

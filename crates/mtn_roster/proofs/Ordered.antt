@@ -7,13 +7,14 @@ use Rattle.std.specs.Cmp.{first_so, second_so, tied_itself}
 use Rattle.std.proofs.Common.{◌≡◌, true, false, cond, List, [], ◌∷◌, ◌++◌, Some, refl, sym, ◌∙◌, ap, subst, inl, inr}
 use Rattle.mtn_base.specs.Names.{name_cmp, same_name}
 use Rattle.mtn_roster.specs.declared.entry.Entry.{Entry}
-use Rattle.mtn_roster.specs.Tree.{Tree, entry_of, rises, in_order, IsSane, is_dir}
-use Rattle.mtn_roster.proofs.Finding.{Split}
-use Rattle.mtn_roster.proofs.Members.{split_cons}
-use Rattle.mtn_roster.proofs.Tests.{same_name-is, same_name-self}
+use Rattle.mtn_roster.specs.Tree.{Tree, entry_of, in_order, IsSane, is_dir}
+use Rattle.mtn_base.specs.Lists.{rises}
+use Rattle.mtn_base.proofs.Finding.{Split}
+use Rattle.mtn_base.proofs.Members.{split_cons}
+use Rattle.mtn_base.proofs.Tests.{same_name-is, same_name-self}
 use Rattle.mtn_roster.proofs.Forest.{IsForest, same_some}
-use Rattle.mtn_roster.proofs.Looking.{names_total}
-use Rattle.mtn_roster.proofs.Sorting.{lt_was, all_at, ordered-rises}
+use Rattle.mtn_base.proofs.Orders.{names_total}
+use Rattle.mtn_base.proofs.Sorting.{lt_was, all_at, ordered-rises}
 
 -- ascending names are distinct
 pub distinct_of : (t : Tree) → rises name_cmp (map (λ e. e.name) t) ≡ true → (e : Entry) → Split t e → entry_of t e.name ≡ Some e

@@ -9,8 +9,8 @@ use Rattle.mtn_roster.specs.declared.entry.Slot.{Slot}
 use Rattle.mtn_roster.specs.declared.entry.Slot.TheVariants.{Root, Below}
 use Rattle.mtn_roster.specs.Tree.{Tree, entry_of, at_slot, child_of, node_up, node_at, path_up, path_of, EndsAtRoot}
 use Rattle.mtn_roster.specs.Tree.EndsAtRoot.{top, under}
-use Rattle.mtn_roster.proofs.Finding.{Split}
-use Rattle.mtn_roster.proofs.Members.{of_append, in_left, in_right, split_cons}
+use Rattle.mtn_base.proofs.Finding.{Split}
+use Rattle.mtn_base.proofs.Members.{of_append, in_left, in_right, split_cons}
 use Rattle.mtn_roster.proofs.Forest.{IsForest, name_of, own, split_of, at_slot-is, at_slot-of, node_below, node_there, one_path}
 
 data IsSuffix : List (List ℕ) → List (List ℕ) → Type 0 where

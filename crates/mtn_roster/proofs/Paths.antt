@@ -5,7 +5,7 @@ use Rattle.std.specs.Cmp.{tied_itself}
 use Rattle.std.specs.FinMap.{slice_cmp-IsAntisymmetric, nat_cmp-IsAntisymmetric}
 use Rattle.std.proofs.Common.{◌≡◌, ℕ, List, [], ◌∷◌, ◌++◌, refl, ◌∙◌, ap, append_assoc}
 use Rattle.mtn_base.specs.Names.{bytes_cmp, path_cmp}
-use Rattle.mtn_roster.proofs.Looking.{bytes_total}
+use Rattle.mtn_base.proofs.Orders.{bytes_total}
 
 pub exact_paths : (a b : List (List ℕ)) → path_cmp a b ≡ Equal → a ≡ b
 exact_paths = slice_cmp-IsAntisymmetric (slice_cmp-IsAntisymmetric nat_cmp-IsAntisymmetric)

@@ -15,9 +15,9 @@ use Rattle.mtn_roster.specs.declared.entry.Slot.TheVariants.{Root, Below}
 use Rattle.mtn_roster.specs.Tree.{Tree}
 use Rattle.mtn_roster.specs.Index.{IsIndex, slot_cmp, slot_in}
 use Rattle.mtn_roster.specs.Walk.{is_below, parent_cmp}
-use Rattle.mtn_roster.proofs.Tests.{same_name-is, same_name-self}
-use Rattle.mtn_roster.proofs.Looking.{names_total, exact_names}
-use Rattle.mtn_roster.proofs.Sorting.{less_at}
+use Rattle.mtn_base.proofs.Tests.{same_name-is, same_name-self}
+use Rattle.mtn_base.proofs.Orders.{names_total, exact_names}
+use Rattle.mtn_base.proofs.Sorting.{less_at}
 use Rattle.mtn_roster.proofs.BySlot.{slots_total}
 
 module _ (p : ℕ → Bool) where

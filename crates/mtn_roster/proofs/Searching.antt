@@ -14,10 +14,11 @@ use Rattle.std.proofs.lemmas.List.Sorted.{searchable_from_sorted}
 use Rattle.mtn_base.specs.Names.{name_cmp}
 use Rattle.mtn_base.specs.declared.name.NodeName.{NodeName}
 use Rattle.mtn_roster.specs.declared.entry.Entry.{Entry}
-use Rattle.mtn_roster.specs.Tree.{Tree, entry_of, rises}
-use Rattle.mtn_roster.proofs.Members.{taken, place_of}
+use Rattle.mtn_roster.specs.Tree.{Tree, entry_of}
+use Rattle.mtn_base.specs.Lists.{rises}
+use Rattle.mtn_base.proofs.Members.{taken, place_of}
 use Rattle.mtn_roster.proofs.Forest.{name_of, split_of}
-use Rattle.mtn_roster.proofs.Looking.{names_total, exact_names}
+use Rattle.mtn_base.proofs.Orders.{names_total, exact_names}
 use Rattle.mtn_roster.proofs.Ordered.{distinct_of}
 
 no_lt : (r : Ordering) → is_lt r ≡ true → is_lt (ordering_reverse r) ≡ false

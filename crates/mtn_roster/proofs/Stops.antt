@@ -10,10 +10,10 @@ use Rattle.mtn_roster.specs.declared.walk.Stop.{Stop}
 use Rattle.mtn_roster.specs.Tree.{Tree, same_slot, root_of, IsSane}
 use Rattle.mtn_roster.specs.Index.{IsIndex, slot_in}
 use Rattle.mtn_roster.specs.Walk.{is_below, AreStops}
-use Rattle.mtn_roster.proofs.Finding.{Split, later, found}
-use Rattle.mtn_roster.proofs.Members.{head, split_cons, taken}
-use Rattle.mtn_roster.proofs.Tests.{same_slot-is}
-use Rattle.mtn_roster.proofs.Sorting.{no_split, long_map}
+use Rattle.mtn_base.proofs.Finding.{Split, later, found}
+use Rattle.mtn_base.proofs.Members.{head, split_cons, taken}
+use Rattle.mtn_roster.proofs.Slots.{same_slot-is}
+use Rattle.mtn_base.proofs.Sorting.{no_split, long_map}
 use Rattle.mtn_roster.proofs.BySlot.{slot_is}
 use Rattle.mtn_roster.proofs.Walking.{IsWalking, kids, of_filter, walk_begins, walk_on, walk_ends, walk_fits}
 use Rattle.mtn_roster.proofs.Leading.{IsLed, led_begins, led_on, led_ends}

@@ -10,17 +10,19 @@ use Rattle.mtn_base.specs.declared.name.NodeName.{NodeName}
 use Rattle.mtn_roster.specs.declared.entry.Entry.{Entry}
 use Rattle.mtn_roster.specs.declared.entry.Slot.{Slot}
 use Rattle.mtn_roster.specs.declared.entry.Slot.TheVariants.{Root, Below}
-use Rattle.mtn_roster.specs.Tree.{Tree, is_some_with, rises, entry_of, at_slot, root_of, node_up, is_dir, is_root_slot, same_slot, mtn, EndsAtRoot, IsSaneMap}
+use Rattle.mtn_roster.specs.Tree.{Tree, entry_of, at_slot, root_of, node_up, is_dir, is_root_slot, same_slot, mtn, EndsAtRoot, IsSaneMap}
+use Rattle.mtn_base.specs.Lists.{is_some_with, rises}
 use Rattle.mtn_roster.specs.Tree.EndsAtRoot.{top, under}
 use Rattle.mtn_roster.specs.Index.{IsIndex, slot_in}
 use Rattle.mtn_roster.specs.Building.{SlotsDiffer, hangs_well, IsUp, AreUps, climbed}
-use Rattle.mtn_roster.proofs.Finding.{Split, found, passing_some}
-use Rattle.mtn_roster.proofs.Members.{taken}
-use Rattle.mtn_roster.proofs.Tests.{told, both_true, same_slot-is}
+use Rattle.mtn_base.proofs.Finding.{Split, found, passing_some}
+use Rattle.mtn_base.proofs.Members.{taken}
+use Rattle.mtn_base.proofs.Tests.{told, both_true}
+use Rattle.mtn_roster.proofs.Slots.{same_slot-is}
 use Rattle.mtn_roster.proofs.Forest.{IsForest, name_of, split_of, same_some, at_slot-is, at_slot-of, node_below, node_there}
 use Rattle.mtn_roster.proofs.Ordered.{distinct_of}
-use Rattle.mtn_roster.proofs.Looking.{names_total}
-use Rattle.mtn_roster.proofs.Sorting.{less_at}
+use Rattle.mtn_base.proofs.Orders.{names_total}
+use Rattle.mtn_base.proofs.Sorting.{less_at}
 use Rattle.mtn_roster.proofs.BySlot.{slot_is, standing, one_place}
 use Rattle.mtn_roster.proofs.Pathing.{climb, path_fits}
 

@@ -15,16 +15,18 @@ use Rattle.mtn_base.specs.declared.name.NodeName.{NodeName}
 use Rattle.mtn_roster.specs.declared.entry.Entry.{Entry}
 use Rattle.mtn_roster.specs.declared.entry.Slot.{Slot}
 use Rattle.mtn_roster.specs.declared.entry.Slot.TheVariants.{Root, Below}
-use Rattle.mtn_roster.specs.Tree.{Tree, rises, same_slot, entry_of, at_slot, child_of, node_at, path_up, path_of, IsSane}
+use Rattle.mtn_roster.specs.Tree.{Tree, same_slot, entry_of, at_slot, child_of, node_at, path_up, path_of, IsSane}
+use Rattle.mtn_base.specs.Lists.{rises}
 use Rattle.mtn_roster.specs.Index.{IsIndex, slot_cmp, slot_in}
 use Rattle.mtn_roster.specs.Walk.{by_path, path_at, is_below, component}
-use Rattle.mtn_roster.proofs.Finding.{Split, later, found, some_passes}
-use Rattle.mtn_roster.proofs.Members.{head, split_cons, of_append, in_left, in_right, of_filter_map, in_filter_map, taken, place_of}
-use Rattle.mtn_roster.proofs.Tests.{both_true, same_path-is, same_path-self, same_name-is, same_name-self, same_slot-is}
+use Rattle.mtn_base.proofs.Finding.{Split, later, found, some_passes}
+use Rattle.mtn_base.proofs.Members.{head, split_cons, of_append, in_left, in_right, of_filter_map, in_filter_map, taken, place_of}
+use Rattle.mtn_base.proofs.Tests.{both_true, same_path-is, same_path-self, same_name-is, same_name-self}
+use Rattle.mtn_roster.proofs.Slots.{same_slot-is}
 use Rattle.mtn_roster.proofs.Forest.{IsForest, same_some, at_slot-of}
-use Rattle.mtn_roster.proofs.Looking.{names_total, paths_total}
+use Rattle.mtn_base.proofs.Orders.{names_total, paths_total}
 use Rattle.mtn_roster.proofs.Ordered.{forest_of}
-use Rattle.mtn_roster.proofs.Sorting.{no_split, ordered-rises, of_ordered, in_ordered, one_sorted, low_at, rest_rises, less_at}
+use Rattle.mtn_base.proofs.Sorting.{no_split, ordered-rises, of_ordered, in_ordered, one_sorted, low_at, rest_rises, less_at}
 use Rattle.mtn_roster.proofs.BySlot.{slots_total, slot_is, standing, one_place}
 use Rattle.mtn_roster.proofs.Pathing.{path_leads, path_of-at, node_at-push, node_at-none}
 use Rattle.mtn_roster.proofs.Paths.{exact_paths, Ahead, ahead_less, ahead_further, prefix_less}

@@ -6,7 +6,8 @@ use Rattle.mtn_roster.specs.declared.entry.Attr.{Attr}
 use Rattle.mtn_roster.specs.declared.entry.Entry.{Entry}
 use Rattle.mtn_roster.specs.declared.entry.Slot.{Slot}
 use Rattle.mtn_roster.specs.declared.entry.Slot.TheVariants.{Root, Below}
-use Rattle.mtn_roster.specs.Tree.{Tree, is_some_with, entry_of, is_dir, is_root_slot, same_slot, ordered, in_order, mtn, IsSaneMap}
+use Rattle.mtn_roster.specs.Tree.{Tree, entry_of, is_dir, is_root_slot, same_slot, in_order, mtn, IsSaneMap}
+use Rattle.mtn_base.specs.Lists.{is_some_with, ordered}
 use Rattle.mtn_roster.specs.Index.{slot_in}
 
 -- no two entries have the same name

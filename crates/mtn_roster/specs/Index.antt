@@ -9,7 +9,8 @@ use Rattle.mtn_base.specs.Names.{bytes_cmp, name_cmp}
 use Rattle.mtn_roster.specs.declared.entry.Entry.{Entry}
 use Rattle.mtn_roster.specs.declared.entry.Slot.{Slot}
 use Rattle.mtn_roster.specs.declared.entry.Slot.TheVariants.{Root, Below}
-use Rattle.mtn_roster.specs.Tree.{Tree, rises}
+use Rattle.mtn_roster.specs.Tree.{Tree}
+use Rattle.mtn_base.specs.Lists.{rises}
 
 -- the root slot first, then by the parent's name and by the component
 abbrev pub slot_cmp : Slot → Slot → Ordering

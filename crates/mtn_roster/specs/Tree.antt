@@ -1,10 +1,10 @@
 -- A tree is the list of its entries. What a list does not say in one way only, it says by ascending names.
 use Rattle.std.specs.Prelude.{◌≡◌, ℕ, Bool, true, false, ◌&&◌, IsTrue, List, [], ◌∷◌, ◌++◌, find, map, reverse, codes, Option, Some, None, option_map, option_and_then}
 use Rattle.std.specs.Option.{option_map_or}
-use Rattle.std.specs.FinMap.Entries.{by_order}
 use Rattle.std.specs.List.{list_all}
 use Rattle.std.specs.declared.cmp.Ordering.{Ordering}
 use Rattle.std.specs.Ordering.{is_lt}
+use Rattle.mtn_base.specs.Lists.{placed, ordered, rises}
 use Rattle.mtn_base.specs.Names.{same_bytes, same_name, bytes_cmp, name_cmp}
 use Rattle.mtn_base.specs.declared.name.NodeName.{NodeName}
 use Rattle.mtn_roster.specs.declared.entry.Entry.{Entry}
@@ -16,11 +16,6 @@ use Rattle.mtn_roster.specs.declared.entry.Body.TheVariants.{Dir, File}
 
 abbrev pub Tree : Type 0
 Tree = List Entry
-
--- there is a value, and it passes the test
-abbrev pub is_some_with : {A : Type 0} → (A → Bool) → Option A → Bool
-is_some_with test None = false
-is_some_with test (Some a) = test a
 
 -- the entry of a node
 abbrev pub entry_of : Tree → NodeName → Option Entry
@@ -81,30 +76,15 @@ attr_of attrs key = option_map (λ a. a.value) (find (λ a. same_bytes a.key key
 abbrev pub live_of : List Attr → List ℕ → Option (List ℕ)
 live_of attrs key = option_and_then (λ v. v) (attr_of attrs key)
 
--- the list with one more, in its place by keys, over an earlier one of its key
-abbrev pub placed : {X K : Type 0} → (K → K → Ordering) → (X → K) → X → List X → List X
-placed cmp key a [] = a ∷ []
-placed cmp key a (b ∷ bs) = by_order (cmp (key a) (key b)) (a ∷ b ∷ bs) (a ∷ bs) (b ∷ placed cmp key a bs)
-
 abbrev pub with_attr : Attr → List Attr → List Attr
 with_attr = placed bytes_cmp (λ a. a.key)
 
 abbrev pub with_entry : Entry → Tree → Tree
 with_entry = placed name_cmp (λ e. e.name)
 
--- the elements in the order of their keys
-abbrev pub ordered : {X K : Type 0} → (K → K → Ordering) → (X → K) → List X → List X
-ordered cmp key [] = []
-ordered cmp key (x ∷ xs) = placed cmp key x (ordered cmp key xs)
-
 -- entries as a tree
 abbrev pub in_order : List Entry → Tree
 in_order = ordered name_cmp (λ e. e.name)
-
--- each key is above the one before it
-abbrev pub rises : {K : Type 0} → (K → K → Ordering) → List K → Bool
-rises cmp [] = true
-rises cmp (k ∷ ks) = list_all (λ l. is_lt (cmp k l)) ks && rises cmp ks
 
 -- the names ascend, and the keys of each entry
 abbrev pub is_in_order : Tree → Bool

@@ -8,7 +8,8 @@ use Rattle.mtn_roster.specs.declared.entry.Entry.{Entry}
 use Rattle.mtn_roster.specs.declared.entry.Slot.{Slot}
 use Rattle.mtn_roster.specs.declared.entry.Slot.TheVariants.{Root, Below}
 use Rattle.mtn_roster.specs.declared.walk.Stop.{Stop}
-use Rattle.mtn_roster.specs.Tree.{Tree, path_up, path_of, ordered}
+use Rattle.mtn_roster.specs.Tree.{Tree, path_up, path_of}
+use Rattle.mtn_base.specs.Lists.{ordered}
 use Rattle.mtn_roster.specs.Index.{slot_in}
 
 -- The entries by ascending paths, component by component: depth first, a parent before its children, children in byte order

@@ -5,7 +5,8 @@ ghost use Rattle.mtn_roster.specs.declared.entry.Entry.{Entry};
 ghost use Rattle.std.specs.List.Sorted.{IsPermutation, IsSortedBy};
 ghost use Rattle.std.specs.Ordering.{is_lt};
 ghost use Rattle.mtn_base.specs.Names.{same_bytes, bytes_cmp, name_cmp};
-ghost use Rattle.mtn_roster.specs.Tree.{ordered, in_order};
+ghost use Rattle.mtn_base.specs.Lists.{ordered};
+ghost use Rattle.mtn_roster.specs.Tree.{in_order};
 ghost use Rattle.mtn_roster.specs.Building.{NamesDiffer, KeysDiffer, with_keys_in_order};
 
 use crate::keys::arrange;

@@ -5,7 +5,8 @@ ghost use Rattle.mtn_roster.specs.declared.entry.Entry.{Entry};
 ghost use Rattle.mtn_roster.specs.declared.entry.Slot.TheVariants.{Below};
 ghost use Rattle.mtn_roster.specs.Building.{AreUps};
 ghost use Rattle.mtn_roster.specs.Index.{IsIndex, slot_cmp, slot_in};
-ghost use Rattle.mtn_roster.specs.Tree.{child_of, entry_of, rises};
+ghost use Rattle.mtn_roster.specs.Tree.{child_of, entry_of};
+ghost use Rattle.mtn_base.specs.Lists.{rises};
 
 use crate::Entry;
 use crate::index::component_at;

@@ -3,7 +3,8 @@ ghost use Rattle.std.specs.Prelude.{◌≡◌, ◌<◌, length, map, option_copi
 ghost use Rattle.std.specs.List.{All};
 ghost use Rattle.mtn_base.specs.Names.{name_cmp};
 ghost use Rattle.mtn_roster.specs.Building.{AreUps, IsBuildable, tree_of};
-ghost use Rattle.mtn_roster.specs.Tree.{IsSane, entry_of, child_of, node_at, path_of, rises};
+ghost use Rattle.mtn_roster.specs.Tree.{IsSane, entry_of, child_of, node_at, path_of};
+ghost use Rattle.mtn_base.specs.Lists.{rises};
 ghost use Rattle.mtn_roster.specs.Index.{IsIndex};
 ghost use Rattle.mtn_roster.specs.Walk.{by_path, children_of, path_at, AreStops};
 

@@ -2,7 +2,8 @@
 ghost use Rattle.std.specs.Prelude.{◌≡◌, ◌<◌, ◌≤◌, ◌≢◌, ◌&&◌, ℕ, not, IsTrue, IfOk, IfSome, OnOk, IsErrOf, IsSome, None, true, false, length, map, slice_get, slice_index, slice_index_or, option_and_then};
 ghost use Rattle.std.specs.List.{All};
 ghost use Rattle.mtn_base.specs.Names.{name_cmp, same_bytes};
-ghost use Rattle.mtn_roster.specs.Tree.{is_dir, is_root_slot, rises, mtn};
+ghost use Rattle.mtn_roster.specs.Tree.{is_dir, is_root_slot, mtn};
+ghost use Rattle.mtn_base.specs.Lists.{rises};
 ghost use Rattle.mtn_roster.specs.Index.{slot_in};
 ghost use Rattle.mtn_roster.specs.Building.{hangs_well, IsUp, AreUps, climbed, Leads, MarkedLead};
 ghost use Rattle.mtn_roster.specs.Tree.{entry_of, IsSaneMap};

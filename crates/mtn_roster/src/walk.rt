@@ -2,7 +2,8 @@
 ghost use Rattle.std.specs.Prelude.{◌≡◌, ◌<◌, ◌++◌, IsTrue, filter, length, map, reverse, slice_get, Some, OnOk, IfOk};
 ghost use Rattle.mtn_base.specs.Names.{name_cmp};
 ghost use Rattle.mtn_roster.specs.Building.{AreUps};
-ghost use Rattle.mtn_roster.specs.Tree.{IsSane, entry_of, rises};
+ghost use Rattle.mtn_roster.specs.Tree.{IsSane, entry_of};
+ghost use Rattle.mtn_base.specs.Lists.{rises};
 ghost use Rattle.mtn_roster.specs.Index.{IsIndex, slot_in};
 ghost use Rattle.mtn_roster.specs.Walk.{is_below, parent_cmp, AreStops};
 ghost use Rattle.std.specs.declared.cmp.Ordering.TheVariants.{Less};

@@ -12,10 +12,10 @@ use Rattle.std.proofs.Common.{◌≡◌, ℕ, ◌+◌, ◌<◌, ◌==◌, Bool, 
 use Rattle.std.proofs.lemmas.Bool.{eqb-true, eq-eqb}
 use Rattle.mtn_marking.proofs.Keyed.{found_there, halved}
 use Rattle.mtn_records.specs.declared.entry.NumberedEntry.{NumberedEntry}
-use Rattle.mtn_roster.specs.Tree.{rises}
-use Rattle.mtn_roster.proofs.Finding.{Split, found, not_found, find-none, list_any-here, some_passes}
-use Rattle.mtn_roster.proofs.Members.{taken, place_of}
-use Rattle.mtn_roster.proofs.Sorting.{less_at, rising_by, one_sorted}
+use Rattle.mtn_base.specs.Lists.{rises}
+use Rattle.mtn_base.proofs.Finding.{Split, found, not_found, find-none, list_any-here, some_passes}
+use Rattle.mtn_base.proofs.Members.{taken, place_of}
+use Rattle.mtn_base.proofs.Sorting.{less_at, rising_by, one_sorted}
 use Rattle.mtn_roster_deltas.specs.Chain.{Entries, ascend, entry_at, number_of}
 
 pub same_number-is : (a b : ℕ) → nat_eq a b ≡ true → a ≡ b

@@ -20,13 +20,14 @@ use Rattle.mtn_records.specs.declared.entry.NumberedEntry.{NumberedEntry}
 use Rattle.mtn_roster.specs.declared.entry.Entry.{Entry}
 use Rattle.mtn_roster.specs.declared.entry.Slot.{Slot}
 use Rattle.mtn_roster.specs.declared.entry.Slot.TheVariants.{Root, Below}
-use Rattle.mtn_roster.specs.Tree.{Tree, rises, entry_of, IsSane}
-use Rattle.mtn_roster.proofs.Finding.{found}
-use Rattle.mtn_roster.proofs.Looking.{names_total, exact_names}
-use Rattle.mtn_roster.proofs.Members.{any_default, taken}
+use Rattle.mtn_roster.specs.Tree.{Tree, entry_of, IsSane}
+use Rattle.mtn_base.specs.Lists.{rises}
+use Rattle.mtn_base.proofs.Finding.{found}
+use Rattle.mtn_base.proofs.Orders.{names_total, exact_names}
+use Rattle.mtn_base.proofs.Members.{any_default, taken}
 use Rattle.mtn_roster.proofs.Ordered.{distinct_of}
-use Rattle.mtn_roster.proofs.Sorting.{rec_at, rising_by, rising_differ, sorted_is}
-use Rattle.mtn_roster.proofs.Tests.{same_name-is, same_name-self}
+use Rattle.mtn_base.proofs.Sorting.{rec_at, rising_by, rising_differ, sorted_is}
+use Rattle.mtn_base.proofs.Tests.{same_name-is, same_name-self}
 use Rattle.mtn_roster_deltas.specs.Chain.{Entries, ascend, entry_at, number_of}
 use Rattle.mtn_roster_deltas.specs.Spelled.{IsSlotOf, IsEntryOf, Spells, by_node, marks_of, node_of}
 use Rattle.mtn_roster_deltas.specs.Numbering.{all_of, fresh, number_among, number_in, or_next, AreKnown, IsNumbering}

@@ -11,10 +11,10 @@ use Rattle.std.proofs.Common.{◌≡◌, Bool, true, false, Bor, List, [], ◌�
 use Rattle.mtn_base.specs.Names.{name_cmp, same_name}
 use Rattle.mtn_base.specs.declared.name.NodeName.{NodeName}
 use Rattle.mtn_records.specs.declared.entry.NumberedEntry.{NumberedEntry}
-use Rattle.mtn_roster.specs.Tree.{rises, placed, ordered}
-use Rattle.mtn_roster.proofs.Looking.{names_total, exact_names}
-use Rattle.mtn_roster.proofs.Sorting.{lt_was, Sorts, sorts, ordered-rises}
-use Rattle.mtn_roster.proofs.Tests.{same_name-is, same_name-self}
+use Rattle.mtn_base.specs.Lists.{rises, placed, ordered}
+use Rattle.mtn_base.proofs.Orders.{names_total, exact_names}
+use Rattle.mtn_base.proofs.Sorting.{lt_was, Sorts, sorts, ordered-rises}
+use Rattle.mtn_base.proofs.Tests.{same_name-is, same_name-self}
 use Rattle.mtn_roster_deltas.specs.Chain.{Entries}
 use Rattle.mtn_roster_deltas.specs.Spelled.{by_node, node_of}
 

@@ -7,10 +7,10 @@ use Rattle.std.proofs.lemmas.Bool.{le-ltb}
 use Rattle.mtn_records.specs.declared.entry.NumberedEntry.{NumberedEntry}
 use Rattle.mtn_records.specs.declared.record.RosterRecord.{RosterRecord}
 use Rattle.mtn_records.specs.declared.record.RosterRecord.TheVariants.{Whole, Delta}
-use Rattle.mtn_roster.specs.Tree.{rises}
-use Rattle.mtn_roster.proofs.Finding.{Split, found}
-use Rattle.mtn_roster.proofs.Members.{head}
-use Rattle.mtn_roster.proofs.Tests.{both_true}
+use Rattle.mtn_base.specs.Lists.{rises}
+use Rattle.mtn_base.proofs.Finding.{Split, found}
+use Rattle.mtn_base.proofs.Members.{head}
+use Rattle.mtn_base.proofs.Tests.{both_true}
 use Rattle.mtn_roster_deltas.specs.Chain.{Entries, ascend, entry_at, is_there, with_all, without, applied, deepest, after_record, after_all, rebuilt}
 use Rattle.mtn_roster_deltas.specs.Difference.{IsDifference}
 use Rattle.mtn_roster_deltas.specs.Parts.{GoesOn}

@@ -12,12 +12,13 @@ use Rattle.mtn_base.specs.declared.name.NodeName.{NodeName}
 use Rattle.mtn_marking.specs.Marking.{MarkedTree}
 use Rattle.mtn_records.specs.declared.entry.NumberedEntry.{NumberedEntry}
 use Rattle.mtn_roster.specs.declared.entry.Entry.{Entry}
-use Rattle.mtn_roster.specs.Tree.{Tree, entry_of, path_of, placed, ordered}
+use Rattle.mtn_roster.specs.Tree.{Tree, entry_of, path_of}
+use Rattle.mtn_base.specs.Lists.{placed, ordered}
 use Rattle.mtn_roster.specs.Walk.{by_path}
-use Rattle.mtn_roster.proofs.Finding.{found, finds_some}
-use Rattle.mtn_roster.proofs.Looking.{names_total, exact_names, paths_total}
-use Rattle.mtn_roster.proofs.Sorting.{in_ordered, of_ordered, long_map}
-use Rattle.mtn_roster.proofs.Tests.{same_name-is, same_name-self}
+use Rattle.mtn_base.proofs.Finding.{found, finds_some}
+use Rattle.mtn_base.proofs.Orders.{names_total, exact_names, paths_total}
+use Rattle.mtn_base.proofs.Sorting.{in_ordered, of_ordered, long_map}
+use Rattle.mtn_base.proofs.Tests.{same_name-is, same_name-self}
 use Rattle.mtn_roster_deltas.specs.Chain.{Entries, number_of}
 use Rattle.mtn_roster_deltas.specs.Spelled.{IsEntryOf, Spells, by_node, node_of}
 use Rattle.mtn_roster_deltas.specs.Numbering.{all_of, fresh, number_among, number_in, or_next, AreKnown, IsNumbering}

@@ -10,10 +10,10 @@ use Rattle.std.specs.Option.{MatchOption, option_to_list}
 use Rattle.std.proofs.Common.{◌≡◌, ℕ, ◌==◌, Bool, true, false, cond, nat_eq, nat_lt, List, [], ◌∷◌, ◌++◌, length, drop, get_or, Option, Some, None, refl, sym, ◌∙◌, ap, subst, append_assoc, arith}
 use Rattle.std.proofs.lemmas.Bool.{ltb-false}
 use Rattle.mtn_records.specs.declared.entry.NumberedEntry.{NumberedEntry}
-use Rattle.mtn_roster.specs.Tree.{placed}
-use Rattle.mtn_roster.proofs.Looking.{find-placed}
-use Rattle.mtn_roster.proofs.Sorting.{lt_was, rises_placed}
-use Rattle.mtn_roster.proofs.Tests.{both_true}
+use Rattle.mtn_base.specs.Lists.{placed}
+use Rattle.mtn_base.proofs.Placed.{find-placed}
+use Rattle.mtn_base.proofs.Sorting.{lt_was, rises_placed}
+use Rattle.mtn_base.proofs.Tests.{both_true}
 use Rattle.mtn_roster_deltas.specs.Chain.{Entries, ascend, entry_at, number_of, with_all, without}
 use Rattle.mtn_roster_deltas.specs.Parts.{GivesNext, MergesTo}
 use Rattle.mtn_roster_deltas.proofs.Ascending.{same_number-is}

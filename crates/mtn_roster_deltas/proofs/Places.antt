@@ -17,12 +17,12 @@ use Rattle.mtn_marking.specs.declared.node.NodeMarks.{NodeMarks}
 use Rattle.mtn_marking.proofs.Zips.{got_at, take_past}
 use Rattle.mtn_records.specs.declared.entry.NumberedEntry.{NumberedEntry}
 use Rattle.mtn_roster.specs.declared.entry.Entry.{Entry}
-use Rattle.mtn_roster.specs.Tree.{rises}
-use Rattle.mtn_roster.proofs.Finding.{found, finds_some}
-use Rattle.mtn_roster.proofs.Looking.{names_total}
-use Rattle.mtn_roster.proofs.Members.{taken, split_cons}
-use Rattle.mtn_roster.proofs.Sorting.{less_at}
-use Rattle.mtn_roster.proofs.Tests.{same_name-is, same_name-self}
+use Rattle.mtn_base.specs.Lists.{rises}
+use Rattle.mtn_base.proofs.Finding.{found, finds_some}
+use Rattle.mtn_base.proofs.Orders.{names_total}
+use Rattle.mtn_base.proofs.Members.{taken, split_cons}
+use Rattle.mtn_base.proofs.Sorting.{less_at}
+use Rattle.mtn_base.proofs.Tests.{same_name-is, same_name-self}
 use Rattle.mtn_roster_deltas.specs.Chain.{Entries, number_of}
 use Rattle.mtn_roster_deltas.specs.Numbering.{all_of, number_among, unnumbered, or_next, number_by}
 use Rattle.mtn_roster_deltas.specs.Noting.{positive, AreOne, AreNoted, AreFilled, AreNumbered, IsNumberedOf}

@@ -16,12 +16,13 @@ use Rattle.mtn_roster.specs.declared.entry.Body.{Body}
 use Rattle.mtn_roster.specs.declared.entry.Entry.{Entry}
 use Rattle.mtn_roster.specs.declared.entry.Slot.{Slot}
 use Rattle.mtn_roster.specs.declared.entry.Slot.TheVariants.{Root, Below}
-use Rattle.mtn_roster.specs.Tree.{rises, ordered, entry_of, is_dir_body, IsSane, IsSaneMap}
+use Rattle.mtn_base.specs.Lists.{rises, ordered}
+use Rattle.mtn_roster.specs.Tree.{entry_of, is_dir_body, IsSane, IsSaneMap}
 use Rattle.mtn_roster.specs.Building.{IsBuildable, KeysDiffer, tree_of, with_keys_in_order}
 use Rattle.mtn_roster.proofs.Building.{made_sane}
-use Rattle.mtn_roster.proofs.Looking.{bytes_total, exact_bytes, names_total, exact_names}
-use Rattle.mtn_roster.proofs.Sorting.{rising_differ}
-use Rattle.mtn_roster.proofs.Tests.{both_true, same_name-is, same_name-self, same_bytes-is, same_bytes-self}
+use Rattle.mtn_base.proofs.Orders.{bytes_total, exact_bytes, names_total, exact_names}
+use Rattle.mtn_base.proofs.Sorting.{rising_differ}
+use Rattle.mtn_base.proofs.Tests.{both_true, same_name-is, same_name-self, same_bytes-is, same_bytes-self}
 use Rattle.mtn_roster_deltas.specs.Chain.{Entries, ascend}
 use Rattle.mtn_roster_deltas.specs.Parts.{numbered_key, IsKeyedEntryOf}
 use Rattle.mtn_roster_deltas.specs.Spelled.{IsSlotOf, IsEntryOf, Spells, attr_of, attr_marks_of, body_of, content_marks_of, by_node, marks_of, node_of}

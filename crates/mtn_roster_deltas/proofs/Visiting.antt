@@ -15,17 +15,18 @@ use Rattle.mtn_marking.specs.declared.node.NodeMarks.{NodeMarks}
 use Rattle.mtn_marking.proofs.Zips.{got_at, take_past}
 use Rattle.mtn_roster.specs.declared.entry.Entry.{Entry}
 use Rattle.mtn_roster.specs.declared.walk.Stop.{Stop}
-use Rattle.mtn_roster.specs.Tree.{Tree, rises, entry_of, node_at, path_of, IsSane}
+use Rattle.mtn_roster.specs.Tree.{Tree, entry_of, node_at, path_of, IsSane}
+use Rattle.mtn_base.specs.Lists.{rises}
 use Rattle.mtn_roster.specs.Walk.{by_path, AreStops}
 use Rattle.mtn_roster.proofs.Forest.{same_some}
-use Rattle.mtn_roster.proofs.Looking.{names_total, paths_total}
-use Rattle.mtn_roster.proofs.Members.{taken}
+use Rattle.mtn_base.proofs.Orders.{names_total, paths_total}
+use Rattle.mtn_base.proofs.Members.{taken}
 use Rattle.mtn_roster.proofs.Ordered.{distinct_of, forest_of}
 use Rattle.mtn_roster.proofs.Pathing.{path_leads}
 use Rattle.mtn_roster.proofs.Paths.{exact_paths}
-use Rattle.mtn_roster.proofs.Sorting.{long_map, less_at, ordered-rises, in_ordered, of_ordered}
+use Rattle.mtn_base.proofs.Sorting.{long_map, less_at, ordered-rises, in_ordered, of_ordered}
 use Rattle.mtn_roster.proofs.Stops.{map-append, map-snoc}
-use Rattle.mtn_roster.proofs.Tests.{same_path-is, same_path-self}
+use Rattle.mtn_base.proofs.Tests.{same_path-is, same_path-self}
 use Rattle.mtn_roster_deltas.specs.Chain.{Entries}
 use Rattle.mtn_roster_deltas.specs.Numbering.{all_of, fresh, number_among, unnumbered, or_next, number_by, number_in}
 use Rattle.mtn_roster_deltas.specs.Noting.{positive, AreFilled, HaveNumbers}

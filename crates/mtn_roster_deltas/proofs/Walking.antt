@@ -11,11 +11,11 @@ use Rattle.std.proofs.Math.Seq.{drop-cons}
 use Rattle.std.proofs.lemmas.List.{drop-drop, length-drop}
 use Rattle.mtn_marking.proofs.Zips.{take_past}
 use Rattle.mtn_records.specs.declared.entry.NumberedEntry.{NumberedEntry}
-use Rattle.mtn_roster.specs.Tree.{rises}
-use Rattle.mtn_roster.proofs.Finding.{later}
-use Rattle.mtn_roster.proofs.Members.{head, split_cons}
-use Rattle.mtn_roster.proofs.Sorting.{low_at}
-use Rattle.mtn_roster.proofs.Tests.{both_true}
+use Rattle.mtn_base.specs.Lists.{rises}
+use Rattle.mtn_base.proofs.Finding.{later}
+use Rattle.mtn_base.proofs.Members.{head, split_cons}
+use Rattle.mtn_base.proofs.Sorting.{low_at}
+use Rattle.mtn_base.proofs.Tests.{both_true}
 use Rattle.mtn_roster_deltas.specs.Chain.{Entries, ascend, entry_at, is_there, number_of}
 use Rattle.mtn_roster_deltas.specs.Difference.{IsDifference}
 use Rattle.mtn_roster_deltas.specs.Parts.{Differs, Continues}

@@ -1,7 +1,7 @@
 -- What differs between two lists of entries.
 use Rattle.std.specs.Prelude.{◌≡◌, ℕ, ◌↔◌, ◌⊎◌, List, true, false, IsTrue, Contains}
 use Rattle.std.specs.Ordering.{nat_cmp}
-use Rattle.mtn_roster.specs.Tree.{rises}
+use Rattle.mtn_base.specs.Lists.{rises}
 use Rattle.mtn_records.specs.declared.entry.NumberedEntry.{NumberedEntry}
 use Rattle.mtn_records.specs.declared.record.RosterRecord.{RosterRecord}
 use Rattle.mtn_records.specs.declared.record.RosterRecord.TheVariants.{Delta}

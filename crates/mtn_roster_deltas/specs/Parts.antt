@@ -6,7 +6,7 @@ use Rattle.mtn_records.specs.declared.entry.NumberedAttr.{NumberedAttr}
 use Rattle.mtn_records.specs.declared.entry.NumberedEntry.{NumberedEntry}
 use Rattle.mtn_records.specs.declared.record.RosterRecord.{RosterRecord}
 use Rattle.mtn_roster.specs.declared.entry.Entry.{Entry}
-use Rattle.mtn_roster.specs.Tree.{rises}
+use Rattle.mtn_base.specs.Lists.{rises}
 use Rattle.mtn_roster_deltas.specs.Spelled.{IsEntryOf}
 use Rattle.mtn_roster_deltas.specs.Chain.{Entries, ascend, with_all, after_all, rebuilt}
 

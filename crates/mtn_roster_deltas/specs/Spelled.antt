@@ -17,7 +17,8 @@ use Rattle.mtn_roster.specs.declared.entry.Body.TheVariants.{Dir, File}
 use Rattle.mtn_roster.specs.declared.entry.Entry.{Entry}
 use Rattle.mtn_roster.specs.declared.entry.Slot.{Slot}
 use Rattle.mtn_roster.specs.declared.entry.Slot.TheVariants.{Root, Below}
-use Rattle.mtn_roster.specs.Tree.{IsSane, ordered}
+use Rattle.mtn_roster.specs.Tree.{IsSane}
+use Rattle.mtn_base.specs.Lists.{ordered}
 use Rattle.mtn_roster_deltas.specs.Chain.{Entries, ascend, entry_at}
 
 abbrev pub node_of : NumberedEntry → NodeName

@@ -2,7 +2,7 @@
 ghost use Rattle.std.specs.Prelude.{◌≡◌, ◌<◌, ◌+◌, ◌∷◌, [], MatchOption, IfSome, IfOk, IsTrue};
 ghost use Rattle.std.specs.Ordering.{nat_cmp};
 ghost use Rattle.std.specs.VecDeque.{deque_len};
-ghost use Rattle.mtn_roster.specs.Tree.{rises};
+ghost use Rattle.mtn_base.specs.Lists.{rises};
 ghost use Rattle.mtn_roster_deltas.specs.Chain.{ascend, without, with_all};
 ghost use Rattle.mtn_roster_deltas.specs.Parts.{GivesNext};
 

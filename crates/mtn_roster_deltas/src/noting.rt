@@ -3,7 +3,7 @@ ghost use Rattle.std.specs.Prelude.{◌≡◌, ◌<◌, ◌≤◌, ◌+◌, ◌-
 ghost use Rattle.mtn_base.specs.Names.{name_cmp};
 ghost use Rattle.mtn_base.specs.declared.name.NodeName.{NodeName};
 ghost use Rattle.mtn_marking.specs.declared.node.NodeMarks.{NodeMarks};
-ghost use Rattle.mtn_roster.specs.Tree.{rises};
+ghost use Rattle.mtn_base.specs.Lists.{rises};
 ghost use Rattle.mtn_roster.specs.declared.entry.Entry.{Entry};
 ghost use Rattle.mtn_roster_deltas.specs.Chain.{Entries};
 ghost use Rattle.mtn_roster_deltas.specs.Numbering.{all_of, fresh, shown, AreKnown};

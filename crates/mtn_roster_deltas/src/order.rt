@@ -3,7 +3,7 @@ ghost use Rattle.std.specs.Prelude.{◌≡◌, ◌↔◌, ◌==◌, ◌<◌, len
 ghost use Rattle.std.specs.List.{list_all, list_any, AllByRecursion};
 ghost use Rattle.std.specs.Ordering.{nat_cmp};
 ghost use Rattle.mtn_records.specs.declared.entry.NumberedEntry.{NumberedEntry};
-ghost use Rattle.mtn_roster.specs.Tree.{rises};
+ghost use Rattle.mtn_base.specs.Lists.{rises};
 ghost use Rattle.mtn_roster_deltas.specs.Chain.{ascend, entry_at, is_there};
 
 use mtn_records::NumberedEntry;

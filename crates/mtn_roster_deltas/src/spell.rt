@@ -4,7 +4,7 @@ ghost use Rattle.mtn_base.specs.Comps.{IsComp};
 ghost use Rattle.mtn_base.specs.Names.{bytes_cmp};
 ghost use Rattle.mtn_roster.specs.declared.entry.Slot.{Slot};
 ghost use Rattle.mtn_roster.specs.declared.entry.Entry.{Entry};
-ghost use Rattle.mtn_roster.specs.Tree.{rises};
+ghost use Rattle.mtn_base.specs.Lists.{rises};
 ghost use Rattle.mtn_roster_deltas.specs.Chain.{ascend};
 ghost use Rattle.mtn_roster_deltas.specs.Parts.{numbered_key, IsKeyedEntryOf};
 ghost use Rattle.mtn_roster_deltas.specs.Spelled.{attr_of, attr_marks_of, body_of, content_marks_of, marks_of, IsSlotOf};

@@ -10,8 +10,8 @@ use Rattle.mtn_history_laws.specs.History.{Revision, tree_at, revision_tree, IsP
 use Rattle.mtn_history_laws.specs.Scalars.{Scalar, Value, IsMark, content_of, value_at, value_of, value_in}
 use Rattle.mtn_history_laws.specs.Scalars.Scalar.{ContentOf}
 use Rattle.mtn_history_laws.specs.Scalars.Value.{ContentValue}
-use Rattle.mtn_ids.specs.Ids.{by_id}
-use Rattle.mtn_ids.proofs.Sorting.{contains_nil, contains_head, contains_later, contains_cases}
+use Rattle.mtn_base.specs.Ids.{by_id}
+use Rattle.mtn_base.proofs.IdOrder.{contains_nil, contains_head, contains_later, contains_cases}
 use Rattle.mtn_replay.proofs.Places.{inside}
 use Rattle.mtn_marking.specs.Graph.{AreMarksOf, IsMarkedAt}
 use Rattle.mtn_marking.specs.Marking.{MarkedTree, marks_in}

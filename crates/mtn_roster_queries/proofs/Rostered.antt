@@ -6,12 +6,12 @@ use Rattle.mtn_base.specs.declared.id.Id.{Id}
 use Rattle.mtn_basic_io.specs.Spelling.{spelling}
 use Rattle.mtn_history_laws.specs.History.{Revision, IsPlaceOf}
 use Rattle.mtn_history_laws.specs.Scalars.{Scalar, IsMark}
-use Rattle.mtn_ids.proofs.Sorting.{contains_nil, contains_split, in_order_ascends, in_order_same, split_contains}
+use Rattle.mtn_base.proofs.IdOrder.{contains_nil, contains_split, in_order_ascends, in_order_same, split_contains}
 use Rattle.mtn_replay.specs.Making.{place_of}
 use Rattle.mtn_marking.specs.Graph.{AreMarksOf, IsMarkedAt}
 use Rattle.mtn_marking.specs.Marking.{MarkedTree, marks_in}
 use Rattle.mtn_roster.specs.Tree.{Tree}
-use Rattle.mtn_roster.proofs.Members.{in_filter_map, of_filter_map}
+use Rattle.mtn_base.proofs.Members.{in_filter_map, of_filter_map}
 use Rattle.mtn_roster_text.specs.Naming.{id_at, ids_at, ids_in, table_of}
 use Rattle.mtn_roster_text.specs.Positions.{IsMarkIn}
 use Rattle.mtn_roster_text.specs.RosterText.{roster_of}

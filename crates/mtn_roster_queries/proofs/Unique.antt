@@ -6,7 +6,7 @@ use Rattle.mtn_basic_io.specs.Spelling.{spelling}
 use Rattle.mtn_history_laws.specs.History.{Revision, tree_at}
 use Rattle.mtn_history_laws.specs.Scalars.{Scalar}
 use Rattle.mtn_history_laws.specs.Scalars.Scalar.{ContentOf}
-use Rattle.mtn_ids.proofs.Sorting.{one_list_of}
+use Rattle.mtn_base.proofs.IdOrder.{one_list_of}
 use Rattle.mtn_replay.specs.Making.{place_of}
 use Rattle.mtn_roster.specs.declared.entry.Body.{Body}
 use Rattle.mtn_roster.specs.declared.entry.Body.TheVariants.{Dir, File}

@@ -22,7 +22,7 @@ use Rattle.mtn_history.proofs.Founding.{counted}
 use Rattle.mtn_model.specs.State.{State}
 use Rattle.mtn_model.specs.Table.{Contents}
 use Rattle.mtn_ports.specs.Kept.{with_all}
-use Rattle.mtn_ids.specs.Ids.{by_id}
+use Rattle.mtn_base.specs.Ids.{by_id}
 use Rattle.mtn_replay.specs.Making.{place_of}
 use Rattle.mtn_roster.specs.declared.entry.Body.{Body}
 use Rattle.mtn_roster.specs.declared.entry.Body.TheVariants.{Dir, File}

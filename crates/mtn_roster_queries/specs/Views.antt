@@ -12,7 +12,7 @@ use Rattle.mtn_basic_io.specs.declared.stanza.Value.TheVariants.{Text, Hex}
 use Rattle.mtn_history_laws.specs.History.{Revision, tree_at, IsPlaceOf}
 use Rattle.mtn_history_laws.specs.Scalars.{Scalar, IsMark}
 use Rattle.mtn_history_laws.specs.Scalars.Scalar.{ContentOf}
-use Rattle.mtn_ids.specs.Ids.{by_id}
+use Rattle.mtn_base.specs.Ids.{by_id}
 use Rattle.mtn_replay.specs.Making.{place_of}
 use Rattle.mtn_manifest.specs.Manifest.{line_of, manifest_of}
 use Rattle.mtn_roster.specs.declared.entry.Body.{Body}

@@ -16,10 +16,9 @@ ghost use Rattle.mtn_roster_queries.specs.Marks.{GivesMarks};
 ghost use Rattle.mtn_roster_queries.specs.Views.{IsContentChanged, mark_stanza as stanza_of_mark, marks_text as text_of_marks};
 
 use mtn_ancestry::PosSet;
-use mtn_base::{Bytes, Cause, Id, NoMemory, NodeName, Path};
+use mtn_base::{Bytes, Cause, Id, NoMemory, NodeName, Path, put_in_order};
 use mtn_basic_io::{Line, Stanza, Value};
 use mtn_history::{Draft, HistoryError, StoreError};
-use mtn_ids::put_in_order;
 use mtn_marking::{MarkMap, MarkedRoster};
 use mtn_ports::Keeper;
 use std::alloc::Global;

@@ -13,7 +13,7 @@ use Rattle.mtn_base.specs.Names.{bytes_cmp, name_cmp, same_bytes, same_name}
 use Rattle.mtn_base.specs.declared.name.NodeName.{NodeName}
 use Rattle.mtn_history_laws.specs.Scalars.{Scalar, node_of}
 use Rattle.mtn_history_laws.specs.Scalars.Scalar.{SlotOf, ContentOf, AttrOf}
-use Rattle.mtn_ids.proofs.Sorting.{contains_split, split_contains}
+use Rattle.mtn_base.proofs.IdOrder.{contains_split, split_contains}
 use Rattle.mtn_marking.specs.Marking.{Marks, AreFor, IsFor, attr_marks_of, marking_of, marks_of}
 use Rattle.mtn_marking.specs.declared.node.AttrMarks.{AttrMarks}
 use Rattle.mtn_marking.specs.declared.node.Marking.{Marking}
@@ -21,15 +21,16 @@ use Rattle.mtn_marking.specs.declared.node.NodeMarks.{NodeMarks}
 use Rattle.mtn_marking.proofs.ByName.{name_of}
 use Rattle.mtn_marking.proofs.Keyed.{found_there}
 use Rattle.mtn_marking.proofs.Telling.{key_in}
-use Rattle.mtn_roster.specs.Tree.{Tree, IsSane, rises}
+use Rattle.mtn_roster.specs.Tree.{Tree, IsSane}
+use Rattle.mtn_base.specs.Lists.{rises}
 use Rattle.mtn_marking.proofs.Fitting.{for_long}
 use Rattle.mtn_roster.proofs.Along.{got}
-use Rattle.mtn_roster.proofs.Finding.{Split, found, later}
-use Rattle.mtn_roster.proofs.Looking.{bytes_total, exact_bytes}
-use Rattle.mtn_roster.proofs.Members.{head, in_left, in_right, of_append, place_of, split_cons, taken}
+use Rattle.mtn_base.proofs.Finding.{Split, found, later}
+use Rattle.mtn_base.proofs.Orders.{bytes_total, exact_bytes}
+use Rattle.mtn_base.proofs.Members.{head, in_left, in_right, of_append, place_of, split_cons, taken}
 use Rattle.mtn_roster.proofs.Ordered.{forest_of}
-use Rattle.mtn_roster.proofs.Sorting.{no_split}
-use Rattle.mtn_roster.proofs.Tests.{same_bytes-is, same_bytes-self}
+use Rattle.mtn_base.proofs.Sorting.{no_split}
+use Rattle.mtn_base.proofs.Tests.{same_bytes-is, same_bytes-self}
 use Rattle.mtn_roster_text.specs.Positions.{IsMarkIn, all_positions, positions_of}
 use Rattle.mtn_roster_text.proofs.Walked.{keys_rise, marked_there, marking_at}
 

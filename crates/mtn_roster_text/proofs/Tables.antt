@@ -14,14 +14,14 @@ use Rattle.std.proofs.lemmas.List.Elements.{filter_map-append}
 use Rattle.std.proofs.lemmas.Map.Keys.{sorted_from_strictly_increasing}
 use Rattle.mtn_base.specs.Names.{bytes_cmp, same_bytes}
 use Rattle.mtn_base.specs.declared.id.Id.{Id}
-use Rattle.mtn_ids.proofs.Sorting.{contains_nil, contains_cases}
+use Rattle.mtn_base.proofs.IdOrder.{contains_nil, contains_cases}
 use Rattle.mtn_marking.specs.declared.node.AttrMarks.{AttrMarks}
 use Rattle.mtn_marking.proofs.Keyed.{halved}
 use Rattle.mtn_marking.proofs.Telling.{key_in}
-use Rattle.mtn_roster.specs.Tree.{rises}
-use Rattle.mtn_roster.proofs.Looking.{bytes_total, exact_bytes}
-use Rattle.mtn_roster.proofs.Sorting.{rises_of_sorted}
-use Rattle.mtn_roster.proofs.Tests.{both_true, same_bytes-is, same_bytes-self}
+use Rattle.mtn_base.specs.Lists.{rises}
+use Rattle.mtn_base.proofs.Orders.{bytes_total, exact_bytes}
+use Rattle.mtn_base.proofs.Sorting.{rises_of_sorted}
+use Rattle.mtn_base.proofs.Tests.{both_true, same_bytes-is, same_bytes-self}
 use Rattle.mtn_roster_text.specs.Naming.{table_of, id_at}
 use Rattle.mtn_roster_text.specs.declared.table.Named.{Named}
 

@@ -10,10 +10,11 @@ use Rattle.mtn_marking.proofs.ByName.{name_of}
 use Rattle.mtn_marking.proofs.Keyed.{found_there}
 use Rattle.mtn_marking.proofs.Telling.{key_in}
 use Rattle.mtn_roster.specs.declared.entry.Entry.{Entry}
-use Rattle.mtn_roster.specs.Tree.{Tree, IsSane, entry_of, rises}
+use Rattle.mtn_roster.specs.Tree.{Tree, IsSane, entry_of}
+use Rattle.mtn_base.specs.Lists.{rises}
 use Rattle.mtn_roster.proofs.Along.{keyed}
-use Rattle.mtn_roster.proofs.Looking.{names_total, exact_names}
-use Rattle.mtn_roster.proofs.Tests.{same_name-is, same_name-self}
+use Rattle.mtn_base.proofs.Orders.{names_total, exact_names}
+use Rattle.mtn_base.proofs.Tests.{same_name-is, same_name-self}
 use Rattle.mtn_roster_text.specs.Naming.{ids_at, ids_by, ids_in}
 use Rattle.mtn_roster_text.specs.RosterText.{marked_stanza}
 use Rattle.mtn_roster_text.specs.declared.table.Named.{Named}

@@ -3,7 +3,7 @@ use Rattle.std.specs.Prelude.{ℕ, ◌==◌, List, [], Option, map, find, filter
 use Rattle.std.specs.List.{zip}
 use Rattle.mtn_base.specs.declared.id.Id.{Id}
 use Rattle.mtn_history_laws.specs.Scalars.{Scalar}
-use Rattle.mtn_ids.specs.Ids.{in_id_order}
+use Rattle.mtn_base.specs.Ids.{in_id_order}
 use Rattle.mtn_marking.specs.Marking.{Marks, marks_in, marks_of}
 use Rattle.mtn_marking.specs.declared.node.Marking.{Marking}
 use Rattle.mtn_roster_text.specs.declared.table.Named.{Named}

@@ -3,13 +3,12 @@ ghost use Rattle.std.specs.Prelude.{◌≡◌, ◌<◌, ℕ, [], length, map, fi
 ghost use Rattle.mtn_base.specs.Names.{bytes_cmp, same_bytes};
 ghost use Rattle.mtn_marking.specs.Marking.{attr_marks_of};
 ghost use Rattle.mtn_marking.specs.declared.node.AttrMarks.{AttrMarks};
-ghost use Rattle.mtn_roster.specs.Tree.{rises};
+ghost use Rattle.mtn_base.specs.Lists.{rises};
 ghost use Rattle.mtn_roster_text.specs.Naming.{ids_at};
 
 use crate::IdTable;
 use mtn_ancestry::{Pos, PosSet};
-use mtn_base::{Id, NoMemory};
-use mtn_ids::put_in_order;
+use mtn_base::{Id, NoMemory, put_in_order};
 use mtn_marking::AttrMarks;
 
 /// Puts the ids of positions, ascending and each once, in place of what was there.

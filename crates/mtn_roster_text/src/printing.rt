@@ -9,7 +9,8 @@ ghost use Rattle.mtn_basic_io.specs.Front.{IsFront};
 ghost use Rattle.mtn_history_laws.specs.Scalars.{Scalar};
 ghost use Rattle.mtn_marking.specs.declared.node.AttrMarks.{AttrMarks};
 ghost use Rattle.mtn_roster.specs.declared.entry.Attr.{Attr};
-ghost use Rattle.mtn_roster.specs.Tree.{is_dir_body, rises};
+ghost use Rattle.mtn_roster.specs.Tree.{is_dir_body};
+ghost use Rattle.mtn_base.specs.Lists.{rises};
 ghost use Rattle.mtn_roster_text.specs.Naming.{ids_at, ids_by};
 ghost use Rattle.mtn_roster_text.specs.RosterText.{attr_lines, birth_line, content_marks, ids_line, marked_stanza, node_marks, value_line};
 

@@ -24,7 +24,7 @@ pub struct IdTable {
 impl Model for IdTable {
     ghost use Rattle.std.specs.Prelude.{List, IsTrue, map};
     ghost use Rattle.std.specs.Ordering.{nat_cmp};
-    ghost use Rattle.mtn_roster.specs.Tree.{rises};
+    ghost use Rattle.mtn_base.specs.Lists.{rises};
     ghost use Rattle.mtn_roster_text.specs.declared.table.Named.{Named};
 
     ghost Value = { List Named };

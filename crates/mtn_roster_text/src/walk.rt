@@ -5,7 +5,7 @@ ghost use Rattle.mtn_basic_io.specs.Front.{IsFront};
 ghost use Rattle.mtn_basic_io.specs.Spelling.{spelling, stanza_text};
 ghost use Rattle.mtn_marking.specs.declared.node.AttrMarks.{AttrMarks};
 ghost use Rattle.mtn_marking.specs.Marking.{AreFor};
-ghost use Rattle.mtn_roster.specs.Tree.{rises};
+ghost use Rattle.mtn_base.specs.Lists.{rises};
 ghost use Rattle.mtn_roster_text.specs.Naming.{ids_by, ids_in};
 ghost use Rattle.mtn_roster_text.specs.RosterText.{marked_stanza, roster_of};
 

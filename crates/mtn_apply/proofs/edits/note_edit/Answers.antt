@@ -3,8 +3,8 @@ use Rattle.mtn_apply.specs.Maps.{of_name}
 use Rattle.std.proofs.Common.{◌≡◌, Bool, cond, Some, sym, ap, ◌∙◌}
 use Rattle.mtn_base.specs.Names.{same_name}
 use Rattle.mtn_base.specs.declared.name.NodeName.{NodeName}
-use Rattle.mtn_roster.specs.Tree.{is_some_with}
-use Rattle.mtn_roster.proofs.Tests.{same_name-is}
+use Rattle.mtn_base.specs.Lists.{is_some_with}
+use Rattle.mtn_base.proofs.Tests.{same_name-is}
 use Rattle.mtn_apply.proofs.Links.{get-set_at, get-set_other}
 use Rattle.mtn_apply.proofs.edits.note_edit.Goals as goal
 

@@ -1,7 +1,7 @@
 -- The place is that of the node that stands there.
 use Rattle.std.proofs.Common.{sym, ap, ◌∙◌, ◌<◌, cond, Some, option_copied, length, Bool, arith}
 use Rattle.mtn_roster.specs.declared.entry.Entry.{Entry}
-use Rattle.mtn_roster.specs.Tree.{is_some_with}
+use Rattle.mtn_base.specs.Lists.{is_some_with}
 use Rattle.mtn_base.specs.Names.{same_name}
 use Rattle.mtn_changeset_laws.specs.Changes.{stands_at}
 use Rattle.mtn_apply.specs.Maps.{of_place}

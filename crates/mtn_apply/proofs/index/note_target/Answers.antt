@@ -2,7 +2,7 @@
 use Rattle.std.proofs.Common.{sym, ap, ◌∙◌, cond, Some, option_copied, List, ℕ, Bool}
 use Rattle.mtn_apply.specs.Maps.{of_path}
 use Rattle.mtn_base.specs.Names.{same_path}
-use Rattle.mtn_roster.specs.Tree.{is_some_with}
+use Rattle.mtn_base.specs.Lists.{is_some_with}
 use Rattle.mtn_apply.proofs.index.note_target.Goals as goal
 
 pub returns-in_ok-insert : goal.returns-in_ok-insert

@@ -3,7 +3,7 @@ use Rattle.std.specs.Prelude.{nat_lt}
 use Rattle.std.specs.List.{list_any}
 use Rattle.std.proofs.Common.{◌≡◌, ℕ, List, Option, None, Some, take, ap, sym, ◌∙◌}
 use Rattle.mtn_changes.specs.declared.change.Change.{Change}
-use Rattle.mtn_roster.specs.Tree.{is_some_with}
+use Rattle.mtn_base.specs.Lists.{is_some_with}
 use Rattle.mtn_changeset_laws.specs.Changes.{aims_at}
 use Rattle.mtn_apply.specs.Index.{changes_of, first_at}
 use Rattle.mtn_apply.proofs.Positions.{before_is}

@@ -2,7 +2,8 @@
 use Rattle.std.specs.List.{list_any}
 use Rattle.std.proofs.Common.{option_map, List, sym, ap, ◌∙◌}
 use Rattle.mtn_base.specs.declared.name.NodeName.{NodeName}
-use Rattle.mtn_roster.specs.Tree.{is_some_with, entry_of}
+use Rattle.mtn_base.specs.Lists.{is_some_with}
+use Rattle.mtn_roster.specs.Tree.{entry_of}
 use Rattle.mtn_changeset_laws.specs.Changes.{is_kept, has_kept_child}
 use Rattle.mtn_apply.specs.Old.{entry_in}
 use Rattle.mtn_apply.specs.Index.{old_of, changes_of}

@@ -4,7 +4,7 @@ use Rattle.std.specs.Prelude.{slice_get}
 use Rattle.std.specs.Option.{option_copied}
 use Rattle.std.specs.List.{AllZip}
 use Rattle.mtn_base.specs.Names.{name_cmp}
-use Rattle.mtn_roster.specs.Tree.{rises}
+use Rattle.mtn_base.specs.Lists.{rises}
 use Rattle.mtn_marking.specs.Marking.{Marks}
 use Rattle.mtn_marking.specs.Parts.{basis_of, IsMarkedNode}
 use Rattle.mtn_marking.proofs.Knowing.{names_rise}

@@ -7,9 +7,9 @@ use Rattle.std.specs.Ordering.{is_lt}
 use Rattle.mtn_base.specs.Names.{bytes_cmp, same_bytes}
 use Rattle.mtn_roster.specs.declared.entry.Attr.{Attr}
 use Rattle.std.specs.Prelude.{List}
-use Rattle.mtn_roster.proofs.Tests.{same_bytes-is, same_bytes-self}
-use Rattle.mtn_roster.proofs.Looking.{bytes_total, exact_bytes}
-use Rattle.mtn_roster.proofs.Sorting.{Sorts, sorts}
+use Rattle.mtn_base.proofs.Tests.{same_bytes-is, same_bytes-self}
+use Rattle.mtn_base.proofs.Orders.{bytes_total, exact_bytes}
+use Rattle.mtn_base.proofs.Sorting.{Sorts, sorts}
 use Rattle.mtn_roster.proofs.build.sort_attrs.Goals as goal
 
 abbrev lower : Attr → Attr → Bool

@@ -6,7 +6,7 @@ use Rattle.std.proofs.lemmas.List.Sorted.{ranks_by}
 use Rattle.std.specs.Ordering.{is_lt}
 use Rattle.mtn_base.specs.Names.{name_cmp}
 use Rattle.mtn_roster.specs.declared.entry.Entry.{Entry}
-use Rattle.mtn_roster.proofs.Looking.{names_total}
+use Rattle.mtn_base.proofs.Orders.{names_total}
 use Rattle.mtn_roster.proofs.build.sort_entries.Goals as goal
 
 abbrev lower : Entry → Entry → Bool

@@ -7,9 +7,9 @@ use Rattle.std.specs.Ordering.{is_lt}
 use Rattle.mtn_base.specs.Names.{name_cmp, same_name}
 use Rattle.mtn_roster.specs.declared.entry.Entry.{Entry}
 use Rattle.mtn_roster.specs.Tree.{Tree}
-use Rattle.mtn_roster.proofs.Tests.{same_name-is, same_name-self}
-use Rattle.mtn_roster.proofs.Looking.{names_total, exact_names}
-use Rattle.mtn_roster.proofs.Sorting.{Sorts, sorts, sorts_already}
+use Rattle.mtn_base.proofs.Tests.{same_name-is, same_name-self}
+use Rattle.mtn_base.proofs.Orders.{names_total, exact_names}
+use Rattle.mtn_base.proofs.Sorting.{Sorts, sorts, sorts_already}
 use Rattle.mtn_roster.proofs.build.sort_names.Goals as goal
 
 abbrev Told : Tree → Bool → Type 0

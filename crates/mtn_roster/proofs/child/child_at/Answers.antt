@@ -3,7 +3,7 @@ use Rattle.std.specs.Prelude.{option_and_then}
 use Rattle.std.proofs.Common.{refl, sym, ◌∙◌, ap}
 use Rattle.mtn_roster.specs.Tree.{child_of}
 use Rattle.mtn_roster.proofs.Near.{named_there}
-use Rattle.mtn_roster.proofs.Tests.{same_name-self}
+use Rattle.mtn_base.proofs.Tests.{same_name-self}
 use Rattle.mtn_roster.proofs.child.child_at.Goals as goal
 
 pub child_below-requires-clause-there : goal.child_below-requires-clause-there

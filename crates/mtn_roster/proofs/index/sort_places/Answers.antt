@@ -7,9 +7,9 @@ use Rattle.std.specs.List.Sorted.{IsPermutation}
 use Rattle.std.specs.Ordering.{is_lt}
 use Rattle.mtn_roster.specs.Tree.{Tree, same_slot}
 use Rattle.mtn_roster.specs.Index.{ArePlaces, slot_cmp, slot_in}
-use Rattle.mtn_roster.proofs.Tests.{same_slot-is, same_slot-self}
+use Rattle.mtn_roster.proofs.Slots.{same_slot-is, same_slot-self}
 use Rattle.mtn_roster.proofs.BySlot.{slots_total, exact_slots}
-use Rattle.mtn_roster.proofs.Sorting.{sorts, sorts_already}
+use Rattle.mtn_base.proofs.Sorting.{sorts, sorts_already}
 use Rattle.mtn_roster.proofs.Indexing.{Indexes, indexes}
 use Rattle.mtn_roster.proofs.index.sort_places.Goals as goal
 

@@ -1,7 +1,7 @@
 -- One more name each time.
 use Rattle.std.proofs.Common.{get_or}
 use Rattle.mtn_roster.specs.declared.walk.Stop.{Stop}
-use Rattle.mtn_roster.proofs.Members.{any_default}
+use Rattle.mtn_base.proofs.Members.{any_default}
 use Rattle.mtn_roster.proofs.Naming.{named_more}
 use Rattle.mtn_roster.proofs.roster.names_along.Goals as goal
 

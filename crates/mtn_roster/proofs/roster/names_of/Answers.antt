@@ -1,6 +1,6 @@
 -- One more name each time.
 use Rattle.std.proofs.Common.{ℕ, get_or}
-use Rattle.mtn_roster.proofs.Members.{any_default}
+use Rattle.mtn_base.proofs.Members.{any_default}
 use Rattle.mtn_roster.proofs.Naming.{named_more}
 use Rattle.mtn_roster.proofs.roster.names_of.Goals as goal
 

@@ -2,7 +2,7 @@
 use Rattle.std.proofs.Common.{◌≡◌, ◌∙◌, ◌<◌, ◌+◌, [], ◌∷◌, Some, length, sym, ap, subst, arith, length-append}
 use Rattle.std.specs.Prelude.{slice_get}
 use Rattle.std.specs.Option.{option_copied}
-use Rattle.mtn_roster.proofs.Members.{taken}
+use Rattle.mtn_base.proofs.Members.{taken}
 use Rattle.mtn_marking.specs.Parts.{IsForBoth}
 use Rattle.mtn_marking.proofs.Fitting.{for_long, for_each}
 use Rattle.mtn_roster_deltas.proofs.Places.{numbered_more, some_lent}

@@ -2,7 +2,7 @@
 use Rattle.std.proofs.Common.{◌∙◌, ℕ, Bool, nat_lt, rules, ap}
 use Rattle.std.specs.Ordering.{nat_cmp}
 use Rattle.std.proofs.lemmas.Fn.{always_returns_same}
-use Rattle.mtn_roster.specs.Tree.{rises}
+use Rattle.mtn_base.specs.Lists.{rises}
 use Rattle.mtn_roster_deltas.proofs.Ascending.{up_told, map_same}
 use Rattle.mtn_roster_deltas.proofs.order.numbers_ascend.Goals as goal
 

@@ -1,7 +1,7 @@
 -- By the test of names.
 use Rattle.std.proofs.Common.{◌∙◌, sym, ap}
 use Rattle.mtn_base.specs.Names.{same_name}
-use Rattle.mtn_roster.proofs.Tests.{same_name-is, same_name-self}
+use Rattle.mtn_base.proofs.Tests.{same_name-is, same_name-self}
 use Rattle.mtn_roster_deltas.proofs.same.are_same_nodes.Goals as goal
 
 pub returns : goal.returns

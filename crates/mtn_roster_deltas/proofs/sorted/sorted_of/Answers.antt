@@ -6,7 +6,7 @@ use Rattle.std.proofs.lemmas.Fn.{always_returns_same}
 use Rattle.std.proofs.lemmas.List.Sorted.{ranks_by, answers_always}
 use Rattle.mtn_base.specs.Names.{name_cmp}
 use Rattle.mtn_records.specs.declared.entry.NumberedEntry.{NumberedEntry}
-use Rattle.mtn_roster.proofs.Looking.{names_total}
+use Rattle.mtn_base.proofs.Orders.{names_total}
 use Rattle.mtn_roster_deltas.proofs.ByNode.{sorts_nodes}
 use Rattle.mtn_roster_deltas.proofs.sorted.sorted_of.Goals as goal
 

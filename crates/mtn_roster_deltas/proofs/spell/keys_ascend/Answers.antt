@@ -4,7 +4,7 @@ use Rattle.std.specs.Ordering.{is_lt}
 use Rattle.std.proofs.lemmas.Fn.{always_returns_same}
 use Rattle.mtn_base.specs.Names.{bytes_cmp}
 use Rattle.mtn_records.specs.declared.entry.NumberedAttr.{NumberedAttr}
-use Rattle.mtn_roster.proofs.Looking.{bytes_total}
+use Rattle.mtn_base.proofs.Orders.{bytes_total}
 use Rattle.mtn_roster_deltas.specs.Parts.{numbered_key}
 use Rattle.mtn_roster_deltas.proofs.Ascending.{rise_told}
 use Rattle.mtn_roster_deltas.proofs.spell.keys_ascend.Goals as goal

@@ -4,7 +4,8 @@ use Rattle.std.specs.Prelude.{Contains}
 use Rattle.mtn_base.specs.Names.{name_cmp}
 use Rattle.mtn_marking.specs.Marking.{Marks}
 use Rattle.mtn_marking.proofs.ByName.{name_of}
-use Rattle.mtn_roster.specs.Tree.{IsSane, rises}
+use Rattle.mtn_roster.specs.Tree.{IsSane}
+use Rattle.mtn_base.specs.Lists.{rises}
 use Rattle.mtn_roster_text.specs.Positions.{all_positions}
 use Rattle.mtn_roster_text.proofs.AllMarks.{all_marks, once_each}
 use Rattle.mtn_roster_text.proofs.positions.marked_positions.Goals as goal

@@ -6,7 +6,7 @@ use Rattle.std.specs.Result.{result_ok}
 use Rattle.std.proofs.lemmas.Fn.{always_returns_same}
 use Rattle.mtn_base.specs.Names.{name_cmp, same_name}
 use Rattle.mtn_base.specs.declared.name.NodeName.{NodeName}
-use Rattle.mtn_roster.specs.Tree.{rises}
+use Rattle.mtn_base.specs.Lists.{rises}
 use Rattle.mtn_marking.specs.declared.node.NodeMarks.{NodeMarks}
 use Rattle.mtn_marking.specs.Marking.{Marks}
 use Rattle.mtn_marking.proofs.ByName.{name_of, halved_names}

@@ -4,7 +4,7 @@ use Rattle.std.proofs.Common.{rules, ◌≡◌, ◌<◌, ◌≤◌, true, map, l
 use Rattle.std.proofs.lemmas.Fn.{always_returns_same}
 use Rattle.std.specs.List.Sorted.{IsBinarySearchResult}
 use Rattle.mtn_base.specs.Names.{name_cmp}
-use Rattle.mtn_roster.specs.Tree.{rises}
+use Rattle.mtn_base.specs.Lists.{rises}
 use Rattle.mtn_marking.specs.declared.node.NodeMarks.{NodeMarks}
 use Rattle.mtn_marking.specs.Marking.{Marks, marking_of}
 use Rattle.mtn_marking.proofs.ByName.{name_of, IsPut, put_here, put_others, put_rising, put_is, put_name, new_rising, new_is}

@@ -7,12 +7,13 @@ use Rattle.mtn_base.specs.Names.{name_cmp}
 use Rattle.mtn_roster.specs.declared.build.BuildError.{BuildError}
 use Rattle.mtn_roster.specs.declared.build.BuildError.TheVariants.{Insane}
 use Rattle.mtn_roster.specs.declared.entry.Entry.{Entry}
-use Rattle.mtn_roster.specs.Tree.{Tree, rises, entry_of, in_order, IsSane, IsSaneMap}
+use Rattle.mtn_roster.specs.Tree.{Tree, entry_of, in_order, IsSane, IsSaneMap}
+use Rattle.mtn_base.specs.Lists.{rises}
 use Rattle.mtn_roster.specs.Index.{IsIndex}
 use Rattle.mtn_roster.specs.Building.{NamesDiffer, KeysDiffer, with_keys_in_order, tree_of, AreUps}
 use Rattle.mtn_roster.proofs.Ordered.{in_order-rises}
 use Rattle.std.proofs.Math.Seq.{take-append_seam}
-use Rattle.mtn_roster.proofs.Sorting.{long_map}
+use Rattle.mtn_base.proofs.Sorting.{long_map}
 use Rattle.mtn_roster.proofs.Building.{differ_still, differed, made_sane}
 use Rattle.mtn_roster.proofs.roster.Roster.build.Goals as goal
 

@@ -5,7 +5,7 @@ use Rattle.std.specs.List.Sorted.{IsBinarySearchResult, IsSearchInRange}
 use Rattle.std.specs.Ordering.{nat_cmp}
 use Rattle.std.specs.Result.{result_ok}
 use Rattle.std.proofs.lemmas.Fn.{always_returns_same}
-use Rattle.mtn_roster.specs.Tree.{rises}
+use Rattle.mtn_base.specs.Lists.{rises}
 use Rattle.mtn_roster.proofs.Along.{got}
 use Rattle.mtn_roster_text.specs.declared.table.Named.{Named}
 use Rattle.mtn_roster_text.proofs.Tables.{place_in, halved_places}

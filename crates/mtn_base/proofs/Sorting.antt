@@ -10,10 +10,10 @@ use Rattle.std.specs.FinMap.Entries.{by_order}
 use Rattle.std.proofs.Common.{◌≡◌, ℕ, zero, suc, ◌+◌, ◌<◌, ◌⊎◌, inl, inr, Bool, true, false, List, [], ◌∷◌, ◌++◌, length, get_or, refl, sym, ◌∙◌, ap, subst, arith}
 use Rattle.std.proofs.lemmas.List.Sorted.{IsPermutation-sym, Contains-permutation}
 use Rattle.std.proofs.lemmas.Map.Keys.{apart_from_distinct, IsDistinct-IsPermutation, IsDistinct-from_apart, IsDistinct-head, IsDistinct-tail, sorted_from_all_adjacent, Less-from_sorted}
-use Rattle.mtn_roster.specs.Tree.{rises, placed, ordered}
-use Rattle.mtn_roster.proofs.Finding.{Split, later}
-use Rattle.mtn_roster.proofs.Members.{head, split_cons, taken, place_of}
-use Rattle.mtn_roster.proofs.Tests.{both_true}
+use Rattle.mtn_base.specs.Lists.{rises, placed, ordered}
+use Rattle.mtn_base.proofs.Finding.{Split, later}
+use Rattle.mtn_base.proofs.Members.{head, split_cons, taken, place_of}
+use Rattle.mtn_base.proofs.Tests.{both_true}
 
 pub lt_was : (r : Ordering) → is_lt r ≡ true → r ≡ Less
 lt_was Less h = refl

@@ -3,7 +3,7 @@ use Rattle.std.specs.Prelude.{List}
 use Rattle.std.specs.declared.cmp.Ordering.{Ordering}
 use Rattle.mtn_base.specs.Names.{bytes_cmp}
 use Rattle.mtn_base.specs.declared.id.Id.{Id}
-use Rattle.mtn_roster.specs.Tree.{ordered}
+use Rattle.mtn_base.specs.Lists.{ordered}
 
 -- the order of ids: byte by byte
 abbrev pub by_id : Id → Id → Ordering

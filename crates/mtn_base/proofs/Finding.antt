@@ -1,7 +1,7 @@
 -- What a search of a list finds.
 use Rattle.std.specs.Prelude.{◌||◌, find}
 use Rattle.std.specs.List.{list_any}
-use Rattle.mtn_roster.specs.Tree.{is_some_with}
+use Rattle.mtn_base.specs.Lists.{is_some_with}
 use Rattle.std.proofs.Common.{◌≡◌, Bool, true, false, cond, List, [], ◌∷◌, ◌++◌, Option, Some, None, refl, ◌∙◌, ap, subst}
 
 pub either_false : (a b : Bool) → (a || b) ≡ false → (a ≡ false) × (b ≡ false)

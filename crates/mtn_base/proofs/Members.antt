@@ -2,7 +2,7 @@
 use Rattle.std.specs.Prelude.{filter_map, slice_get}
 use Rattle.std.specs.List.{cons_option}
 use Rattle.std.proofs.Common.{ℕ, zero, suc, ◌<◌, length, get_or, arith, ◌≡◌, List, [], ◌∷◌, ◌++◌, Option, Some, None, refl, sym, ◌∙◌, ap, subst, ◌⊎◌, inl, inr, append_assoc}
-use Rattle.mtn_roster.proofs.Finding.{Split, later}
+use Rattle.mtn_base.proofs.Finding.{Split, later}
 
 pub head : {X : Type 0} (x : X) (xs : List X) → Split (x ∷ xs) x
 head x xs = record { before = []; rest = xs; is = refl }

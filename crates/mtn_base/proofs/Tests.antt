@@ -1,4 +1,4 @@
--- What the tests on names and slots say.
+-- What the tests on ids, paths and names say.
 use Rattle.std.specs.Prelude.{◌&&◌}
 use Rattle.std.proofs.Common.{◌≡◌, ℕ, Bool, true, false, List, refl, ap, ◌∙◌, ◌⊎◌, inl, inr}
 use Rattle.std.specs.Cmp.{first_so, second_so}
@@ -6,9 +6,6 @@ use Rattle.std.specs.Cmp.Lexicographic.{pointwise_decides, bytes_decides}
 use Rattle.mtn_base.specs.Names.{same_bytes, same_id, same_path, same_name}
 use Rattle.mtn_base.specs.declared.id.Id.{Id}
 use Rattle.mtn_base.specs.declared.name.NodeName.{NodeName}
-use Rattle.mtn_roster.specs.declared.entry.Slot.{Slot}
-use Rattle.mtn_roster.specs.declared.entry.Slot.TheVariants.{Root, Below}
-use Rattle.mtn_roster.specs.Tree.{same_slot}
 
 -- a test came out so or so
 pub told : (b : Bool) → (b ≡ true) ⊎ (b ≡ false)
@@ -35,16 +32,6 @@ same_name-is a b h = λ i. record { birth = same_id-is a.birth b.birth (first_so
 
 pub same_name-self : (a : NodeName) → same_name a a ≡ true
 same_name-self a = both_true _ _ (same_id-self a.birth) (same_path-self a.path)
-
-pub same_slot-is : (a b : Slot) → same_slot a b ≡ true → a ≡ b
-same_slot-is Root Root h = refl
-same_slot-is Root (Below q b) h = absurd cc
-same_slot-is (Below p a) Root h = absurd cc
-same_slot-is (Below p a) (Below q b) h = λ i. Below (same_name-is p q (first_so _ _ h) i) ((bytes_decides a b).0 (second_so (same_name p q) _ h) i)
-
-pub same_slot-self : (a : Slot) → same_slot a a ≡ true
-same_slot-self Root = refl
-same_slot-self (Below p a) = both_true _ _ (same_name-self p) ((bytes_decides a a).1 refl)
 
 pub same_bytes-is : (a b : List ℕ) → same_bytes a b ≡ true → a ≡ b
 same_bytes-is a b h = (bytes_decides a b).0 h

@@ -16,13 +16,13 @@ use Rattle.std.proofs.lemmas.List.Filters.{dedup_is}
 use Rattle.std.proofs.lemmas.List.Sorted.{Contains-permutation, IsPermutation-sym}
 use Rattle.mtn_base.specs.Names.{same_id}
 use Rattle.mtn_base.specs.declared.id.Id.{Id}
-use Rattle.mtn_roster.specs.Tree.{placed}
-use Rattle.mtn_roster.proofs.Finding.{Split}
-use Rattle.mtn_roster.proofs.Looking.{exact_bytes}
-use Rattle.mtn_roster.proofs.Members.{taken, place_of, split_cons}
-use Rattle.mtn_roster.proofs.Sorting.{sorted_strictly, ordered-rises, of_ordered, placed_self, placed_keeps}
-use Rattle.mtn_roster.proofs.Tests.{same_id-is}
-use Rattle.mtn_ids.specs.Ids.{by_id, in_id_order}
+use Rattle.mtn_base.specs.Lists.{placed}
+use Rattle.mtn_base.proofs.Finding.{Split}
+use Rattle.mtn_base.proofs.Orders.{exact_bytes}
+use Rattle.mtn_base.proofs.Members.{taken, place_of, split_cons}
+use Rattle.mtn_base.proofs.Sorting.{sorted_strictly, ordered-rises, of_ordered, placed_self, placed_keeps}
+use Rattle.mtn_base.proofs.Tests.{same_id-is}
+use Rattle.mtn_base.specs.Ids.{by_id, in_id_order}
 
 pub contains_nil : {X : Type 0} {x : X} → Contains [] x → ⊥
 contains_nil c = omega (arith, c.1)
