@@ -1,0 +1,10 @@
+pub mod Numbers
+pub mod RequestLemmas
+pub mod PayloadLemmas
+pub mod OneLemmas
+pub mod SessionLemmas
+pub mod ScriptLemmas
+pub mod TopLemmas
+pub mod ListLaws
+pub mod SingleLemmas
+pub mod WordLemmas

@@ -1,0 +1,10 @@
+pub mod Requests
+pub mod Kinds
+pub mod Limit
+pub mod Script
+pub mod Works
+pub mod One
+pub mod Frame
+pub mod Session
+pub mod Top
+pub mod Payload
