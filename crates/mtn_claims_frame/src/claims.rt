@@ -1,0 +1,46 @@
+//! The public calls of the frame under their own contracts.
+ghost use Rattle.std.specs.Prelude.{◌≡◌};
+ghost use Rattle.mtn_frame.specs.Payload.{takes_last as takes_payload};
+ghost use Rattle.mtn_frame.specs.Requests.{ReadsList};
+ghost use Rattle.mtn_frame.specs.Script.{Does, IsScript, is_session as session_words};
+ghost use Rattle.mtn_frame.specs.Top.{Runs, reads, fed, in_grammar, is_merge};
+
+use mtn_base::{Bytes, List};
+use mtn_frame::{Commands, Request, RequestStop};
+use mtn_model::Status;
+use mtn_ports::{Keeper, Sink, Source};
+use std::alloc::Global;
+
+/// As `mtn_frame::takes_last`.
+pub fn takes_last(words: &[Bytes]) -> bool
+    ensures { result ≡ takes_payload words.now }
+{
+    mtn_frame::takes_last(words)
+}
+
+/// As `mtn_frame::read_requests`.
+pub fn read_requests(alloc: Global, input: &[u8]) -> Result<List<Request>, RequestStop>
+    ensures { ReadsList input.now result }
+{
+    mtn_frame::read_requests(alloc, input)
+}
+
+/// As `mtn_frame::run_frame`.
+pub fn run_frame<C: Commands, S: Source, O: Sink, K: Keeper>(
+    alloc: Global,
+    words: &[Bytes],
+    commands: &C,
+    source: &mut S,
+    sink: &mut O,
+    keeper: &mut K,
+) -> Status
+    ensures { Runs (C.stands commands.now) (C.damages commands.now) C.lines (Does (C.does commands.now)) (λ input. C.bounds commands.now words.now (fed (reads C.spelled C.takes words.now) input)) (λ input. IsScript C.takes words.now (fed (reads C.spelled C.takes words.now) input))
+        (session_words words.now) (in_grammar C.spelled words.now) (is_merge C.merging words.now) (reads C.spelled C.takes words.now)
+        (record { contents = K.contents keeper.old; left = S.left source.old; written = O.written sink.old })
+        (record { contents = K.contents keeper.new; left = S.left source.new; written = O.written sink.new })
+        (record { keeper = K.faults keeper.old; source = S.faults source.old; sink = O.faults sink.old; reads = K.reads keeper.old })
+        (record { keeper = K.faults keeper.new; source = S.faults source.new; sink = O.faults sink.new; reads = K.reads keeper.new })
+        (K.leaves keeper.old) (K.leaves keeper.new) result }
+{
+    mtn_frame::run_frame(alloc, words, commands, source, sink, keeper)
+}
