@@ -19,7 +19,7 @@ use std::thread::Threads;
 use store::{in_file, in_memory};
 
 /// What the command line asks for.
-#[derive(Debug, Drop)]
+#[derive(Drop)]
 enum Line {
     /// A command over a store.
     Command { store: String, words: List<Bytes> },

@@ -9,7 +9,7 @@ use std::alloc::Global;
 use std::collections::{BTreeMap, BTreeSet};
 
 /// From which of the two positions the walk came.
-#[derive(Clone, Copy, Debug, PartialEq, Eq)]
+#[derive(Clone, Copy, PartialEq, Eq)]
 pub enum Reach {
     Left,
     Right,

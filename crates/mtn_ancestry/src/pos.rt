@@ -3,7 +3,7 @@ use mtn_base::Id;
 use std::marker::Model;
 
 /// A place in the log, from 0. Contracts see it as a number.
-#[derive(Clone, Copy, Debug, PartialEq, Eq, PartialOrd, Ord)]
+#[derive(Clone, Copy, PartialEq, Eq, PartialOrd, Ord)]
 pub struct Pos(pub u64);
 
 impl Model for Pos {
@@ -17,7 +17,7 @@ impl Model for Pos {
 }
 
 /// The parents of a revision: none, one or two, in the order of its edges.
-#[derive(Clone, Copy, Debug, PartialEq, Eq)]
+#[derive(Clone, Copy, PartialEq, Eq)]
 pub enum ParentList {
     Zero,
     One(Pos),
@@ -25,7 +25,7 @@ pub enum ParentList {
 }
 
 /// What the log has at a position: a revision's id, and where its parents stand.
-#[derive(Clone, Copy, Debug, PartialEq, Eq)]
+#[derive(Clone, Copy, PartialEq, Eq)]
 pub struct LogEntry {
     pub id: Id,
     pub parents: ParentList,

@@ -9,7 +9,7 @@ use std::marker::Model;
 use std::sync::Arc;
 
 /// A set of positions, which contracts see as a list that ascends without repeats. Copies share it.
-#[derive(Debug, Drop)]
+#[derive(Drop)]
 pub struct PosSet {
     items: Arc<Vec<Pos>>,
 }

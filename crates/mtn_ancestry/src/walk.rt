@@ -15,7 +15,7 @@ use mtn_base::NoMemory;
 use std::alloc::Global;
 
 /// Why a walk has no result.
-#[derive(Debug, Drop)]
+#[derive(Drop)]
 pub enum WalkError<E: Drop> {
     /// The graph answered a question with this error.
     Asked(E),

@@ -16,7 +16,7 @@ use mtn_roster::{BuildError, Entry, Roster};
 use std::alloc::Global;
 
 /// Why a changeset is not applied.
-#[derive(Clone, Copy, Debug)]
+#[derive(Clone, Copy)]
 pub enum ApplyError {
     /// The first change that fails, by its number from 1 up, and its reason. Where every change passes
     /// and the root path has no occupant, it is `NoRoot` with the number of changes plus one.

@@ -11,7 +11,7 @@ use mtn_base::{NoMemory, Path, Why};
 use std::alloc::Global;
 
 /// A failing change, by its number in its edge from 1 up, and its reason.
-#[derive(Clone, Copy, Debug)]
+#[derive(Clone, Copy)]
 pub struct Failure {
     pub number: u64,
     pub why: Why,

@@ -3,6 +3,7 @@ use Rattle.std.specs.Prelude.{◌≡◌, ◌⊎◌, ◌<◌, ◌≤◌, ◌==◌
 use Rattle.std.specs.List.{list_all, slice_split, join_with_byte}
 use Rattle.std.specs.Str.{IsUtf8}
 use Rattle.mtn_base.specs.Comps.{IsComp, is_dots, is_plain_byte}
+use Rattle.mtn_base.specs.declared.limits.TheConstants.{MAX_COMP}
 use Rattle.mtn_base.specs.declared.path.PathError.{PathError}
 use Rattle.mtn_base.specs.declared.path.PathError.TheVariants.{Empty, Dots, TooLong, BadByte, NoMemory}
 
@@ -10,8 +11,8 @@ use Rattle.mtn_base.specs.declared.path.PathError.TheVariants.{Empty, Dots, TooL
 abbrev pub IsCompFault : PathError → List ℕ → Type 0
 IsCompFault Empty text = text ≡ []
 IsCompFault Dots text = is_dots text ≡ true
-IsCompFault TooLong text = 255 < length text
-IsCompFault BadByte text = (0 < length text) × (is_dots text ≡ false) × (length text ≤ 255) × ((list_all is_plain_byte text ≡ false) ⊎ (IsUtf8 text → ⊥))
+IsCompFault TooLong text = MAX_COMP < length text
+IsCompFault BadByte text = (0 < length text) × (is_dots text ≡ false) × (length text ≤ MAX_COMP) × ((list_all is_plain_byte text ≡ false) ⊎ (IsUtf8 text → ⊥))
 IsCompFault NoMemory text = Unit {0}
 
 -- the components joined by `/`; the root path is the empty text

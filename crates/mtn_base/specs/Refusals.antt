@@ -1,9 +1,9 @@
 -- The line of a refusal, our choice: its name, and its fields with one space before each. Ids are forty digits, numbers are
 -- decimal, paths are quoted as in basic_io, and reasons stand by name.
-use Rattle.std.specs.Prelude.{ℕ, ◌==◌, ◌||◌, List, [], ◌∷◌, ◌++◌, decimal, codes, if◌then◌else◌}
-use Rattle.std.specs.List.{flat_map}
+use Rattle.std.specs.Prelude.{ℕ, ◌==◌, List, [], ◌∷◌, ◌++◌, decimal, codes, if◌then◌else◌}
 use Rattle.hex.specs.Hex.{encode_lower}
 use Rattle.mtn_base.specs.Paths.{path_text}
+use Rattle.mtn_base.specs.Quoted.{quoted}
 use Rattle.mtn_base.specs.declared.id.Id.{Id}
 use Rattle.mtn_base.specs.declared.refusal.Why.{Why}
 use Rattle.mtn_base.specs.declared.refusal.Why.TheVariants as why
@@ -48,13 +48,6 @@ number_field n = 32 ∷ decimal n
 
 abbrev pub id_field : Id → List ℕ
 id_field id = 32 ∷ encode_lower id.0
-
--- a backslash stands before each quote and each backslash
-abbrev pub escaped_byte : ℕ → List ℕ
-escaped_byte b = if b == 34 || b == 92 then 92 ∷ b ∷ [] else b ∷ []
-
-abbrev pub quoted : List ℕ → List ℕ
-quoted text = 34 ∷ flat_map escaped_byte text ++ 34 ∷ []
 
 abbrev pub path_field : List (List ℕ) → List ℕ
 path_field path = 32 ∷ quoted (path_text path)
@@ -128,5 +121,6 @@ cause_fields (BadRequest number) = number_field number
 abbrev pub packet_text : ℕ → List ℕ
 packet_text packet = if packet == 0 then [] else codes " InPacket" ++ number_field packet
 
-abbrev pub line_of : Refusal → List ℕ
-line_of r = codes "refused" ++ packet_text r.packet ++ word_field (cause_name r.cause) ++ cause_fields r.cause ++ 10 ∷ []
+-- the line, LF included
+abbrev pub refusal_text : Refusal → List ℕ
+refusal_text r = codes "refused" ++ packet_text r.packet ++ word_field (cause_name r.cause) ++ cause_fields r.cause ++ 10 ∷ []

@@ -6,7 +6,7 @@ ghost use Rattle.std.specs.List.{list_all};
 ghost use Rattle.mtn_base.specs.Hex.{IsIdText, is_lower_digit as is_digit, read_id, id_from};
 
 /// The SHA-1 of a text: twenty bytes, compared byte by byte.
-#[derive(Clone, Copy, Debug, PartialEq, Eq, PartialOrd, Ord)]
+#[derive(Clone, Copy, PartialEq, Eq, PartialOrd, Ord)]
 pub struct Id(pub [u8; 20]);
 
 impl Id {

@@ -12,7 +12,7 @@
 
 mod id;
 mod ids;
-mod limit;
+mod limits;
 mod list;
 mod name;
 mod no_memory;
@@ -23,9 +23,11 @@ mod refusal_line;
 
 pub use id::Id;
 pub use ids::put_in_order;
-pub use limit::{MAX_LOG, MAX_TEXT, room_in_log};
-pub use list::{Bytes, List};
+pub use limits::{
+    MAX_CHAIN, MAX_COMP, MAX_INPUT, MAX_KEY, MAX_LOG, MAX_NODES, MAX_PATH, MAX_TEXT, room_in_log,
+};
+pub use list::{Bytes, List, Text};
 pub use name::NodeName;
 pub use no_memory::NoMemory;
-pub use path::{Comp, MAX_COMP, Path, PathError};
+pub use path::{Comp, Path, PathError};
 pub use refusal::{Cause, Field, PacketWhy, Refusal, Why};

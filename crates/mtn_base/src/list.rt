@@ -6,13 +6,16 @@ use std::alloc::Global;
 use std::marker::Model;
 
 /// A growing list, which contracts see as the list of its items.
-#[derive(Debug, Drop)]
+#[derive(Drop)]
 pub struct List<T> {
     items: Vec<T>,
 }
 
 /// Any bytes.
 pub type Bytes = List<u8>;
+
+/// The bytes of a file, of a revision's text, of a certificate's value.
+pub type Text = Bytes;
 
 impl<T> Model for List<T> {
     ghost use Rattle.std.specs.Prelude.{List as Seq};

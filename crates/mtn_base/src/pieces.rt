@@ -6,7 +6,7 @@ ghost use Rattle.mtn_base.specs.Comps.{IsComp, is_dots as dots, is_plain_byte as
 ghost use Rattle.mtn_base.specs.Paths.{IsCompFault, FirstPiece};
 
 use crate::PathError;
-use crate::path::MAX_COMP;
+use crate::limits::MAX_COMP;
 
 fn is_dots(text: &[u8]) -> bool
     ensures { result ≡ dots text.now }

@@ -6,7 +6,7 @@ use crate::{Id, NoMemory, Path};
 use std::alloc::Global;
 
 /// Why a change of a changeset fails.
-#[derive(Clone, Copy, Debug, PartialEq, Eq)]
+#[derive(Clone, Copy, PartialEq, Eq)]
 pub enum Why {
     NoPath,
     Taken,
@@ -22,7 +22,7 @@ pub enum Why {
 }
 
 /// Why a packet is not read.
-#[derive(Clone, Copy, Debug, PartialEq, Eq)]
+#[derive(Clone, Copy, PartialEq, Eq)]
 pub enum PacketWhy {
     Truncated,
     Unsupported,
@@ -31,7 +31,7 @@ pub enum PacketWhy {
 }
 
 /// A field of a certificate.
-#[derive(Clone, Copy, Debug, PartialEq, Eq)]
+#[derive(Clone, Copy, PartialEq, Eq)]
 pub enum Field {
     Signature,
     Name,
@@ -40,7 +40,7 @@ pub enum Field {
 
 /// Why a command is refused, with what its line shows. Lengths and places are in bytes, and numbers
 /// count from 1.
-#[derive(Debug, Drop)]
+#[derive(Drop)]
 pub enum Cause {
     TextTooLong { length: u64 },
     NotText { place: u64 },
@@ -75,7 +75,7 @@ pub enum Cause {
 }
 
 /// A cause, and the number of the packet that has it; 0 where no packets are read.
-#[derive(Debug, Drop)]
+#[derive(Drop)]
 pub struct Refusal {
     pub packet: u64,
     pub cause: Cause,

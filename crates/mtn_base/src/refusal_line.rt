@@ -1,7 +1,8 @@
 // The printed line of a refusal.
 ghost use Rattle.std.specs.Prelude.{◌≡◌, ◌++◌, OnOk, OnErr};
 ghost use Rattle.std.specs.List.{flat_map};
-ghost use Rattle.mtn_base.specs.Refusals.{word_field, number_field, id_field, path_field, escaped_byte, cause_fields, line_of, packet_text};
+ghost use Rattle.mtn_base.specs.Quoted.{escaped_byte};
+ghost use Rattle.mtn_base.specs.Refusals.{word_field, number_field, id_field, path_field, cause_fields, packet_text, refusal_text};
 
 use crate::{Cause, Id, NoMemory, Path, Refusal};
 
@@ -121,7 +122,7 @@ fn push_packet(out: &mut Vec<u8>, packet: u64) -> Result<(), NoMemory>
 }
 
 fn push_line(out: &mut Vec<u8>, refusal: &Refusal) -> Result<(), NoMemory>
-    ensures { OnOk result (out.new.items ≡ out.old.items ++ line_of refusal.now) }
+    ensures { OnOk result (out.new.items ≡ out.old.items ++ refusal_text refusal.now) }
 {
     out.extend_from_slice(b"refused")?;
     push_packet(out, refusal.packet)?;
@@ -134,7 +135,7 @@ fn push_line(out: &mut Vec<u8>, refusal: &Refusal) -> Result<(), NoMemory>
 impl Refusal {
     /// Appends the refusal's line, LF included. An error leaves `out` as it was.
     pub fn print(&self, out: &mut Vec<u8>) -> Result<(), NoMemory>
-        ensures ok { OnOk result (out.new.items ≡ out.old.items ++ line_of self.now) }
+        ensures ok { OnOk result (out.new.items ≡ out.old.items ++ refusal_text self.now) }
         ensures err { OnErr result (out.new.items ≡ out.old.items) }
     {
         let mut line = Vec::new(*out.allocator());
@@ -143,6 +144,3 @@ impl Refusal {
         Ok(())
     }
 }
-
-#[cfg(test)]
-mod tests;

@@ -7,7 +7,7 @@ use Rattle.std.proofs.lemmas.Bool.{and_parts, or_parts, not-true, not-false}
 use Rattle.std.proofs.lemmas.List.{append-nil, take_more, take_all, length-drop}
 use Rattle.std.proofs.lemmas.List.Concat.{flat_map-append}
 use Rattle.std.proofs.lemmas.List.Sums.{prefix_len_stops}
-use Rattle.mtn_basic_io.specs.Spelling.{escaped_byte}
+use Rattle.mtn_base.specs.Quoted.{escaped_byte}
 use Rattle.mtn_basic_io.specs.Steps.{is_plain}
 use Rattle.mtn_basic_io.proofs.AtOnce.{whole_len}
 

@@ -1,15 +1,12 @@
 // Why a text was not read.
 use mtn_base::NoMemory as Wanting;
-use thiserror::Error;
 
 /// Why `read` gives no stanzas.
-#[derive(Clone, Copy, Debug, PartialEq, Eq, Error)]
+#[derive(Clone, Copy, PartialEq, Eq)]
 pub enum ReadError {
     /// The text is no printed form; its first `place` bytes begin one, and no more of it does.
-    #[error("not a text of stanzas from byte {place} on")]
     NotText { place: u64 },
     /// Memory is wanting.
-    #[error("memory is wanting")]
     NoMemory,
 }
 

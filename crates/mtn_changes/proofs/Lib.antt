@@ -12,3 +12,7 @@ pub mod OneValue
 pub mod ReadBack
 pub mod Ascending
 pub mod Rising
+pub mod OneCause
+pub mod SameEdges
+pub mod SameFronts
+pub mod OneFault

@@ -2,13 +2,14 @@
 use Rattle.std.specs.Prelude.{◌<◌, ◌≤◌, ℕ, List, length}
 use Rattle.std.specs.Str.{IsUtf8}
 use Rattle.mtn_base.specs.Comps.{AreComps}
+use Rattle.mtn_base.specs.declared.limits.TheConstants.{MAX_KEY}
 use Rattle.mtn_changes.specs.declared.change.Change.{Change}
 use Rattle.mtn_changes.specs.declared.change.Change.TheVariants.{Delete, Rename, AddDir, AddFile, Patch, Clear, Set}
 
 -- an attribute key
 pub record IsKey (key : List ℕ) : Type 0 where
   pub some : 0 < length key
-  pub short : length key ≤ 255
+  pub short : length key ≤ MAX_KEY
   pub utf8 : IsUtf8 key
 
 -- its paths are of components, and its key is one

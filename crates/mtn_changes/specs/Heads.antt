@@ -5,12 +5,12 @@ use Rattle.mtn_basic_io.specs.declared.stanza.Value.TheVariants.{Hex}
 use Rattle.mtn_basic_io.specs.Spelling.{LineText}
 use Rattle.mtn_changes.specs.declared.head.Head.{Head}
 use Rattle.mtn_changes.specs.declared.head.Head.TheVariants.{Version, Manifest, Parent}
-use Rattle.mtn_changes.specs.Stanzas.{line_of, text_line, id_line}
+use Rattle.mtn_changes.specs.Stanzas.{line_with, text_line, id_line}
 
 abbrev pub head_stanza : Head → List LineText
 head_stanza Version = text_line (codes "format_version") (codes "1") ∷ []
 head_stanza (Manifest id) = id_line (codes "new_manifest") id ∷ []
-head_stanza (Parent id) = line_of (codes "old_revision") (Hex id) ∷ []
+head_stanza (Parent id) = line_with (codes "old_revision") (Hex id) ∷ []
 
 -- its place in a revision
 abbrev pub head_rank : Head → ℕ

@@ -1,4 +1,4 @@
--- The changes of an edge, up to the next `old_revision` or the end.
+-- private, for the proof of `read_revision`: the changes of an edge, up to the next `old_revision` or the end.
 use Rattle.std.specs.Prelude.{◌≡◌, ◌+◌, ◌<◌, ◌≤◌, ℕ, List, ◌∷◌, ◌++◌, length, map, take, drop, slice_index_or, Option, Some, None}
 use Rattle.mtn_base.specs.declared.id.Id.{Id}
 use Rattle.mtn_basic_io.specs.Spelling.{LineText}

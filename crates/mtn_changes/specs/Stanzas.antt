@@ -11,17 +11,17 @@ use Rattle.mtn_changes.specs.declared.change.Change.TheVariants.{Delete, Rename,
 use Rattle.mtn_changes.specs.Changes.{IsChange, rank}
 
 -- a line of one value
-abbrev pub line_of : List ℕ → Value → LineText
-line_of symbol value = record { symbol = symbol; values = value ∷ [] }
+abbrev pub line_with : List ℕ → Value → LineText
+line_with symbol value = record { symbol = symbol; values = value ∷ [] }
 
 abbrev pub text_line : List ℕ → List ℕ → LineText
-text_line symbol text = line_of symbol (Text text)
+text_line symbol text = line_with symbol (Text text)
 
 abbrev pub path_line : List ℕ → List (List ℕ) → LineText
 path_line symbol path = text_line symbol (path_text path)
 
 abbrev pub id_line : List ℕ → Id → LineText
-id_line symbol id = line_of symbol (Hex (Some id))
+id_line symbol id = line_with symbol (Hex (Some id))
 
 abbrev pub stanza_of : Change → List LineText
 stanza_of (Delete path) = path_line (codes "delete") path ∷ []

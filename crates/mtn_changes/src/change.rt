@@ -5,11 +5,8 @@ use mtn_base::{Bytes, Id, List, NoMemory, Path};
 use std::alloc::Global;
 use std::marker::Model;
 
-/// The most bytes of an attribute key.
-pub const MAX_KEY: usize = 255;
-
 /// One change of a tree. A key is 1 to 255 bytes of UTF-8, a value any bytes.
-#[derive(Debug, Drop)]
+#[derive(Drop)]
 pub enum Change {
     Delete {
         path: Path,
@@ -42,7 +39,7 @@ pub enum Change {
 }
 
 /// Changes in order, which contracts see as their list.
-#[derive(Debug, Drop)]
+#[derive(Drop)]
 pub struct Changeset {
     pub changes: List<Change>,
 }
@@ -57,14 +54,14 @@ impl Model for Changeset {
 }
 
 /// The changes from a parent; from nothing where there is none.
-#[derive(Debug, Drop)]
+#[derive(Drop)]
 pub struct Edge {
     pub parent: Option<Id>,
     pub changes: Changeset,
 }
 
 /// A manifest's id and the edges that lead to it.
-#[derive(Debug, Drop)]
+#[derive(Drop)]
 pub struct Revision {
     pub manifest: Id,
     pub edges: List<Edge>,

@@ -5,27 +5,20 @@ ghost use Rattle.mtn_changes.specs.Faults.{numbered_of, text_fault};
 use crate::order::Fault;
 use mtn_base::NoMemory as Wanting;
 use mtn_basic_io::ReadError;
-use thiserror::Error;
 
 /// Why a text is no list of changes: its place in bytes where it is no text of stanzas, and
 /// otherwise the number, from 1, of the first stanza at fault.
-#[derive(Clone, Copy, Debug, PartialEq, Eq, Error)]
+#[derive(Clone, Copy, PartialEq, Eq)]
 pub enum ChangeTextError {
-    #[error("no text of stanzas from byte {place} on")]
     NotText { place: u64 },
     /// It spells nothing that stands in such a text.
-    #[error("stanza {number} is none of a revision")]
     BadStanza { number: u64 },
     /// It may not stand there.
-    #[error("stanza {number} may not stand there")]
     BadOrder { number: u64 },
     /// An earlier stanza of its edge changes the same thing.
-    #[error("stanza {number} changes the same as an earlier one")]
     Repeated { number: u64 },
     /// It is the second parent, and does not follow the first.
-    #[error("stanza {number} is no second parent")]
     BadEdge { number: u64 },
-    #[error("memory is wanting")]
     NoMemory,
 }
 

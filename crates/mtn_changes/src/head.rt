@@ -8,7 +8,7 @@ use mtn_basic_io::{Line, Stanza, Value};
 use std::alloc::Global;
 
 /// A stanza of a revision that is no change.
-#[derive(Clone, Copy, Debug, PartialEq, Eq)]
+#[derive(Clone, Copy, PartialEq, Eq)]
 pub enum Head {
     /// `format_version "1"`.
     Version,

@@ -1,5 +1,5 @@
 // Laws of lists of changes and of their texts, for callers that prove.
-ghost use Rattle.std.specs.Prelude.{◌≡◌, ℕ, List as Seq, map, IfErr, IfOk};
+ghost use Rattle.std.specs.Prelude.{◌≡◌, ◌≢◌, ℕ, List as Seq, map, IfErr, IfOk};
 ghost use Rattle.mtn_basic_io.specs.Spelling.{AreStanzas};
 ghost use Rattle.mtn_changes.specs.declared.change.Change.{Change};
 ghost use Rattle.mtn_changes.specs.declared.change.Edge.{Edge};
@@ -34,6 +34,11 @@ pub fn one_value()
 pub fn lawful_is_read()
     ensures changes { (text : Seq ℕ) (a : Seq Change) (e : ChangeTextError) → AreStanzas (map stanza_of a) → IsChangesText text a → IsChangesFault text e → e ≡ NoMemory }
     ensures revision { (text : Seq ℕ) (a : Revision) (e : ChangeTextError) → AreStanzas (revision_stanzas a) → IsRevisionText text a → IsRevisionFault text e → e ≡ NoMemory }
+{}
+
+/// A text that is no revision's has one fault at most, but for want of memory: one cause, with one place or number.
+pub fn one_fault()
+    ensures { (text : Seq ℕ) (a b : ChangeTextError) → a ≢ NoMemory → b ≢ NoMemory → IsRevisionFault text a → IsRevisionFault text b → a ≡ b }
 {}
 
 /// What is written is read back: the changes in the order in which they are written, by way of their text.

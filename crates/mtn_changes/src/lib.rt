@@ -14,8 +14,8 @@
 //! fault has its number (`specs/ChangesText.antt`, `specs/RevisionText.antt`). The writers sort the
 //! changes of each edge by rank, path and key, ask only that the value is lawful apart from order
 //! (`specs/Sorting.antt`), and leave what was there where memory is wanting. A text spells one value,
-//! and one that spells a value is not refused, so what is written is read back as the sorted value
-//! (`src/laws.rt`).
+//! and one that spells a value is not refused, so what is written is read back as the sorted value; a text
+//! that spells no revision has one fault at most (`src/laws.rt`).
 //!
 //! Reading n changes sorts n references once, writing them sorts n more; only a text with a fault is
 //! read a second time, with an ordered set, to find the first one.
@@ -35,14 +35,14 @@ mod revision;
 mod slot;
 mod sorting;
 mod stanzas;
-#[cfg(test)]
-mod tests;
 mod writing;
 
-pub use change::{Change, Changeset, Edge, MAX_KEY, Revision};
+pub use change::{Change, Changeset, Edge, Revision};
 pub use error::ChangeTextError;
 pub use head::{Head, head_of, stanza_of_head};
-pub use laws::{lawful_in_any_order, lawful_is_read, one_value, sorted_changes, sorted_revision};
+pub use laws::{
+    lawful_in_any_order, lawful_is_read, one_fault, one_value, sorted_changes, sorted_revision,
+};
 pub use reading::read_changes;
 pub use revision::read_revision;
 pub use stanzas::{change_of, stanza_of};

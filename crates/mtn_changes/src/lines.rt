@@ -2,7 +2,7 @@
 ghost use Rattle.std.specs.Prelude.{◌≡◌, IfOk, IfSome};
 ghost use Rattle.std.specs.Option.{option_copied};
 ghost use Rattle.mtn_changes.specs.Lines.{id_behind, parent_behind, text_behind};
-ghost use Rattle.mtn_changes.specs.Stanzas.{IsPathOf, IsPathText, id_line, line_of, text_line};
+ghost use Rattle.mtn_changes.specs.Stanzas.{IsPathOf, IsPathText, id_line, line_with, text_line};
 
 use mtn_base::{Id, NoMemory, Path, PathError};
 use mtn_basic_io::{Line, Value};
@@ -47,7 +47,7 @@ fn parent_alone(line: &Line, symbol: &[u8]) -> Option<Option<Id>>
 /// The id or empty id of a line of this symbol, which has one value.
 pub fn parent_of(line: &Line, symbol: &[u8]) -> Option<Option<Id>>
     ensures value { result ≡ parent_behind symbol.now line.now }
-    ensures spells { IfSome result (λ id. line.now ≡ line_of symbol.now (Value.Hex id)) }
+    ensures spells { IfSome result (λ id. line.now ≡ line_with symbol.now (Value.Hex id)) }
 {
     parent_alone(line, symbol)
 }

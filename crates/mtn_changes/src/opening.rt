@@ -13,7 +13,7 @@ use mtn_basic_io::Stanza;
 use std::alloc::Global;
 
 /// What the first three stanzas of a revision say.
-#[derive(Clone, Copy, Debug)]
+#[derive(Clone, Copy)]
 pub struct Opening {
     pub manifest: Id,
     pub parent: Option<Id>,

@@ -14,7 +14,7 @@ use std::alloc::Global;
 use std::collections::BTreeSet;
 
 /// Why a stanza may not stand behind changes.
-#[derive(Clone, Copy, Debug, PartialEq, Eq)]
+#[derive(Clone, Copy, PartialEq, Eq)]
 pub enum Fault {
     BadStanza,
     BadOrder,

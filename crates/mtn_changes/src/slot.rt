@@ -12,7 +12,7 @@ use std::cmp::Ordering;
 use std::marker::Model;
 
 /// The key of an attribute, which contracts see as its bytes; empty where no attribute changes.
-#[derive(Debug, Drop)]
+#[derive(Drop)]
 pub struct Key {
     bytes: Bytes,
 }
@@ -64,7 +64,7 @@ impl PartialOrd for Key {
 }
 
 /// What a change changes: a path in a way, or an attribute of a path. Clear and set change the same.
-#[derive(Debug, Drop, PartialEq, Eq, PartialOrd, Ord)]
+#[derive(Drop, PartialEq, Eq, PartialOrd, Ord)]
 pub struct Slot {
     pub kind: u8,
     pub path: Path,

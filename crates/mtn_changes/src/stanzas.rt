@@ -4,9 +4,9 @@ ghost use Rattle.mtn_basic_io.specs.Spelling.{is_symbol};
 ghost use Rattle.mtn_changes.specs.Changes.{IsKey};
 ghost use Rattle.mtn_changes.specs.Stanzas.{IsRead, IsReadOf, id_line as id_spelled, path_line as path_spelled, stanza_of as spelled, text_line as text_spelled};
 
-use crate::change::{Change, MAX_KEY};
+use crate::change::Change;
 use crate::lines::{id_of, path_of, text_of};
-use mtn_base::{Bytes, Id, NoMemory, Path};
+use mtn_base::{Bytes, Id, MAX_KEY, NoMemory, Path};
 use mtn_basic_io::{Line, Stanza, Value};
 use std::alloc::Global;
 

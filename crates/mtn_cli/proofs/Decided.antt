@@ -7,7 +7,7 @@ use Rattle.mtn_changes.specs.declared.change.Revision.{Revision as Spelled}
 use Rattle.mtn_changes.specs.declared.error.ChangeTextError.{ChangeTextError}
 use Rattle.mtn_changes.specs.declared.error.ChangeTextError.TheVariants as error
 use Rattle.mtn_changes.proofs.OneValue.{no_revision_fault, same_revision}
-use Rattle.mtn_faults.proofs.OneFault.{one_fault}
+use Rattle.mtn_changes.proofs.OneFault.{one_fault}
 use Rattle.mtn_history_laws.specs.History.{Revision}
 use Rattle.mtn_replay.proofs.Histories.{one_history}
 use Rattle.mtn_history.specs.Texts.{text_under}

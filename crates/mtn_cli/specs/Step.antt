@@ -7,7 +7,7 @@ use Rattle.mtn_base.specs.declared.refusal.Cause.{Cause}
 use Rattle.std.specs.FinMap.{get}
 use Rattle.mtn_base.specs.declared.id.Id.{Id}
 use Rattle.mtn_base.specs.declared.refusal.Cause.TheVariants.{UnknownFile, UnknownRevision}
-use Rattle.mtn_base.specs.Refusals.{line_of}
+use Rattle.mtn_base.specs.Refusals.{refusal_text}
 use Rattle.mtn_put_revision.specs.Accepting.{Decides}
 use Rattle.mtn_history.specs.Files.{file_refusal, with_file}
 use Rattle.mtn_history.specs.Texts.{text_under}
@@ -41,7 +41,7 @@ abbrev pub id_line : List ℕ → List ℕ
 id_line id = encode_lower id ++ 10 ∷ []
 
 abbrev pub refusal_line : Cause → List ℕ
-refusal_line cause = line_of (record { packet = 0; cause = cause })
+refusal_line cause = refusal_text (record { packet = 0; cause = cause })
 
 -- what was done, and answered
 abbrev pub done : State → List ℕ → Outcome

@@ -8,9 +8,9 @@ ghost use Rattle.mtn_cli.specs.Step.{Steps, id_lines as lines_of, line_text};
 use crate::answer::Reply;
 use crate::command::Call;
 use mtn_base::{Bytes, Cause, Id, List, NoMemory};
+use mtn_graph_queries::{Line, Query, QueryError, answer, lines};
 use mtn_history::{Draft, HistoryError, StoreError};
 use mtn_ports::{Ident, Keeper};
-use mtn_graph_queries::{Line, Query, QueryError, answer, lines};
 use std::alloc::Global;
 
 // Appends the digits of an id.

@@ -10,7 +10,7 @@ use mtn_graph_queries::Query;
 use std::alloc::Global;
 
 /// A command with its words read.
-#[derive(Debug, Drop)]
+#[derive(Drop)]
 pub enum Call {
     /// `put_file`: keeps the payload, and answers its id.
     PutFile,

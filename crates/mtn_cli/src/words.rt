@@ -9,7 +9,7 @@ use std::alloc::Global;
 use std::collections::BTreeSet;
 
 /// An option: `--name=value`, or the flag `--resolve`, which has no value.
-#[derive(Debug, Drop)]
+#[derive(Drop)]
 pub struct OptionWord {
     /// The text behind `--`, up to the first `=`.
     pub name: Bytes,
@@ -17,7 +17,7 @@ pub struct OptionWord {
 }
 
 /// Words as the grammar parts them. Which options and positionals a command takes is another matter.
-#[derive(Debug, Drop)]
+#[derive(Drop)]
 pub struct Command {
     pub name: Bytes,
     /// In word order, each name once.
@@ -26,7 +26,7 @@ pub struct Command {
 }
 
 /// Why words are no command.
-#[derive(Clone, Copy, Debug, Drop, PartialEq, Eq)]
+#[derive(Clone, Copy, Drop, PartialEq, Eq)]
 pub enum WordsError {
     /// They are outside the grammar.
     Usage,

@@ -3,7 +3,7 @@ use mtn_base::{Id, List, NoMemory};
 use std::alloc::{AllocError, AllocFailed};
 
 /// A question about the graph.
-#[derive(Debug, Drop)]
+#[derive(Drop)]
 pub enum Query {
     /// The parents of a revision.
     Parents { of: Id },
@@ -28,7 +28,7 @@ pub enum Query {
 }
 
 /// Why a query has no answer.
-#[derive(Clone, Copy, Debug, Drop, PartialEq, Eq)]
+#[derive(Clone, Copy, Drop, PartialEq, Eq)]
 pub enum QueryError {
     /// The graph does not have this id; it is the first such that the query names.
     Unknown(Id),
@@ -36,7 +36,7 @@ pub enum QueryError {
 }
 
 /// A revision and its parents.
-#[derive(Debug, Drop)]
+#[derive(Drop)]
 pub struct Line {
     pub id: Id,
     pub parents: List<Id>,

@@ -13,7 +13,7 @@ use mtn_ports::Keeper;
 use std::alloc::Global;
 
 /// What table 1 says: the number of revisions, and whether the store has no records yet.
-#[derive(Clone, Copy, Debug, PartialEq, Eq)]
+#[derive(Clone, Copy, PartialEq, Eq)]
 pub struct Meta {
     pub count: u64,
     pub is_new: bool,

@@ -10,7 +10,7 @@ use mtn_roster::{Body, Entry};
 use std::collections::BTreeSet;
 
 /// What is wrong with two nodes at one path.
-#[derive(Clone, Copy, Debug, PartialEq, Eq)]
+#[derive(Clone, Copy, PartialEq, Eq)]
 pub enum PairFault {
     Disagree,
     Revived,

@@ -16,7 +16,7 @@ use std::collections::BTreeSet;
 
 /// Why two trees can not be joined: the least path, component by component, at which one side has no node, or two nodes that
 /// disagree, or one that the other side revives.
-#[derive(Debug, Drop)]
+#[derive(Drop)]
 pub enum JoinError {
     Disagree { path: Path },
     Revived { path: Path },

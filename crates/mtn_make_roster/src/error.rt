@@ -2,7 +2,7 @@
 use mtn_base::{Cause, NoMemory};
 
 /// Why the edges of a revision make no tree.
-#[derive(Debug, Drop)]
+#[derive(Drop)]
 pub enum MakeError {
     /// The first refusal.
     Refused(Cause),

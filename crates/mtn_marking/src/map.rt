@@ -12,7 +12,7 @@ use std::alloc::Global;
 use std::marker::Model;
 
 /// Markings by node names. Contracts see the list of the nodes that have one, by ascending names.
-#[derive(Debug, Drop)]
+#[derive(Drop)]
 pub struct MarkMap {
     items: Vec<NodeMarks>,
 }

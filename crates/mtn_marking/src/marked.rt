@@ -12,7 +12,7 @@ use mtn_roster::Roster;
 use std::marker::Model;
 
 /// A roster with the marks of exactly its nodes and their scalars.
-#[derive(Debug, Drop)]
+#[derive(Drop)]
 pub struct MarkedRoster {
     roster: Roster,
     marks: MarkMap,

@@ -3,7 +3,7 @@ use mtn_ancestry::{Pos, PosSet};
 use mtn_base::{Bytes, List, NodeName};
 
 /// The marks of an attribute.
-#[derive(Debug, Drop)]
+#[derive(Drop)]
 pub struct AttrMarks {
     pub key: Bytes,
     pub marks: PosSet,
@@ -11,7 +11,7 @@ pub struct AttrMarks {
 
 /// The position of a node's birth and the marks of its scalars: a directory has none of a content, and the
 /// keys of attributes ascend by bytes where the marking is one of a roster's node.
-#[derive(Debug, Drop)]
+#[derive(Drop)]
 pub struct Marking {
     pub birth: Pos,
     pub slot: PosSet,
@@ -20,7 +20,7 @@ pub struct Marking {
 }
 
 /// A node and its marking.
-#[derive(Debug, Drop)]
+#[derive(Drop)]
 pub struct NodeMarks {
     pub name: NodeName,
     pub marking: Marking,

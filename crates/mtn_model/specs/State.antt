@@ -4,6 +4,7 @@ use Rattle.std.specs.List.{All}
 use Rattle.std.specs.FinMap.{FinMap, get, empty}
 use Rattle.std.specs.Cmp.Lexicographic.{slice_cmp}
 use Rattle.std.specs.Ordering.{nat_cmp}
+use Rattle.mtn_base.specs.declared.limits.TheConstants.{MAX_TEXT}
 use Rattle.mtn_model.specs.Table.{Table}
 
 -- a revision as it was accepted
@@ -35,7 +36,7 @@ pub record State : Type 0 where
 abbrev pub empty_state : State
 empty_state = record { files = empty; log = []; certs = empty }
 
--- each file is within its limit of 64 MiB and has the id that the ident gives it
+-- each file is within its limit and has the id that the ident gives it
 pub record AreFiles (f : List ℕ → List ℕ) (files : Table) : Type 0 where
-  pub sizes : (id bytes : List ℕ) → get files id ≡ Some bytes → length bytes ≤ 67108864
+  pub sizes : (id bytes : List ℕ) → get files id ≡ Some bytes → length bytes ≤ MAX_TEXT
   pub ids : (id bytes : List ℕ) → get files id ≡ Some bytes → f bytes ≡ id

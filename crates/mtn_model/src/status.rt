@@ -4,7 +4,7 @@ ghost use Rattle.mtn_model.specs.Outcome.{number_of};
 
 /// How a call of `run` ends, in the order of its numbers from 0. Ok, Refused, Usage and Conflicts answer;
 /// the others but SinkFault leave the store as it was.
-#[derive(Clone, Copy, Debug, PartialEq, Eq)]
+#[derive(Clone, Copy, PartialEq, Eq)]
 pub enum Status {
     /// The command was done; its output is written.
     Ok,

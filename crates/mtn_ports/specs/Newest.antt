@@ -1,4 +1,4 @@
--- Where in a list of records the newest one under a key stands, and what an index of these places says.
+-- private, for the proof of `Batch`: where in a list of records the newest one under a key stands, and what an index of these places says.
 use Rattle.std.specs.Prelude.{◌≡◌, ◌==◌, ◌&&◌, if◌then◌else◌, bytes_eq, ℕ, suc, Bool, true, false, List, [], ◌∷◌, ◌++◌, Option, None, Some, slice_get, Vec}
 use Rattle.std.specs.Cmp.Lexicographic.{slice_cmp}
 use Rattle.std.specs.Ordering.{nat_cmp}

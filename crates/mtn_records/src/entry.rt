@@ -7,7 +7,7 @@ use mtn_base::{Bytes, Id, List, NodeName};
 use std::marker::Model;
 
 /// An attribute and its marks; a value of None is cleared.
-#[derive(Debug, Drop)]
+#[derive(Drop)]
 pub struct NumberedAttr {
     pub key: Bytes,
     pub value: Option<Bytes>,
@@ -15,7 +15,7 @@ pub struct NumberedAttr {
 }
 
 /// A directory, or a file with its content and the marks of that.
-#[derive(Debug, Drop)]
+#[derive(Drop)]
 pub enum NumberedBody {
     Dir,
     File { content: Id, marks: PosSet },
@@ -23,7 +23,7 @@ pub enum NumberedBody {
 
 /// A node under a number: where its birth stands in the log, its name, the number of its parent (0 for the root
 /// slot) and its name below it (empty for the root slot), the marks of that, its body and its attributes.
-#[derive(Debug, Drop)]
+#[derive(Drop)]
 pub struct NumberedEntry {
     pub number: u64,
     pub birth_at: Pos,
@@ -36,7 +36,7 @@ pub struct NumberedEntry {
 }
 
 /// Entries by ascending numbers, which contracts see as their list.
-#[derive(Debug, Drop)]
+#[derive(Drop)]
 pub struct Numbered {
     pub entries: List<NumberedEntry>,
 }

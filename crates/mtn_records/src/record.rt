@@ -6,7 +6,7 @@ use mtn_base::{Id, List};
 /// The body of a roster's record: all its entries, or what differs from the roster of `base`. A delta stands `depth`
 /// records above a whole one; `gone` are the numbers, ascending, of the base's entries that are no more, and `changed`
 /// the entries that are new or differ.
-#[derive(Debug, Drop)]
+#[derive(Drop)]
 pub enum RosterRecord {
     Whole(Numbered),
     Delta {
@@ -19,7 +19,7 @@ pub enum RosterRecord {
 
 /// The body of a log's record: the revision, the least node number not given after it, and the positions of its
 /// parents in the order of its edges.
-#[derive(Debug, Drop)]
+#[derive(Drop)]
 pub struct LogRecord {
     pub id: Id,
     pub next_node: u64,

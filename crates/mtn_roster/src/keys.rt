@@ -7,7 +7,7 @@ use mtn_base::{NoMemory, NodeName};
 use std::alloc::Global;
 
 /// A place among entries, and where the key of the name there begins and ends.
-#[derive(Clone, Copy, Debug)]
+#[derive(Clone, Copy)]
 struct Keyed {
     place: usize,
     start: usize,

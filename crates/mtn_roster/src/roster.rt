@@ -19,7 +19,7 @@ use std::alloc::Global;
 use std::marker::Model;
 
 /// A sane tree, which contracts see as the list of its entries by ascending name.
-#[derive(Debug, Drop)]
+#[derive(Drop)]
 pub struct Roster {
     entries: Vec<Entry>,
     // For each place of an entry that of its parent; the root's is its own.

@@ -2,7 +2,7 @@ use mtn_base::NoMemory;
 use std::alloc::{AllocError, AllocFailed};
 
 /// Why a marked tree gets no numbers.
-#[derive(Debug, Drop)]
+#[derive(Drop)]
 pub enum NumberError {
     /// Two nodes would get one number, or one would get 0.
     Clash,

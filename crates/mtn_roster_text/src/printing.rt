@@ -27,7 +27,7 @@ use mtn_roster::{Attr, Body, Entry};
 use std::alloc::Global;
 
 /// Room that is used again from node to node.
-#[derive(Debug, Drop)]
+#[derive(Drop)]
 pub struct Spare {
     ids: Vec<Id>,
     path: Vec<u8>,

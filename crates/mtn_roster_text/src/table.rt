@@ -9,14 +9,14 @@ use std::alloc::Global;
 use std::marker::Model;
 
 /// A position and the id of the revision there.
-#[derive(Clone, Copy, Debug)]
+#[derive(Clone, Copy)]
 pub struct Named {
     pub at: Pos,
     pub id: Id,
 }
 
 /// The ids of some positions. Contracts see them as a list by ascending positions.
-#[derive(Debug, Drop)]
+#[derive(Drop)]
 pub struct IdTable {
     items: Vec<Named>,
 }

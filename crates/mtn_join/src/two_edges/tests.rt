@@ -71,7 +71,7 @@ fn with_two(alloc: Global, first: Entry, second: Entry) -> Result<Roster, Fail> 
 }
 
 /// What an answer tells of a file below the root.
-#[derive(Clone, Copy, Debug, PartialEq, Eq)]
+#[derive(Clone, Copy, PartialEq, Eq)]
 enum Told {
     Joined,
     Disagrees,

@@ -1,6 +1,6 @@
 use Rattle.std.proofs.Common.{◌≡◌, ◌++◌, take}
 use Rattle.std.specs.List.{flat_map}
-use Rattle.mtn_base.specs.Refusals.{escaped_byte}
+use Rattle.mtn_base.specs.Quoted.{escaped_byte}
 use Rattle.mtn_base.proofs.refusal_line.push_escaped.Given as goal
 
 abbrev pub invariant-loop-byte : goal.invariant-loop-byte

@@ -1,7 +1,10 @@
-use Rattle.std.proofs.Common.{◌≡◌, ◌++◌, ◌∷◌, [], List, length, Some, sym, ap, ◌∙◌, subst, arith}
+use Rattle.std.specs.List.{AllByRecursion}
+use Rattle.std.proofs.Common.{◌≡◌, ◌<◌, ℕ, ◌++◌, ◌∷◌, [], List, length, Some, sym, ap, ◌∙◌, subst, arith}
 use Rattle.mtn_ports.specs.declared.batch.Put.{Put}
+use Rattle.mtn_ports.specs.Indexed.{IsKeyed}
 use Rattle.mtn_ports.specs.Newest.{SetsPlace, newest_place}
 use Rattle.mtn_ports.proofs.NewestLemmas.{index_push, older_push}
+use Rattle.mtn_ports.proofs.Keyed.{keyed-push}
 use Rattle.mtn_ports.proofs.batch.Batch.add.Goals as goal
 
 pub invariant_of-self-2 : goal.invariant_of-self-2
@@ -16,4 +19,8 @@ invariant_of-self-2 c =
       older = older_push old.older.items c.push_within-2.new.items.items c.in_ok-older.older old.puts.items c.push_within.new.items.items p c.self.invariant.older
           (c.in_ok-older.ensures.older ∙ c.self.invariant.places c.args.table c.args.key.now ∙ ap (λ key. newest_place c.args.table key old.puts.items) (sym c.in_ok-from_slice.ensures))
           (c.push_within-2.ensures ∙ ap (λ os. os ++ c.in_ok-older.older ∷ []) c.in_ok-reserve-2.ensures.items) all;
+      keyed = subst (AllByRecursion IsKeyed) (sym all) (keyed-push old.puts.items p c.self.invariant.keyed (record {
+        table = omega arith;
+        key = subst (λ (key : List ℕ). 0 < length key) (sym c.in_ok-from_slice.ensures) c.requires;
+      }));
     }

@@ -1,0 +1,26 @@
+use Rattle.std.proofs.Common.{◌∷◌, Some, map}
+use Rattle.mtn_base.specs.declared.id.Id.{Id}
+use Rattle.mtn_basic_io.specs.declared.stanza.Value.TheVariants.{Text, Hex}
+use Rattle.mtn_basic_io.proofs.Kept.{front_trans}
+use Rattle.mtn_basic_io.proofs.Written.{value_first, line_done}
+use Rattle.mtn_basic_io.proofs.writing.write_text_ids_line.Goals as goal
+
+pub returns-in_err-write_symbol-clause-kept : goal.returns-in_err-write_symbol-clause-kept
+returns-in_err-write_symbol-clause-kept c = c.in_err-write_symbol.ensures.kept
+
+pub returns-in_err-write_spaced-clause-kept : goal.returns-in_err-write_spaced-clause-kept
+returns-in_err-write_spaced-clause-kept c = front_trans c.in_ok-write_symbol.ensures.kept c.in_err-write_spaced.ensures.kept
+
+pub returns-in_err-write_ids-clause-kept : goal.returns-in_err-write_ids-clause-kept
+returns-in_err-write_ids-clause-kept c = front_trans c.in_ok-write_symbol.ensures.kept (front_trans c.in_ok-write_spaced.ensures.kept c.in_err-write_ids.ensures.kept)
+
+pub returns-in_err-put-clause-kept : goal.returns-in_err-put-clause-kept
+returns-in_err-put-clause-kept c = front_trans c.in_ok-write_symbol.ensures.kept (front_trans c.in_ok-write_spaced.ensures.kept (front_trans c.in_ok-write_ids.ensures.kept c.in_err-put.ensures.kept))
+
+pub returns-clause-kept : goal.returns-clause-kept
+returns-clause-kept c = front_trans c.in_ok-write_symbol.ensures.kept (front_trans c.in_ok-write_spaced.ensures.kept (front_trans c.in_ok-write_ids.ensures.kept c.in_ok-put.ensures.kept))
+
+pub returns-clause-ok : goal.returns-clause-ok
+returns-clause-ok c =
+    line_done c.args.column (record { symbol = c.args.symbol.now; values = Text c.args.text.now ∷ map (λ (i : Id). Hex (Some i)) c.args.ids.now }) _ _ _ _ c.in_ok-write_symbol.ensures.ok
+    (value_first _ _ _ _ _ c.in_ok-write_spaced.ensures.ok c.in_ok-write_ids.ensures.ok) c.in_ok-put.ensures.ok

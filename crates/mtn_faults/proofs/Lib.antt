@@ -1,4 +1,0 @@
-pub mod Causes
-pub mod Meeting
-pub mod Fronts
-pub mod OneFault
