@@ -4,7 +4,7 @@ use Rattle.std.specs.Prelude.{⊤, if◌then◌else◌, IsErrOf, OnOk, OnErr}
 use Rattle.std.specs.Io.KnownBytes.{Appends}
 use Rattle.std.proofs.lemmas.List.{append-nil}
 use Rattle.mtn_base.specs.declared.refusal.Refusal.{Refusal}
-use Rattle.mtn_base.specs.Refusals.{line_of}
+use Rattle.mtn_base.specs.Refusals.{refusal_text}
 use Rattle.mtn_model.specs.Table.{Contents}
 use Rattle.mtn_model.specs.State.{State}
 use Rattle.mtn_ports.specs.Causes.{Rose}
@@ -48,7 +48,7 @@ module _ (Stands : Contents → State → Type 0) (Damages : Contents → List �
   -- what is settled by its status alone
   abbrev Quietly : Settled → Status → Type 0
   Quietly out status.Ok = ⊤
-  Quietly out status.Refused = (out.batch ≡ []) × ((refusal : Refusal) × (out.text ≡ print_as form status.Refused (line_of refusal)))
+  Quietly out status.Refused = (out.batch ≡ []) × ((refusal : Refusal) × (out.text ≡ print_as form status.Refused (refusal_text refusal)))
   Quietly out status.Usage = (out.batch ≡ []) × (out.text ≡ print_as form status.Usage usage_line) × (spelled ≡ false)
   Quietly out status.Conflicts = (out.batch ≡ []) × (merges ≡ true)
   Quietly out status.SourceFault = ⊥

@@ -4,7 +4,7 @@ use Rattle.std.specs.Prelude.{◌≡◌, ◌≢◌, ◌≤◌, ◌+◌, ◌⊎�
 use Rattle.std.specs.Bool.{OnTrue}
 use Rattle.std.specs.Io.KnownBytes.{Appends}
 use Rattle.mtn_base.specs.declared.refusal.Refusal.{Refusal}
-use Rattle.mtn_base.specs.Refusals.{line_of}
+use Rattle.mtn_base.specs.Refusals.{refusal_text}
 use Rattle.mtn_model.specs.Table.{Contents}
 use Rattle.mtn_model.specs.State.{State}
 use Rattle.mtn_ports.specs.Causes.{Rose}
@@ -142,7 +142,7 @@ abbrev pub Writes : (List ℕ → Type 0) → Bool → Option (List ℕ) → Opt
 Writes Lines session old new status.Usage = Appends old new usage_line
 Writes Lines session old new status.SourceFault = Appends old new []
 Writes Lines session old new status.TooLong = Appends old new []
-Writes Lines session old new status.Refused = (refusal : Refusal) × Appends old new (line_of refusal)
+Writes Lines session old new status.Refused = (refusal : Refusal) × Appends old new (refusal_text refusal)
 Writes Lines false old new status.StoreFault = Appends old new []
 Writes Lines false old new status.NoMemory = Appends old new []
 Writes Lines true old new status.StoreFault = ⊤

@@ -2,7 +2,7 @@
 use Rattle.std.specs.Prelude.{◌≡◌, ◌≢◌, ◌⊎◌, ◌≤◌, ◌<◌, ◌+◌, ℕ, length, Result, OnOk, OnErr, IsErrOf, Bool, true, false, List, [], take, Option, Some, ⊤}
 use Rattle.std.specs.Io.KnownBytes.{Appends}
 use Rattle.mtn_base.specs.declared.refusal.Refusal.{Refusal}
-use Rattle.mtn_base.specs.Refusals.{line_of}
+use Rattle.mtn_base.specs.Refusals.{refusal_text}
 use Rattle.mtn_model.specs.Table.{Contents}
 use Rattle.mtn_model.specs.State.{State}
 use Rattle.mtn_ports.specs.Causes.{Rose}
@@ -61,7 +61,7 @@ WritesOne Lines form written0 written1 status.NoMemory = Appends written0 writte
 WritesOne Lines form written0 written1 status.SourceFault = ⊥
 WritesOne Lines form written0 written1 status.TooLong = ⊥
 WritesOne Lines form written0 written1 status.Ok = ⊤
-WritesOne Lines form written0 written1 status.Refused = (refusal : Refusal) × Appends written0 written1 (print_as form status.Refused (line_of refusal))
+WritesOne Lines form written0 written1 status.Refused = (refusal : Refusal) × Appends written0 written1 (print_as form status.Refused (refusal_text refusal))
 WritesOne Lines form written0 written1 status.Conflicts = ⊤
 WritesOne Lines form written0 written1 status.SinkFault = ⊤
 WritesOne Lines form written0 written1 status.Damaged = (line : List ℕ) × Lines line × Appends written0 written1 (print_as form status.Damaged line)

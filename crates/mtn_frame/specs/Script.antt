@@ -3,7 +3,7 @@
 use Rattle.std.specs.Prelude.{◌≡◌, ◌⊎◌, ◌&&◌, ℕ, suc, List, [], ◌∷◌, ◌++◌, length, map, Bool, true, false, codes, decimal, bytes_eq, ⊤}
 use Rattle.mtn_base.specs.declared.refusal.Refusal.{Refusal}
 use Rattle.mtn_base.specs.declared.refusal.Cause.TheVariants.{BadRequest}
-use Rattle.mtn_base.specs.Refusals.{line_of}
+use Rattle.mtn_base.specs.Refusals.{refusal_text}
 use Rattle.mtn_model.specs.Outcome.{Outcome, number_of}
 use Rattle.mtn_model.specs.State.{State}
 use Rattle.mtn_frame.specs.declared.script.Job.{Job}
@@ -23,7 +23,7 @@ Commands = List (List ℕ) → List ℕ → State → Outcome → Type 0
 
 -- the line of a refusal; the state is left
 abbrev pub refused : Refusal → State → Outcome
-refused refusal s = record { state = s; output = line_of refusal; status = status.Refused }
+refused refusal s = record { state = s; output = refusal_text refusal; status = status.Refused }
 
 abbrev pub usage_line : List ℕ
 usage_line = codes "usage" ++ 10 ∷ []

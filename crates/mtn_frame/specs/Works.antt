@@ -1,7 +1,7 @@
 -- What the function behind a command ensures, the same words for each. It only reads the keeper, and answers with the records
 -- that are to be put.
 use Rattle.std.specs.Prelude.{◌≡◌, ◌⊎◌, ◌≤◌, ◌+◌, ℕ, Bool, true, false, List, [], Option, Some, Result, Ok, Err, if◌then◌else◌, ⊤}
-use Rattle.mtn_base.specs.Refusals.{line_of}
+use Rattle.mtn_base.specs.Refusals.{refusal_text}
 use Rattle.mtn_model.specs.Table.{Contents}
 use Rattle.mtn_model.specs.State.{State}
 use Rattle.mtn_ports.specs.Causes.{Rose}
@@ -93,7 +93,7 @@ OrWant out answer = (out ≡ answer) ⊎ (out ≡ silent status.NoMemory)
 abbrev pub Settles : Form → Result Worked WorkError → Settled → Type 0
 Settles form (Ok worked) out = OrWant out (settled form (reply_status worked.reply) worked.reply.text worked.batch)
 Settles form (Err Usage) out = OrWant out (settled form status.Usage usage_line [])
-Settles form (Err (Refused refusal)) out = OrWant out (settled form status.Refused (line_of refusal) [])
+Settles form (Err (Refused refusal)) out = OrWant out (settled form status.Refused (refusal_text refusal) [])
 Settles form (Err (Damaged line)) out = OrWant out (settled form status.Damaged line [])
 Settles form (Err Failed) out = out ≡ silent status.StoreFault
 Settles form (Err NoMemory) out = out ≡ silent status.NoMemory

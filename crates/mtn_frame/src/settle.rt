@@ -2,7 +2,7 @@
 ghost use Rattle.std.specs.Prelude.{◌≡◌, ◌⊎◌, ◌++◌, [], decimal, IfOk, OnOk};
 ghost use Rattle.mtn_frame.specs.Script.{print_as, framed, usage_line};
 ghost use Rattle.mtn_frame.specs.Works.{Settles, OrWant, settled, silent};
-ghost use Rattle.mtn_base.specs.Refusals.{line_of};
+ghost use Rattle.mtn_base.specs.Refusals.{refusal_text};
 
 use crate::script::Form;
 use crate::works::{WorkError, Worked};
@@ -52,7 +52,7 @@ fn usage(alloc: Global, form: Form) -> Settled
 }
 
 fn refused(alloc: Global, form: Form, refusal: &Refusal) -> Settled
-    ensures { OrWant result (settled form Status.Refused (line_of refusal.now) []) }
+    ensures { OrWant result (settled form Status.Refused (refusal_text refusal.now) []) }
 {
     let mut text = Vec::new(alloc);
     match refusal.print(&mut text) {
