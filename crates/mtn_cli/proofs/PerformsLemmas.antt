@@ -17,7 +17,7 @@ use Rattle.mtn_history.specs.Meta.{IsMetaOf}
 use Rattle.mtn_history.specs.Damage.{IsDamage}
 use Rattle.mtn_history.specs.Stands.{Stands, IsDraft, WasTold, Finishes, FinishLeaves}
 use Rattle.mtn_cli.specs.declared.answer.Reply.{Reply}
-use Rattle.mtn_cli.specs.Step.{Outcome}
+use Rattle.mtn_model.specs.Outcome.{Outcome}
 use Rattle.mtn_cli.specs.Performs.{Performs, Performed, Counts, drafted, Drafts, Drafted, Reason, HasReason, StandsAfter, replied}
 
 pub reason_of : (told : Option Contents) (before now : ℕ) (e : StoreError) → (e ≡ Failed → Rose before now) → IfSome told (λ c. IfDamage e (IsDamage c)) → Reason told before now e

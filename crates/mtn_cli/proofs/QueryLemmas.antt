@@ -25,10 +25,12 @@ use Rattle.mtn_history.specs.declared.errors.HistoryError.TheVariants.{Store}
 use Rattle.mtn_history.specs.declared.pending.Pending.{Pending}
 use Rattle.mtn_history.proofs.LogLemmas.{read_tells, never_wrong}
 use Rattle.mtn_cli.specs.Performs.{Counts, Drafts, drafted, query_refusal, replied}
-use Rattle.mtn_cli.specs.Step.{Asked, Outcome, Steps, refused}
-use Rattle.mtn_cli.specs.declared.command.Call.TheVariants.{Ask}
-use Rattle.mtn_graph_queries.specs.Queries.{NamesUnknown, ids_of}
-use Rattle.mtn_graph_queries.specs.declared.query.Query.{Query}
+use Rattle.mtn_model.specs.Outcome.{Outcome}
+use Rattle.mtn_step.specs.Step.{Asked, Steps, refused}
+use Rattle.mtn_step.specs.declared.call.Call.TheVariants.{Ask}
+use Rattle.mtn_answers.specs.Queries.{ids_of}
+use Rattle.mtn_graph_queries.specs.Queries.{NamesUnknown}
+use Rattle.mtn_answers.specs.declared.query.Query.{Query}
 use Rattle.mtn_graph_queries.specs.declared.query.QueryError.{QueryError}
 use Rattle.mtn_graph_queries.specs.declared.query.QueryError.TheVariants.{Unknown}
 use Rattle.mtn_graph_queries.specs.declared.query.QueryError.TheVariants as query

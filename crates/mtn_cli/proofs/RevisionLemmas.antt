@@ -16,9 +16,9 @@ use Rattle.mtn_model.specs.Table.{Contents}
 use Rattle.mtn_ports.specs.Causes.{Rose}
 use Rattle.mtn_ports.specs.Kept.{Stays, with_all}
 use Rattle.mtn_cli.specs.Performs.{Counts, Drafted, Drafts, HasReason, drafted}
-use Rattle.mtn_cli.specs.Step.{Steps, done, id_line}
+use Rattle.mtn_step.specs.Step.{Steps, done, id_line}
 use Rattle.mtn_cli.specs.declared.answer.Reply.{Reply}
-use Rattle.mtn_cli.specs.declared.command.Call.TheVariants.{PutRevision}
+use Rattle.mtn_step.specs.declared.call.Call.TheVariants.{PutRevision}
 
 -- an error comes from its cause
 reason_told : (told : Option Contents) (p : Pending) (before now : ℕ) (e : HistoryError) → (e ≡ Store Failed → Rose before now) →

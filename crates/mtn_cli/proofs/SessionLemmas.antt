@@ -16,10 +16,11 @@ use Rattle.mtn_ports.specs.Kept.{Same}
 use Rattle.mtn_history.specs.Stands.{Stands}
 use Rattle.mtn_cli.specs.declared.answer.Reply.{Reply}
 use Rattle.mtn_cli.specs.declared.answer.Answer.{Answer}
-use Rattle.mtn_cli.specs.declared.command.Call.{Call}
-use Rattle.mtn_cli.specs.declared.status.Status.{Status}
-use Rattle.mtn_cli.specs.declared.status.Status.TheVariants as status
-use Rattle.mtn_cli.specs.Step.{Steps, reads, takes_payload, fed, reply_status, refusal_line, usage_line}
+use Rattle.mtn_step.specs.declared.call.Call.{Call}
+use Rattle.mtn_model.specs.declared.status.Status.{Status}
+use Rattle.mtn_model.specs.declared.status.Status.TheVariants as status
+use Rattle.mtn_step.specs.Step.{Steps, takes_payload, refusal_line}
+use Rattle.mtn_cli.specs.Step.{reads, fed, reply_status, usage_line}
 use Rattle.mtn_cli.specs.Texts.{damage_line}
 use Rattle.mtn_cli.specs.Performs.{Performs, StandsAfter}
 use Rattle.mtn_cli.specs.Settles.{Settles, answer_of, want}

@@ -19,9 +19,11 @@ use Rattle.mtn_history.proofs.FileLemmas.{draft_stands}
 use Rattle.mtn_history.proofs.Founding.{founded}
 use Rattle.mtn_history.proofs.MarkedLemmas.{draft_counts}
 use Rattle.mtn_history.proofs.MetaLemmas.{no_damage}
-use Rattle.mtn_roster_queries.specs.Answers.{Answer, Gives}
+use Rattle.mtn_answers.specs.Views.{Answer}
+use Rattle.mtn_roster_queries.specs.Answers.{Gives}
 use Rattle.mtn_cli.specs.declared.answer.Reply.{Reply}
-use Rattle.mtn_cli.specs.Step.{OfHistory, Outcome, Viewed, told, done}
+use Rattle.mtn_model.specs.Outcome.{Outcome}
+use Rattle.mtn_step.specs.Step.{OfHistory, Viewed, told, done}
 use Rattle.mtn_cli.specs.Performs.{Counts, Drafted, Drafts, HasReason, Reason, drafted, replied}
 
 -- a damage is one of the records that a draft stands on

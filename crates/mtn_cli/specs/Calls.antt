@@ -7,10 +7,10 @@ use Rattle.mtn_base.specs.Comps.{is_dots, is_plain_byte}
 use Rattle.mtn_base.specs.Hex.{read_id}
 use Rattle.mtn_base.specs.Paths.{pieces_of}
 use Rattle.mtn_base.specs.declared.id.Id.{Id}
-use Rattle.mtn_cli.specs.declared.command.Call.{Call}
-use Rattle.mtn_cli.specs.declared.command.Call.TheVariants.{PutFile, PutRevision, GetFile, GetRevision, GetManifestOf, GetRoster, GetContentChanged, GetCorrespondingPath, Ask, Graph}
-use Rattle.mtn_graph_queries.specs.declared.query.Query.{Query}
-use Rattle.mtn_graph_queries.specs.declared.query.Query.TheVariants.{Parents, Children, Ancestors, Descendents, CommonAncestors, EraseAncestors, Toposort, AncestryDifference, Leaves, Roots}
+use Rattle.mtn_step.specs.declared.call.Call.{Call}
+use Rattle.mtn_step.specs.declared.call.Call.TheVariants.{PutFile, PutRevision, GetFile, GetRevision, GetManifestOf, GetRoster, GetContentChanged, GetCorrespondingPath, Ask, Graph}
+use Rattle.mtn_answers.specs.declared.query.Query.{Query}
+use Rattle.mtn_answers.specs.declared.query.Query.TheVariants.{Parents, Children, Ancestors, Descendents, CommonAncestors, EraseAncestors, Toposort, AncestryDifference, Leaves, Roots}
 use Rattle.mtn_cli.specs.declared.words.Command.{Command}
 use Rattle.mtn_cli.specs.declared.words.OptionWord.{OptionWord}
 use Rattle.mtn_cli.specs.Words.{command_of, each_of}

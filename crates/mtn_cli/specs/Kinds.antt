@@ -1,20 +1,6 @@
--- The statuses: their numbers, and what they say of records and output.
-use Rattle.std.specs.Prelude.{ℕ}
-use Rattle.mtn_cli.specs.declared.status.Status.{Status}
-use Rattle.mtn_cli.specs.declared.status.Status.TheVariants.{Ok, Refused, Usage, Conflicts, SourceFault, SinkFault, StoreFault, NoMemory, Damaged, TooLong}
-
--- the program's exit status
-abbrev pub number_of : Status → ℕ
-number_of Ok = 0
-number_of Refused = 1
-number_of Usage = 2
-number_of Conflicts = 3
-number_of SourceFault = 4
-number_of SinkFault = 5
-number_of StoreFault = 6
-number_of NoMemory = 7
-number_of Damaged = 8
-number_of TooLong = 9
+-- What the statuses say of records and output.
+use Rattle.mtn_model.specs.declared.status.Status.{Status}
+use Rattle.mtn_model.specs.declared.status.Status.TheVariants.{Ok, Refused, Usage, Conflicts, SourceFault, SinkFault, StoreFault, NoMemory, Damaged, TooLong}
 
 -- an answer, an answer that was cut short, nothing done, a damage
 pub data Kind : Type 0 where

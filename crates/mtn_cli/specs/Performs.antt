@@ -18,7 +18,9 @@ use Rattle.mtn_graph_queries.specs.declared.query.QueryError.{QueryError}
 use Rattle.mtn_graph_queries.specs.declared.query.QueryError.TheVariants.{Unknown}
 use Rattle.mtn_graph_queries.specs.declared.query.QueryError.TheVariants as query
 use Rattle.mtn_cli.specs.declared.answer.Reply.{Reply}
-use Rattle.mtn_cli.specs.Step.{Outcome, refused, reply_status}
+use Rattle.mtn_model.specs.Outcome.{Outcome}
+use Rattle.mtn_step.specs.Step.{refused}
+use Rattle.mtn_cli.specs.Step.{reply_status}
 
 -- the outcome that a reply tells, over this state
 abbrev pub replied : Reply → State → Outcome

@@ -11,12 +11,13 @@ use Rattle.mtn_ports.specs.Kept.{Same, IfTold}
 use Rattle.mtn_history.specs.Damage.{IsDamage, IsShown}
 use Rattle.mtn_history.specs.Stands.{Stands}
 use Rattle.mtn_cli.specs.declared.answer.Answer.{Answer}
-use Rattle.mtn_cli.specs.declared.command.Call.{Call}
-use Rattle.mtn_cli.specs.declared.status.Status.{Status}
-use Rattle.mtn_cli.specs.declared.status.Status.TheVariants.{Usage, SourceFault, SinkFault, StoreFault, NoMemory, TooLong}
+use Rattle.mtn_step.specs.declared.call.Call.{Call}
+use Rattle.mtn_model.specs.declared.status.Status.{Status}
+use Rattle.mtn_model.specs.declared.status.Status.TheVariants.{Usage, SourceFault, SinkFault, StoreFault, NoMemory, TooLong}
 use Rattle.mtn_cli.specs.Kinds.{kind_of, ByKind}
 use Rattle.mtn_cli.specs.Limit.{Past, Within}
-use Rattle.mtn_cli.specs.Step.{Outcome, SessionOf, reads}
+use Rattle.mtn_model.specs.Outcome.{Outcome}
+use Rattle.mtn_cli.specs.Step.{SessionOf, reads}
 use Rattle.mtn_cli.specs.Performs.{StandsAfter}
 use Rattle.mtn_cli.specs.Texts.{damage_line}
 

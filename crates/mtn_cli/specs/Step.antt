@@ -1,132 +1,20 @@
--- What a command does to a state, and what it answers.
-use Rattle.std.specs.Prelude.{◌≡◌, List, [], ◌∷◌, ◌++◌, Option, Some, None, Result, Ok, Err, ℕ, codes, Bool, true, false, if◌then◌else◌}
-use Rattle.mtn_cli.specs.declared.answer.Reply.{Reply}
-use Rattle.hex.specs.Hex.{encode_lower}
-use Rattle.mtn_model.specs.State.{State}
-use Rattle.mtn_base.specs.declared.refusal.Cause.{Cause}
-use Rattle.std.specs.FinMap.{get}
-use Rattle.mtn_base.specs.declared.id.Id.{Id}
-use Rattle.mtn_base.specs.declared.refusal.Cause.TheVariants.{UnknownFile, UnknownRevision}
-use Rattle.mtn_base.specs.Refusals.{refusal_text}
-use Rattle.mtn_put_revision.specs.Accepting.{Decides}
-use Rattle.mtn_history.specs.Files.{file_refusal, with_file}
-use Rattle.mtn_history.specs.Texts.{text_under}
-use Rattle.mtn_history_laws.specs.History.{Revision}
-use Rattle.mtn_replay.specs.Lawful.{IsHistory}
-use Rattle.mtn_roster_queries.specs.Answers.{Answer}
-use Rattle.mtn_roster_queries.specs.Views.{manifest_at, corresponding_at, IsContentChanged, IsRoster}
+-- What words do to a state.
+use Rattle.std.specs.Prelude.{◌≡◌, List, [], ◌∷◌, ◌++◌, Option, Some, None, ℕ, codes, Bool, true, false, if◌then◌else◌}
 use Rattle.mtn_cli.specs.Calls.{call_of}
-use Rattle.mtn_cli.specs.declared.command.Call.{Call}
-use Rattle.mtn_cli.specs.declared.command.Call.TheVariants.{PutFile, PutRevision, GetFile, GetRevision, GetManifestOf, GetRoster, GetContentChanged, GetCorrespondingPath, Ask, Graph}
-use Rattle.mtn_graph_queries.specs.Lines.{IsGraph}
-use Rattle.mtn_graph_queries.specs.Queries.{IsAnswer, first_unknown, ids_of}
-use Rattle.mtn_graph_queries.specs.declared.query.Line.{Line}
-use Rattle.mtn_graph_queries.specs.declared.query.Query.{Query}
-use Rattle.std.specs.List.{flat_map}
-use Rattle.mtn_cli.specs.declared.status.Status.{Status}
-use Rattle.mtn_cli.specs.declared.status.Status.TheVariants as status
-
--- the new state, the output, and how the command ends
-pub record Outcome : Type 0 where
-  pub state : State
-  pub output : List ℕ
-  pub status : Status
+use Rattle.mtn_cli.specs.declared.answer.Reply.{Reply}
+use Rattle.mtn_model.specs.Outcome.{Outcome}
+use Rattle.mtn_model.specs.State.{State}
+use Rattle.mtn_model.specs.declared.status.Status.{Status}
+use Rattle.mtn_model.specs.declared.status.Status.TheVariants as status
+use Rattle.mtn_step.specs.Step.{Steps, takes_payload}
+use Rattle.mtn_step.specs.declared.call.Call.{Call}
 
 -- how a reply ends
 abbrev pub reply_status : Reply → Status
 reply_status reply = if reply.conflicts then status.Conflicts else status.Ok
 
--- an id's digits and LF
-abbrev pub id_line : List ℕ → List ℕ
-id_line id = encode_lower id ++ 10 ∷ []
-
-abbrev pub refusal_line : Cause → List ℕ
-refusal_line cause = refusal_text (record { packet = 0; cause = cause })
-
--- what was done, and answered
-abbrev pub done : State → List ℕ → Outcome
-done new output = record { state = new; output = output; status = status.Ok }
-
--- the line of a refusal; the state is left
-abbrev pub refused : Cause → State → Outcome
-refused cause old = record { state = old; output = refusal_line cause; status = status.Refused }
-
--- the refusal, if there is one, and else what was done
-abbrev pub unless : Option Cause → State → State → List ℕ → Outcome
-unless None old new output = done new output
-unless (Some cause) old new output = refused cause old
-
--- what is held, or the refusal that nothing is
-abbrev pub found : Cause → State → Option (List ℕ) → Outcome
-found cause s None = refused cause s
-found cause s (Some bytes) = done s bytes
-
--- what a revision's text comes to: its first refusal, or the state with it and its id
-pub record PutsRevision (f : List ℕ → List ℕ) (text : List ℕ) (s : State) (o : Outcome) : Type 0 where
-  pub refusal : Option Cause
-  pub after : State
-  pub decides : Decides f s text refusal after
-  pub is : o ≡ unless refusal s after (id_line (f text))
-
--- an answer, which leaves the state
-abbrev pub told : State → Answer → Outcome
-told s (Ok text) = done s text
-told s (Err cause) = refused cause s
-
--- a fact of the history that the log of a state spells
-abbrev pub OfHistory : (List ℕ → List ℕ) → State → (List Revision → Type 0) → Type 0
-OfHistory f s P = (h : List Revision) × IsHistory f s.files s.log h × P h
-
--- the outcome of a question about a history, whose answer is such
-abbrev pub Viewed : (Answer → Type 0) → State → Outcome → Type 0
-Viewed Is s o = (answer : Answer) × Is answer × (o ≡ told s answer)
-
--- ids, one a line
-abbrev pub id_lines : List Id → List ℕ
-id_lines ids = flat_map (λ (id : Id). id_line id.0) ids
-
--- what a query of a history is answered with: the refusal of an unknown id, if there is one, and else its ids
-abbrev pub Asked : List Revision → Query → State → Option Id → Outcome → Type 0
-Asked h query s (Some id) o = o ≡ refused (UnknownRevision id) s
-Asked h query s None o = (ids : List Id) × IsAnswer h query ids × (o ≡ done s (id_lines ids))
-
--- a revision's id and its parents', with one space before each, and LF
-abbrev pub line_text : Line → List ℕ
-line_text line = encode_lower line.id.0 ++ flat_map (λ (parent : Id). 32 ∷ encode_lower parent.0) line.parents ++ 10 ∷ []
-
--- what the graph of a history is answered with
-abbrev pub Graphed : List Revision → State → Outcome → Type 0
-Graphed h s o = (lines : List Line) × IsGraph h lines × (o ≡ done s (flat_map line_text lines))
-
--- The outcome of a command over a state, one line a command; f is what the ident makes of a text. A lawful state has one
--- (`one_outcome`).
-abbrev pub Steps : (List ℕ → List ℕ) → Call → List ℕ → State → Outcome → Type 0
-Steps f PutFile payload s o = o ≡ unless (file_refusal f s payload) s (with_file f s payload) (id_line (f payload))
-Steps f PutRevision payload s o = PutsRevision f payload s o
-Steps f (GetFile id) payload s o = o ≡ found (UnknownFile id) s (get s.files id.0)
-Steps f (GetRevision id) payload s o = o ≡ found (UnknownRevision id) s (text_under s.log id.0)
-Steps f (GetManifestOf id) payload s o = OfHistory f s (λ h. Viewed (λ answer. answer ≡ manifest_at h id) s o)
-Steps f (GetRoster id) payload s o = OfHistory f s (λ h. Viewed (IsRoster h id) s o)
-Steps f (GetContentChanged id path) payload s o = OfHistory f s (λ h. Viewed (IsContentChanged h id path) s o)
-Steps f (GetCorrespondingPath id path other) payload s o = OfHistory f s (λ h. Viewed (λ answer. answer ≡ corresponding_at h id path other) s o)
-Steps f (Ask query) payload s o = OfHistory f s (λ h. Asked h query s (first_unknown h (ids_of query)) o)
-Steps f Graph payload s o = OfHistory f s (λ h. Graphed h s o)
-
 abbrev pub usage_line : List ℕ
 usage_line = codes "usage" ++ 10 ∷ []
-
--- one line a command
-abbrev pub takes_payload : Call → Bool
-takes_payload PutFile = true
-takes_payload PutRevision = true
-takes_payload (GetFile id) = false
-takes_payload (GetRevision id) = false
-takes_payload (GetManifestOf id) = false
-takes_payload (GetRoster id) = false
-takes_payload (GetContentChanged id path) = false
-takes_payload (GetCorrespondingPath id path other) = false
-takes_payload (Ask query) = false
-takes_payload Graph = false
 
 -- whether the source is read
 abbrev pub reads : Option Call → Bool

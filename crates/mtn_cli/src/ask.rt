@@ -3,10 +3,10 @@ ghost use Rattle.std.specs.Prelude.{◌≡◌, ◌++◌, IfOk, OnOk};
 ghost use Rattle.std.specs.List.{flat_map};
 ghost use Rattle.hex.specs.Hex.{encode_lower};
 ghost use Rattle.mtn_cli.specs.Performs.{Drafts, query_refusal as refusal};
-ghost use Rattle.mtn_cli.specs.Step.{Steps, id_lines as lines_of, line_text};
+ghost use Rattle.mtn_step.specs.Step.{Steps, id_lines as lines_of, line_text};
 
 use crate::answer::Reply;
-use crate::command::Call;
+use mtn_step::Call;
 use mtn_base::{Bytes, Cause, Id, List, NoMemory};
 use mtn_graph_queries::{Line, Query, QueryError, answer, lines};
 use mtn_history::{Draft, HistoryError, StoreError};

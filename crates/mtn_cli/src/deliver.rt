@@ -3,7 +3,7 @@ ghost use Rattle.std.specs.Prelude.{◌≤◌};
 ghost use Rattle.mtn_cli.specs.Settles.{Delivers};
 
 use crate::answer::Answer;
-use crate::status::Status;
+use mtn_model::Status;
 use mtn_ports::Sink;
 
 // Writes the text from its front.

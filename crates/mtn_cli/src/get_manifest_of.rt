@@ -1,10 +1,10 @@
 // The command `get_manifest_of`.
 ghost use Rattle.std.specs.Prelude.{◌≡◌};
 ghost use Rattle.mtn_cli.specs.Performs.{Drafts};
-ghost use Rattle.mtn_cli.specs.Step.{Steps};
+ghost use Rattle.mtn_step.specs.Step.{Steps};
 
 use crate::answer::Reply;
-use crate::command::Call;
+use mtn_step::Call;
 use mtn_base::Id;
 use mtn_history::{Draft, HistoryError};
 use mtn_ports::{Ident, Keeper};

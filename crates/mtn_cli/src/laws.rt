@@ -1,12 +1,11 @@
-//! Laws of what a command does.
+//! Laws of what words do.
 ghost use Rattle.std.specs.Prelude.{◌≡◌, ℕ, List};
-ghost use Rattle.mtn_replay.specs.Lawful.{IsLawful};
+ghost use Rattle.mtn_cli.specs.Step.{Session};
+ghost use Rattle.mtn_model.specs.Outcome.{Outcome};
 ghost use Rattle.mtn_model.specs.State.{State};
-ghost use Rattle.mtn_cli.specs.declared.command.Call.{Call};
-ghost use Rattle.mtn_cli.specs.Step.{Outcome, Session, Steps};
+ghost use Rattle.mtn_replay.specs.Lawful.{IsLawful};
 
-/// Over a lawful state a command, and a session, has no more than one outcome.
+/// Over a lawful state words with an input have no more than one outcome (that of a command is `one_outcome` of `mtn_step_laws`).
 pub fn one_outcome()
-    ensures step { (f : List ℕ → List ℕ) (s : State) (call : Call) (payload : List ℕ) (o p : Outcome) → IsLawful f s → Steps f call payload s o → Steps f call payload s p → o ≡ p }
-    ensures session { (f : List ℕ → List ℕ) (s : State) (words : List (List ℕ)) (input : List ℕ) (o p : Outcome) → IsLawful f s → Session f words input s o → Session f words input s p → o ≡ p }
+    ensures { (f : List ℕ → List ℕ) (s : State) (words : List (List ℕ)) (input : List ℕ) (o p : Outcome) → IsLawful f s → Session f words input s o → Session f words input s p → o ≡ p }
 {}

@@ -2,7 +2,7 @@
 //!
 //! *Words* are a command and its arguments, the *payload* is what the source gives. A command is done
 //! over a *draft* of the store (`mtn_history`), and its *answer* is a status and a text. What each
-//! command does to a state is one line of `Steps` (`specs/Step.antt`), what words spell it one line of
+//! command does to a state is one line of `Steps` (`specs/Step.antt` of `mtn_step`), what words spell it one line of
 //! the grammar (`specs/Words.antt`), and its function has the one clause `Drafts` that all have; the
 //! frame (open a draft, do the command, finish, write) is proved once for all of them.
 //!
@@ -25,13 +25,12 @@ mod payload;
 mod put_file;
 mod put_revision;
 mod settle;
-mod status;
 mod top;
 mod words;
 
 pub use command::are_words;
 pub use laws::one_outcome;
 pub use payload::MAX_INPUT;
-pub use status::Status;
+pub use mtn_model::Status;
 pub use top::run;
 pub use words::{Command, OptionWord, WordsError, step_words};

@@ -2,11 +2,12 @@
 ghost use Rattle.std.specs.Prelude.{◌≡◌, ◌⊎◌, ◌++◌, [], IfOk, OnOk, MatchResult};
 ghost use Rattle.hex.specs.Hex.{encode_lower};
 ghost use Rattle.mtn_cli.specs.Settles.{Settles, answer_of};
-ghost use Rattle.mtn_cli.specs.Step.{refusal_line, usage_line};
+ghost use Rattle.mtn_step.specs.Step.{refusal_line};
+ghost use Rattle.mtn_cli.specs.Step.{usage_line};
 ghost use Rattle.mtn_cli.specs.Texts.{damage_line, record_text};
 
 use crate::answer::{Answer, Reply};
-use crate::status::Status;
+use mtn_model::Status;
 use mtn_base::{Bytes, Cause, List, NoMemory, Refusal};
 use mtn_history::{Damage, HistoryError, StoreError};
 use std::alloc::Global;

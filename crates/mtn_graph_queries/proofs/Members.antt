@@ -20,12 +20,12 @@ use Rattle.mtn_replay.specs.Graphs.{Tells}
 use Rattle.mtn_replay.specs.Making.{place_of}
 use Rattle.mtn_replay.proofs.Places.{inside}
 use Rattle.mtn_graph_queries.specs.Places.{ids_at}
-use Rattle.mtn_graph_queries.specs.Queries.{IsListOf, IsAsked, IsHeld, IsParent, by_place}
-use Rattle.mtn_graph_queries.specs.declared.query.Query.TheVariants.{Children, Ancestors, Descendents, CommonAncestors, EraseAncestors, Toposort, AncestryDifference, Leaves, Roots}
+use Rattle.mtn_answers.specs.Queries.{IsListOf, IsAsked, IsHeld, IsParent, by_place}
+use Rattle.mtn_answers.specs.declared.query.Query.TheVariants.{Children, Ancestors, Descendents, CommonAncestors, EraseAncestors, Toposort, AncestryDifference, Leaves, Roots}
 use Rattle.mtn_graph_queries.proofs.Placing.{stands, stood}
 use Rattle.mtn_base.specs.Ids.{by_id}
 use Rattle.mtn_base.proofs.IdOrder.{contains_nil, contains_head, contains_later, contains_cases, each_from}
-use Rattle.mtn_graph_queries.proofs.Sorting.{each_to, sorted_nil, sorted_cons, listed_by}
+use Rattle.mtn_answers.proofs.Lists.{each_to, sorted_nil, sorted_cons, listed_by}
 use Rattle.mtn_graph_queries.proofs.Telling.{one_id, place_from, place_to, place_is, above_at, at_above, properly_at, at_properly, parent_at, at_parent, held_at}
 
 -- the ids at positions

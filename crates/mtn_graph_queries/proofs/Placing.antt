@@ -10,7 +10,7 @@ use Rattle.mtn_replay.proofs.Places.{no_place}
 use Rattle.mtn_graph_queries.specs.declared.query.QueryError.{QueryError}
 use Rattle.mtn_graph_queries.specs.declared.query.QueryError.TheVariants.{Unknown, NoMemory}
 use Rattle.mtn_graph_queries.specs.Queries.{NamesUnknown}
-use Rattle.mtn_graph_queries.specs.Queries.{first_unknown}
+use Rattle.mtn_answers.specs.Queries.{first_unknown}
 use Rattle.mtn_base.proofs.IdOrder.{contains_nil, contains_head, contains_later, contains_cases}
 
 module _ (h : List Revision) where

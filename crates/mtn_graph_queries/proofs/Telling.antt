@@ -9,7 +9,7 @@ use Rattle.mtn_history_laws.specs.History.{Revision, parents_at, IsPlaceOf}
 use Rattle.mtn_replay.specs.Graphs.{Tells}
 use Rattle.mtn_replay.specs.Making.{place_of}
 use Rattle.mtn_replay.proofs.Places.{inside, within, place_has, no_place}
-use Rattle.mtn_graph_queries.specs.Queries.{IsAbove, IsProperlyAbove, IsParent}
+use Rattle.mtn_answers.specs.Queries.{IsAbove, IsProperlyAbove, IsParent}
 
 pub same_ancestors : (f g : ℕ → List ℕ) → ((r : ℕ) → f r ≡ g r) → {a b : ℕ} → IsAncestor f a b → IsAncestor g a b
 same_ancestors f g same itself = itself

@@ -1,3 +1,2 @@
 pub mod Queries
-pub mod Lines
 pub mod Places

@@ -2,7 +2,7 @@
 ghost use Rattle.std.specs.Prelude.{◌≡◌, List as Seq, IfOk};
 ghost use Rattle.mtn_history_laws.specs.History.{Revision};
 ghost use Rattle.mtn_replay.specs.Graphs.{Tells};
-ghost use Rattle.mtn_graph_queries.specs.Lines.{HasParents, IsGraph};
+ghost use Rattle.mtn_answers.specs.Lines.{HasParents, IsGraph};
 
 use crate::Line;
 use crate::answers::parents_at;

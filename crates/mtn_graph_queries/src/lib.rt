@@ -1,7 +1,7 @@
 //! The queries of the graph of revisions: Monotone's `parents`, `children`, `ancestors`, `descendents`,
 //! `common_ancestors`, `erase_ancestors`, `toposort`, `ancestry_difference`, `leaves`, `roots` and `graph`.
 //!
-//! A query names revisions by their ids, and its answer is a list of ids (`specs/Queries.antt`): exactly
+//! A query names revisions by their ids, and its answer is a list of ids (`specs/Queries.antt` of `mtn_answers`): exactly
 //! those that it asks for, each once, by ascending ids, or in log order where the query says so. The first
 //! id that the graph does not have is answered before all else.
 //!
@@ -13,15 +13,14 @@
 mod answers;
 mod graph;
 mod ids;
-mod laws;
 mod places;
 mod query;
 mod sets;
 
 pub use answers::answer;
 pub use graph::lines;
-pub use laws::one_answer;
-pub use query::{Line, Query, QueryError};
+pub use mtn_answers::{Line, Query};
+pub use query::QueryError;
 
 #[cfg(test)]
 mod tests;

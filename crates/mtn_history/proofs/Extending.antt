@@ -32,7 +32,8 @@ use Rattle.mtn_history.specs.Meta.{meta_of, count_key, version_key, version}
 use Rattle.mtn_history.specs.Revisions.{Kept, next_of, all_entries, depth_on, deeper, IsKept, AreKept, AreTexts, OnlyBelow, IsLogBody, AreLogged, IsRosterOf, IsRosterBody, AreRosters}
 use Rattle.mtn_ports.proofs.KeptLemmas.{with_all-append}
 use Rattle.mtn_history.specs.Stands.{StandsFor, IsDraft, IsFounded, based}
-use Rattle.mtn_history.proofs.FileLemmas.{get_inserted, other_table}
+use Rattle.mtn_history.proofs.FileLemmas.{other_table}
+use Rattle.mtn_replay.proofs.FileLemmas.{get_inserted}
 
 -- what is found under another key, and under the key itself
 get_other : (m : Table) (k b q : List ℕ) → (q ≡ k → ⊥) → get (insert m k b) q ≡ get m q

@@ -30,7 +30,8 @@ use Rattle.mtn_history.proofs.RosterLemmas.{never_unmade, shown_roster}
 use Rattle.mtn_history.proofs.LogLemmas.{never_wrong, shown_log}
 use Rattle.mtn_history.proofs.TextLemmas.{text_found}
 use Rattle.mtn_history.specs.Stands.{StandsFor, Stands, IsNew, IsDraft, WasTold, Finishes, FinishLeaves}
-use Rattle.mtn_history.proofs.FileLemmas.{get_inserted, draft_stands, empty_lawful}
+use Rattle.mtn_history.proofs.FileLemmas.{draft_stands}
+use Rattle.mtn_replay.proofs.FileLemmas.{get_inserted, empty_lawful}
 
 count_of : (n : ℕ) → get (meta_of n) count_key ≡ Some (to_be_bytes w64 n)
 count_of n = get_inserted (insert empty count_key (to_be_bytes w64 n)) version_key version count_key ∙ get_inserted empty count_key (to_be_bytes w64 n) count_key

@@ -16,7 +16,7 @@ use Rattle.mtn_records.specs.Fields.{number_text}
 use Rattle.mtn_history.specs.declared.pending.Pending.{Pending}
 use Rattle.mtn_history.specs.Revisions.{AreTexts}
 use Rattle.mtn_history.specs.Stands.{StandsFor, IsNew, IsDraft}
-use Rattle.mtn_history.specs.Texts.{text_under}
+use Rattle.mtn_replay.specs.Texts.{text_under}
 
 -- table 3 of a draft
 pub texts_of : (b : Bool) (f : List ℕ → List ℕ) (c : Contents) (s : State) → MatchBool b (IsNew c s) (StandsFor f c s) → AreTexts s.log (c 3)

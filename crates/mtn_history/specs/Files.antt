@@ -1,30 +1,16 @@
--- Files: what is refused, what is kept, what is found.
-use Rattle.std.specs.Prelude.{◌≡◌, ℕ, List, Option, Some, None, Result, Ok, Err, length, nat_lt, bytes_eq, if◌then◌else◌}
-use Rattle.std.specs.FinMap.{get, insert}
+-- Files: what the calls answer.
+use Rattle.std.specs.Prelude.{◌≡◌, ℕ, List, Some, None, Result, Ok, Err}
+use Rattle.std.specs.FinMap.{get}
 use Rattle.mtn_model.specs.Table.{Contents}
 use Rattle.mtn_model.specs.State.{State}
-use Rattle.mtn_base.specs.Hex.{id_of}
 use Rattle.mtn_base.specs.declared.id.Id.{Id}
-use Rattle.mtn_base.specs.declared.refusal.Cause.{Cause}
-use Rattle.mtn_base.specs.declared.refusal.Cause.TheVariants.{TextTooLong, Collision, UnknownFile}
+use Rattle.mtn_base.specs.declared.refusal.Cause.TheVariants.{UnknownFile}
 use Rattle.mtn_history.specs.declared.pending.Pending.{Pending}
 use Rattle.mtn_history.specs.declared.errors.HistoryError.{HistoryError}
 use Rattle.mtn_history.specs.declared.errors.HistoryError.TheVariants.{Refused, Store}
 use Rattle.mtn_history.specs.Errors.{IfDamage}
 use Rattle.mtn_history.specs.Stands.{IsDraft}
-
--- other bytes than those that are held
-abbrev pub collision : Option (List ℕ) → List ℕ → List ℕ → Option Cause
-collision None id bytes = None
-collision (Some held) id bytes = if bytes_eq held bytes then None else Some (Collision (id_of id))
-
--- the first of: more than 64 MiB; other bytes are held under the id
-abbrev pub file_refusal : (List ℕ → List ℕ) → State → List ℕ → Option Cause
-file_refusal f s bytes = if nat_lt 67108864 (length bytes) then Some (TextTooLong (length bytes)) else collision (get s.files (f bytes)) (f bytes) bytes
-
--- the id keeps the bytes
-abbrev pub with_file : (List ℕ → List ℕ) → State → List ℕ → State
-with_file f s bytes = record s { files = insert s.files (f bytes) bytes }
+use Rattle.mtn_replay.specs.Files.{file_refusal, with_file}
 
 -- the answer to `put_file`, and what is pending then
 abbrev pub AcceptsFile : (List ℕ → List ℕ) → Contents → State → List ℕ → Result Id HistoryError → Pending → Type 0

@@ -1,19 +1,15 @@
 -- The text of a revision: what is found, and what is damage.
-use Rattle.std.specs.Prelude.{◌≡◌, ◌<◌, ℕ, List, length, find, Option, Some, None, Result, Ok, Err, option_map}
-use Rattle.mtn_base.specs.Names.{same_bytes}
+use Rattle.std.specs.Prelude.{◌≡◌, ◌<◌, ℕ, List, length, Some, None, Result, Ok, Err}
 use Rattle.mtn_base.specs.declared.id.Id.{Id}
 use Rattle.mtn_base.specs.declared.refusal.Cause.TheVariants.{UnknownRevision}
-use Rattle.mtn_model.specs.State.{Logged, State}
+use Rattle.mtn_model.specs.State.{State}
 use Rattle.mtn_model.specs.Table.{Contents, body_at}
 use Rattle.mtn_history.specs.declared.errors.Damage.{Damage}
 use Rattle.mtn_history.specs.declared.errors.Damage.TheVariants.{Bad, Missing}
 use Rattle.mtn_history.specs.declared.errors.HistoryError.{HistoryError}
 use Rattle.mtn_history.specs.declared.errors.HistoryError.TheVariants.{Refused, Store}
 use Rattle.mtn_history.specs.Errors.{IfDamage}
-
--- the text that the log has under an id
-abbrev pub text_under : List Logged → List ℕ → Option (List ℕ)
-text_under log id = option_map (λ (l : Logged). l.text) (find (λ (l : Logged). same_bytes l.id id) log)
+use Rattle.mtn_replay.specs.Texts.{text_under}
 
 -- the answer to `text_of`, and the text that was read
 abbrev pub FindsText : State → Id → Result (Unit {0}) HistoryError → List ℕ → Type 0

@@ -24,7 +24,7 @@ use Rattle.mtn_history.specs.Meta.{IsMetaOf, Counted, count_key}
 use Rattle.mtn_history.specs.Logs.{IsHeldAt}
 use Rattle.mtn_history.specs.Rosters.{IsRosterHeld}
 use Rattle.mtn_history.specs.Stands.{IsDraft, IsFounded}
-use Rattle.mtn_history.specs.Texts.{text_under}
+use Rattle.mtn_replay.specs.Texts.{text_under}
 use Rattle.mtn_history.specs.declared.errors.Damage.{Damage}
 use Rattle.mtn_history.specs.declared.errors.HistoryError.{HistoryError}
 use Rattle.mtn_history.specs.declared.errors.HistoryError.TheVariants.{Refused, Store}
@@ -32,7 +32,8 @@ use Rattle.mtn_history.specs.declared.errors.StoreError.TheVariants.{Failed, Dam
 use Rattle.mtn_history.specs.declared.pending.Pending.{Pending}
 use Rattle.mtn_history.proofs.Founding.{founded, told_of}
 use Rattle.mtn_history.proofs.MetaLemmas.{opened_by}
-use Rattle.mtn_put_revision.specs.Accepting.{AcceptsRevision, Decides, IsHeld, refusal_beside, logged_beside}
+use Rattle.mtn_put_revision.specs.Accepting.{AcceptsRevision, IsHeld}
+use Rattle.mtn_replay.specs.Accepting.{Decides, refusal_beside, logged_beside}
 use Rattle.mtn_put_revision.specs.Finding.{IsFound, IsRefusal, made_refusal_of}
 use Rattle.mtn_put_revision.specs.Keeping.{Accepts, AcceptsNew, IsSpelled, with_text}
 use Rattle.mtn_put_revision.specs.declared.over.Fresh.{Fresh}

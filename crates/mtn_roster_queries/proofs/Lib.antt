@@ -1,4 +1,3 @@
 pub mod Marking
 pub mod Rostered
 pub mod Views
-pub mod Unique

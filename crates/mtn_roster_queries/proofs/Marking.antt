@@ -23,7 +23,8 @@ use Rattle.mtn_roster.specs.Tree.{Tree, IsSane, entry_of, node_at}
 use Rattle.mtn_roster.proofs.Forest.{node_there}
 use Rattle.mtn_roster.proofs.Ordered.{forest_of}
 use Rattle.mtn_roster_queries.specs.Marks.{AreContentMarks, AreMarksFor}
-use Rattle.mtn_roster_queries.specs.Views.{AreMarkIds}
+use Rattle.mtn_answers.specs.Views.{AreMarkIds}
+use Rattle.mtn_answers.proofs.Marks.{mark_event, event_value, mark_placed}
 
 -- two revisions at one place are one
 pub one_id : (h : List Revision) (x y : Id) (a : ℕ) → IsPlaceOf h x a → IsPlaceOf h y a → x ≡ y
@@ -51,24 +52,6 @@ module _ (h : List Revision) where
       λ m. let y = stood marks ids zip m.0 ((marked m.0).1 m.2) in (same x).1 (subst (Contains ids) (one_id h y.0 x m.0 y.2 m.1) y.1),
     );
   }
-
--- a mark is an event
-mark_event : {parents : ℕ → List ℕ} {value : ℕ → Option Value} {r x : ℕ} → IsMarkOf Value parents value r x → IsMarked Value parents value x
-mark_event (here m) = m
-mark_event (onward quiet c same m) = mark_event m
-
-event_value : {parents : ℕ → List ℕ} {value : ℕ → Option Value} {x : ℕ} → IsMarked Value parents value x → (v : Value) × (value x ≡ Some v)
-event_value (fresh {v = v} is none) = (v, is)
-event_value (changed {v = v} is differ) = (v, is)
-event_value (chosen {v = v} is p q a b c d e m) = (v, is)
-
--- a mark is a revision of the history
-pub mark_placed : (h : List Revision) (s : Scalar) (r x : ℕ) → IsMark h s r x → (id : Id) × IsPlaceOf h id x
-mark_placed h s r x m = by (slice_get h x) refl (event_value (mark_event m))
-  where
-    by : (o : Option Revision) → slice_get h x ≡ o → (v : Value) × (value_at h s x ≡ Some v) → (id : Id) × IsPlaceOf h id x
-    by (Some q) e is = (q.id, (q, e, refl))
-    by None e is = absurd (let none : value_at h s x ≡ None = ap (λ (q : Option Revision). value_in (revision_tree q) s) e in let v : value_at h s x ≡ Some is.0 = is.1 in cc)
 
 pub mark_there : (h : List Revision) (s : Scalar) (r x : ℕ) → IsMark h s r x → x < length h
 mark_there h s r x m = let place = (mark_placed h s r x m).1 in inside h x place.0 place.1

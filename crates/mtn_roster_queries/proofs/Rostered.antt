@@ -16,7 +16,7 @@ use Rattle.mtn_roster_text.specs.Naming.{id_at, ids_at, ids_in, table_of}
 use Rattle.mtn_roster_text.specs.Positions.{IsMarkIn}
 use Rattle.mtn_roster_text.specs.RosterText.{roster_of}
 use Rattle.mtn_roster_text.proofs.Tables.{named, named_so}
-use Rattle.mtn_roster_queries.specs.Views.{AreMarkIds, IsRoster, IsRosterIn}
+use Rattle.mtn_answers.specs.Views.{AreMarkIds, IsRoster, IsRosterIn}
 use Rattle.mtn_roster_queries.proofs.Marking.{mark_there, never_marked, one_id}
 use Rattle.mtn_roster_queries.proofs.Views.{answer_at}
 

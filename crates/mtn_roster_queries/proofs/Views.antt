@@ -28,9 +28,10 @@ use Rattle.mtn_roster.specs.declared.entry.Body.{Body}
 use Rattle.mtn_roster.specs.declared.entry.Body.TheVariants.{Dir, File}
 use Rattle.mtn_roster.specs.declared.entry.Entry.{Entry}
 use Rattle.mtn_roster.specs.Tree.{Tree, node_at}
-use Rattle.mtn_roster_queries.specs.Answers.{Answer, Gives, over}
+use Rattle.mtn_answers.specs.Views.{Answer, over}
+use Rattle.mtn_roster_queries.specs.Answers.{Gives}
 use Rattle.mtn_roster_queries.specs.Marks.{AreContentMarks, AreMarksFor, GivesMarks}
-use Rattle.mtn_roster_queries.specs.Views.{IsContentAt, IsContentChanged, IsContentIn, IsContentOf, corresponding_at, marks_text, node_text}
+use Rattle.mtn_answers.specs.Views.{IsContentAt, IsContentChanged, IsContentIn, IsContentOf, corresponding_at, marks_text, node_text}
 use Rattle.mtn_roster_queries.proofs.Marking.{are_mark_ids, mark_there}
 
 -- a revision that was not found

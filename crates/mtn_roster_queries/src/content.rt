@@ -13,7 +13,7 @@ ghost use Rattle.mtn_ports.specs.Causes.{Rose};
 ghost use Rattle.mtn_ports.specs.Kept.{Stays, with_all};
 ghost use Rattle.mtn_roster_queries.specs.Answers.{Gives};
 ghost use Rattle.mtn_roster_queries.specs.Marks.{GivesMarks};
-ghost use Rattle.mtn_roster_queries.specs.Views.{IsContentChanged, mark_stanza as stanza_of_mark, marks_text as text_of_marks};
+ghost use Rattle.mtn_answers.specs.Views.{IsContentChanged, mark_stanza as stanza_of_mark, marks_text as text_of_marks};
 
 use mtn_ancestry::PosSet;
 use mtn_base::{Bytes, Cause, Id, NoMemory, NodeName, Path, put_in_order};

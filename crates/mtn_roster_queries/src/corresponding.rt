@@ -10,8 +10,9 @@ ghost use Rattle.mtn_model.specs.State.{State};
 ghost use Rattle.mtn_ports.specs.Causes.{Rose};
 ghost use Rattle.mtn_ports.specs.Kept.{Stays, with_all};
 ghost use Rattle.mtn_roster.specs.Tree.{node_at};
-ghost use Rattle.mtn_roster_queries.specs.Answers.{Gives, over};
-ghost use Rattle.mtn_roster_queries.specs.Views.{corresponding_at, node_text as text_of_node, path_stanza};
+ghost use Rattle.mtn_answers.specs.Views.{over};
+ghost use Rattle.mtn_roster_queries.specs.Answers.{Gives};
+ghost use Rattle.mtn_answers.specs.Views.{corresponding_at, node_text as text_of_node, path_stanza};
 
 use mtn_base::{Bytes, Cause, Id, NoMemory, NodeName, Path};
 use mtn_basic_io::write_text_line;

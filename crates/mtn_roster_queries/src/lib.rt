@@ -5,14 +5,13 @@
 //! that the log does not have, before any other.
 //!
 //! The crate above relies on this: an answer is that of the history which the draft's log spells, and the
-//! marks in it are those of the whole history (`specs/Views.antt`), each scalar with one (`laws`); a damage is one of the records that the
+//! marks in it are those of the whole history (`specs/Views.antt` of `mtn_answers`); a damage is one of the records that the
 //! draft stands on. Cost: the rosters, at most sixteen records each, and one record for each mark that is
 //! printed.
 #![tactic(auto)]
 
 mod content;
 mod corresponding;
-pub mod laws;
 mod manifest;
 mod roster;
 

@@ -10,7 +10,7 @@ ghost use Rattle.mtn_model.specs.State.{State};
 ghost use Rattle.mtn_ports.specs.Causes.{Rose};
 ghost use Rattle.mtn_ports.specs.Kept.{Stays, with_all};
 ghost use Rattle.mtn_roster_queries.specs.Answers.{Gives};
-ghost use Rattle.mtn_roster_queries.specs.Views.{manifest_at};
+ghost use Rattle.mtn_answers.specs.Views.{manifest_at};
 
 use mtn_base::{Bytes, Id, NoMemory};
 use mtn_history::{Draft, HistoryError, StoreError};

@@ -12,7 +12,7 @@ ghost use Rattle.mtn_ports.specs.Kept.{Stays, with_all};
 ghost use Rattle.mtn_roster_text.specs.Naming.{ids_in, table_of};
 ghost use Rattle.mtn_roster_text.specs.RosterText.{roster_of};
 ghost use Rattle.mtn_roster_queries.specs.Answers.{Gives};
-ghost use Rattle.mtn_roster_queries.specs.Views.{IsRoster};
+ghost use Rattle.mtn_answers.specs.Views.{IsRoster};
 
 use mtn_ancestry::Pos;
 use mtn_base::{Bytes, Id, NoMemory};

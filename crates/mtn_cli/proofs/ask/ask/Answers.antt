@@ -1,7 +1,7 @@
 use Rattle.std.proofs.Common.{Err, sym, ap, ◌∙◌, subst}
 use Rattle.std.proofs.lemmas.Result.{err_from_is_err_and}
-use Rattle.mtn_cli.specs.Step.{Asked, Steps, done, id_lines}
-use Rattle.mtn_cli.specs.declared.command.Call.TheVariants.{Ask}
+use Rattle.mtn_step.specs.Step.{Asked, Steps, done, id_lines}
+use Rattle.mtn_step.specs.declared.call.Call.TheVariants.{Ask}
 use Rattle.mtn_cli.proofs.QueryLemmas.{graph_failed, graph_answered, graph_unanswered}
 use Rattle.mtn_cli.proofs.ask.ask.Goals as goal
 

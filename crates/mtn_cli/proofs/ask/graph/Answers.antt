@@ -1,7 +1,7 @@
 use Rattle.std.proofs.Common.{Err, ap, ◌∙◌}
 use Rattle.std.proofs.lemmas.Result.{err_from_is_err_and}
-use Rattle.mtn_cli.specs.Step.{Steps, done, line_text}
-use Rattle.mtn_cli.specs.declared.command.Call.TheVariants.{Graph}
+use Rattle.mtn_step.specs.Step.{Steps, done, line_text}
+use Rattle.mtn_step.specs.declared.call.Call.TheVariants.{Graph}
 use Rattle.mtn_cli.proofs.QueryLemmas.{graph_failed, graph_answered}
 use Rattle.std.specs.List.{flat_map}
 use Rattle.mtn_cli.proofs.ask.graph.Goals as goal

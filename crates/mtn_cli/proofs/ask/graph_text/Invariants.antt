@@ -1,6 +1,6 @@
 use Rattle.std.specs.List.{flat_map}
 use Rattle.std.proofs.Common.{◌≡◌, take}
-use Rattle.mtn_cli.specs.Step.{line_text}
+use Rattle.mtn_step.specs.Step.{line_text}
 use Rattle.mtn_cli.proofs.ask.graph_text.Given as goal
 
 abbrev pub invariant-loop-line : goal.invariant-loop-line

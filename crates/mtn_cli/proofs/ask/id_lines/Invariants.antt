@@ -1,5 +1,5 @@
 use Rattle.std.proofs.Common.{◌≡◌, take}
-use Rattle.mtn_cli.specs.Step.{id_lines}
+use Rattle.mtn_step.specs.Step.{id_lines}
 use Rattle.mtn_cli.proofs.ask.id_lines.Given as goal
 
 abbrev pub invariant-loop-id : goal.invariant-loop-id

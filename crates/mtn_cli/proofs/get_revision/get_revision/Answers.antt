@@ -2,7 +2,7 @@ use Rattle.std.proofs.Common.{sym, ap, ◌∙◌, subst}
 use Rattle.mtn_history.specs.declared.pending.Pending.{Pending}
 use Rattle.mtn_history.specs.Stands.{IsDraft}
 use Rattle.mtn_base.specs.declared.refusal.Cause.TheVariants.{UnknownRevision}
-use Rattle.mtn_cli.specs.Step.{done, found}
+use Rattle.mtn_step.specs.Step.{done, found}
 use Rattle.mtn_cli.proofs.get_revision.get_revision.Goals as goal
 
 pub returns-clause-drafts : goal.returns-clause-drafts

@@ -1,6 +1,6 @@
 use Rattle.std.proofs.Common.{sym, ap, ◌∙◌}
-use Rattle.mtn_history.specs.Files.{with_file}
-use Rattle.mtn_cli.specs.Step.{done, unless, id_line}
+use Rattle.mtn_replay.specs.Files.{with_file}
+use Rattle.mtn_step.specs.Step.{done, unless, id_line}
 use Rattle.mtn_cli.proofs.put_file.put_file.Goals as goal
 
 pub returns-clause-drafts : goal.returns-clause-drafts

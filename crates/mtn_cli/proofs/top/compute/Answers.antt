@@ -1,5 +1,5 @@
 use Rattle.std.proofs.Common.{sym, subst, refl}
-use Rattle.mtn_cli.specs.Step.{takes_payload}
+use Rattle.mtn_step.specs.Step.{takes_payload}
 use Rattle.mtn_cli.specs.Session.{Feeds}
 use Rattle.mtn_cli.proofs.SessionLemmas.{used, settled, unfed_failed, unfed_long, unfed_want}
 use Rattle.mtn_cli.proofs.top.compute.Goals as goal

@@ -1,7 +1,7 @@
 use Rattle.std.proofs.Common.{rules, Err, Ok, sym, subst, ap, ◌∙◌}
 use Rattle.mtn_history.specs.declared.pending.Pending.{Pending}
 use Rattle.std.proofs.lemmas.Result.{err_from_is_err_and}
-use Rattle.mtn_cli.specs.Step.{Steps}
+use Rattle.mtn_step.specs.Step.{Steps}
 use Rattle.mtn_cli.proofs.PerformsLemmas.{Worked, open_failed, worked, reply_failed, finished, finish_failed}
 use Rattle.mtn_cli.proofs.top.perform.Goals as goal
 

@@ -1,7 +1,7 @@
 use Rattle.std.proofs.Common.{◌∷◌, sym, subst}
 use Rattle.std.proofs.lemmas.Result.{err_from_is_err_and}
 use Rattle.mtn_graph_queries.specs.Queries.{Answers, NamesUnknown}
-use Rattle.mtn_graph_queries.specs.declared.query.Query.TheVariants.{CommonAncestors}
+use Rattle.mtn_answers.specs.declared.query.Query.TheVariants.{CommonAncestors}
 use Rattle.mtn_graph_queries.proofs.Members.{common_are}
 use Rattle.mtn_graph_queries.proofs.Placing.{all_known, names_rest}
 use Rattle.mtn_graph_queries.proofs.answers.common.Goals as goal

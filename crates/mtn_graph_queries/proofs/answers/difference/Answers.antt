@@ -3,7 +3,7 @@ use Rattle.std.specs.Prelude.{Contains}
 use Rattle.mtn_ancestry.specs.Sets.{IsAscendingListOf}
 use Rattle.std.proofs.lemmas.Result.{err_from_is_err_and}
 use Rattle.mtn_graph_queries.specs.Queries.{Answers, NamesUnknown}
-use Rattle.mtn_graph_queries.specs.declared.query.Query.TheVariants.{AncestryDifference}
+use Rattle.mtn_answers.specs.declared.query.Query.TheVariants.{AncestryDifference}
 use Rattle.mtn_graph_queries.proofs.Members.{difference_is}
 use Rattle.mtn_graph_queries.proofs.Placing.{all_known, names_rest}
 use Rattle.mtn_graph_queries.proofs.answers.difference.Goals as goal

@@ -5,10 +5,10 @@ use Rattle.mtn_ancestry.specs.declared.pos.LogEntry.{LogEntry}
 use Rattle.mtn_base.specs.declared.id.Id.{Id}
 use Rattle.mtn_history_laws.specs.History.{Revision}
 use Rattle.mtn_replay.specs.Graphs.{Tells}
-use Rattle.mtn_graph_queries.specs.Queries.{IsListOf, IsParent}
+use Rattle.mtn_answers.specs.Queries.{IsListOf, IsParent}
 use Rattle.mtn_base.specs.Ids.{by_id}
 use Rattle.mtn_base.proofs.IdOrder.{contains_nil}
-use Rattle.mtn_graph_queries.proofs.Sorting.{sorted_nil}
+use Rattle.mtn_answers.proofs.Lists.{sorted_nil}
 use Rattle.mtn_graph_queries.proofs.Telling.{place_from, place_to}
 use Rattle.mtn_graph_queries.proofs.graph.line.Goals as goal
 use Rattle.mtn_graph_queries.proofs.graph.line.Goals.{in-Some+in_ok-parents-in-Some, in-None}

@@ -9,8 +9,9 @@ use Rattle.mtn_replay.specs.Making.{place_of}
 use Rattle.mtn_marking.specs.Marking.{MarkedTree}
 use Rattle.mtn_ports.proofs.KeptLemmas.{stays_trans}
 use Rattle.mtn_roster.specs.Tree.{node_at}
-use Rattle.mtn_roster_queries.specs.Answers.{Gives, over}
-use Rattle.mtn_roster_queries.specs.Views.{corresponding_at, node_text}
+use Rattle.mtn_answers.specs.Views.{over}
+use Rattle.mtn_roster_queries.specs.Answers.{Gives}
+use Rattle.mtn_answers.specs.Views.{corresponding_at, node_text}
 use Rattle.mtn_roster_queries.proofs.Views.{not_found, gives_same, same_damage, over_first, over_second, with_first, with_both}
 use Rattle.mtn_roster_queries.proofs.corresponding.get_corresponding_path.Goals as goal
 

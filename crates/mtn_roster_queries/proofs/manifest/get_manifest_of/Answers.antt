@@ -6,8 +6,9 @@ use Rattle.mtn_history_laws.specs.History.{tree_at}
 use Rattle.mtn_manifest.specs.Manifest.{manifest_of}
 use Rattle.mtn_marking.specs.Marking.{MarkedTree}
 use Rattle.mtn_roster.specs.Tree.{Tree}
-use Rattle.mtn_roster_queries.specs.Answers.{Gives, over}
-use Rattle.mtn_roster_queries.specs.Views.{manifest_at}
+use Rattle.mtn_answers.specs.Views.{over}
+use Rattle.mtn_roster_queries.specs.Answers.{Gives}
+use Rattle.mtn_answers.specs.Views.{manifest_at}
 use Rattle.mtn_roster_queries.proofs.Views.{not_found, answer_at}
 use Rattle.mtn_roster_queries.proofs.manifest.get_manifest_of.Goals as goal
 

@@ -14,7 +14,7 @@ use Rattle.mtn_roster_text.specs.Naming.{ids_in, table_of}
 use Rattle.mtn_roster_text.specs.Positions.{IsMarkIn}
 use Rattle.mtn_roster_text.specs.RosterText.{roster_of}
 use Rattle.mtn_roster_queries.specs.Answers.{Gives}
-use Rattle.mtn_roster_queries.specs.Views.{IsRoster, IsRosterIn}
+use Rattle.mtn_answers.specs.Views.{IsRoster, IsRosterIn}
 use Rattle.mtn_roster_queries.proofs.Rostered.{roster_answer, roster_held}
 use Rattle.mtn_roster_queries.proofs.Views.{not_found, are_held, held_damage}
 use Rattle.mtn_roster_queries.proofs.roster.get_roster.Goals as goal

@@ -1,6 +1,6 @@
 -- A revision's text comes to one thing.
 use Rattle.std.proofs.Common.{◌≡◌, ◌≤◌, ◌<◌, ℕ, List, length, Option, Some, refl, sym, ap, ◌∙◌, inl, inr, arith}
-use Rattle.mtn_put_revision.specs.Accepting.{Decides, fault_cause, refusal_beside}
+use Rattle.mtn_replay.specs.Accepting.{Decides, fault_cause, refusal_beside}
 use Rattle.mtn_base.specs.declared.refusal.Cause.{Cause}
 use Rattle.mtn_base.specs.declared.refusal.Cause.TheVariants.{TextTooLong}
 use Rattle.mtn_changes.specs.declared.change.Revision.{Revision as Spelled}
@@ -10,9 +10,9 @@ use Rattle.mtn_changes.proofs.OneValue.{no_revision_fault, same_revision}
 use Rattle.mtn_changes.proofs.OneFault.{one_fault}
 use Rattle.mtn_history_laws.specs.History.{Revision}
 use Rattle.mtn_replay.proofs.Histories.{one_history}
-use Rattle.mtn_history.specs.Texts.{text_under}
+use Rattle.mtn_replay.specs.Texts.{text_under}
 use Rattle.mtn_model.specs.State.{State}
-use Rattle.mtn_cli.specs.Step.{unless, id_line}
+use Rattle.mtn_step.specs.Step.{unless, id_line}
 
 same_cause : (a b : Option Cause) (c d : Cause) → a ≡ Some c → b ≡ Some d → c ≡ d → (s t u : State) (line : List ℕ) → unless a s t line ≡ unless b s u line
 same_cause a b c d x y same s t u line = ap (λ r. unless r s t line) (x ∙ ap Some same) ∙ sym (ap (λ r. unless r s u line) y)

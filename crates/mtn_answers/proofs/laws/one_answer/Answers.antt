@@ -1,5 +1,5 @@
-use Rattle.mtn_graph_queries.proofs.Orders.{one_answer, one_graph}
-use Rattle.mtn_graph_queries.proofs.laws.one_answer.Goals as goal
+use Rattle.mtn_answers.proofs.Orders.{one_answer, one_graph}
+use Rattle.mtn_answers.proofs.laws.one_answer.Goals as goal
 
 pub returns-clause-ids : goal.returns-clause-ids
 returns-clause-ids c h q a b x y = one_answer h q a b x y

@@ -3,8 +3,8 @@ use Rattle.mtn_history_laws.specs.Scalars.{Value, value_at}
 use Rattle.mtn_history_laws.proofs.Scalars.{never_back}
 use Rattle.mtn_history_laws.proofs.Telling.{tell_value}
 use Rattle.mtn_mark_laws.proofs.Covering.{covers}
-use Rattle.mtn_roster_queries.proofs.Marking.{mark_placed}
-use Rattle.mtn_roster_queries.proofs.laws.marks_are_named.Goals as goal
+use Rattle.mtn_answers.proofs.Marks.{mark_placed}
+use Rattle.mtn_answers.proofs.laws.marks_are_named.Goals as goal
 
 pub returns : goal.returns
 returns c h grown s r v e ids are =

@@ -1,11 +1,12 @@
 -- What is asked of one revision. The questions are those of Monotone's manual (automate get_manifest_of, get_roster, get_content_changed,
 -- get_corresponding_path); that a directory has a path in another revision too is our choice.
-use Rattle.std.specs.Prelude.{◌≡◌, ◌↔◌, ℕ, List, [], ◌∷◌, map, codes, Option, Some, None, Ok, Err, Contains}
+use Rattle.std.specs.Prelude.{◌≡◌, ◌↔◌, ℕ, List, [], ◌∷◌, map, codes, Option, Some, None, Result, Ok, Err, Contains}
 use Rattle.std.specs.Option.{option_map_or}
 use Rattle.std.specs.List.Sorted.{IsStrictlySortedBy}
 use Rattle.mtn_base.specs.Paths.{path_text}
 use Rattle.mtn_base.specs.declared.id.Id.{Id}
 use Rattle.mtn_base.specs.declared.name.NodeName.{NodeName}
+use Rattle.mtn_base.specs.declared.refusal.Cause.{Cause}
 use Rattle.mtn_base.specs.declared.refusal.Cause.TheVariants.{UnknownRevision, NoSuchPath, NotAFile}
 use Rattle.mtn_basic_io.specs.Spelling.{LineText, spelling}
 use Rattle.mtn_basic_io.specs.declared.stanza.Value.TheVariants.{Text, Hex}
@@ -20,7 +21,15 @@ use Rattle.mtn_roster.specs.declared.entry.Body.TheVariants.{Dir, File}
 use Rattle.mtn_roster.specs.declared.entry.Entry.{Entry}
 use Rattle.mtn_roster.specs.Tree.{Tree, entry_of, node_at, path_of}
 use Rattle.mtn_roster_text.specs.RosterText.{roster_of}
-use Rattle.mtn_roster_queries.specs.Answers.{Answer, over}
+
+-- a text, or a refusal
+abbrev pub Answer : Type 0
+Answer = Result (List ℕ) Cause
+
+-- the answer over what is there, or the refusal that nothing is
+abbrev pub over : {A : Type 0} → Cause → Option A → (A → Answer) → Answer
+over cause None answer = Err cause
+over cause (Some a) answer = answer a
 
 -- the manifest of a revision's tree
 abbrev pub manifest_at : List Revision → Id → Answer

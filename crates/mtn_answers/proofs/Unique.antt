@@ -13,8 +13,7 @@ use Rattle.mtn_roster.specs.declared.entry.Body.TheVariants.{Dir, File}
 use Rattle.mtn_roster.specs.declared.entry.Entry.{Entry}
 use Rattle.mtn_roster.specs.Tree.{node_at}
 use Rattle.mtn_roster_text.specs.RosterText.{roster_of}
-use Rattle.mtn_roster_queries.specs.Answers.{Answer}
-use Rattle.mtn_roster_queries.specs.Views.{AreMarkIds, IsContentAt, IsContentChanged, IsContentIn, IsContentOf, IsRoster, IsRosterIn, marks_text}
+use Rattle.mtn_answers.specs.Views.{Answer, AreMarkIds, IsContentAt, IsContentChanged, IsContentIn, IsContentOf, IsRoster, IsRosterIn, marks_text}
 
 -- the ids of a scalar's marks are one list
 pub one_ids : (h : List Revision) (r : ℕ) (s : Scalar) (a b : List Id) → AreMarkIds h r s a → AreMarkIds h r s b → a ≡ b

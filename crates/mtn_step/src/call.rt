@@ -1,0 +1,48 @@
+// The commands.
+ghost use Rattle.std.specs.Prelude.{◌≡◌};
+
+use mtn_answers::Query;
+use mtn_base::{Id, Path};
+
+/// A command with what its words say.
+#[derive(Drop)]
+pub enum Call {
+    /// `put_file`: keeps the payload, and answers its id.
+    PutFile,
+    /// `put_revision`: accepts the payload as a revision's text, and answers its id.
+    PutRevision,
+    /// `get_file ID`: answers the bytes of a file.
+    GetFile { id: Id },
+    /// `get_revision ID`: answers the text of a revision.
+    GetRevision { id: Id },
+    /// `get_manifest_of ID`: answers the manifest of a revision's tree.
+    GetManifestOf { id: Id },
+    /// `get_roster ID`: answers a revision's tree with its marks.
+    GetRoster { id: Id },
+    /// `get_content_changed ID PATH`: answers the marks of a file's content.
+    GetContentChanged { id: Id, path: Path },
+    /// `get_corresponding_path ID PATH ID`: answers where the node at a path stands in another revision.
+    GetCorrespondingPath { id: Id, path: Path, other: Id },
+    /// A query of the graph: answers ids.
+    Ask { query: Query },
+    /// `graph`: answers each revision with its parents.
+    Graph,
+}
+
+impl Call {
+    ghost use Rattle.mtn_step.specs.Step.{takes_payload};
+
+    /// Whether the source is read.
+    pub fn takes_payload(&self) -> bool
+        ensures { result ≡ takes_payload self.now }
+    {
+        match self {
+            Call::PutFile | Call::PutRevision => true,
+            Call::GetFile { .. } | Call::GetRevision { .. } => false,
+            Call::GetManifestOf { .. } | Call::GetRoster { .. } => false,
+            Call::GetContentChanged { .. } => false,
+            Call::GetCorrespondingPath { .. } => false,
+            Call::Ask { .. } | Call::Graph => false,
+        }
+    }
+}

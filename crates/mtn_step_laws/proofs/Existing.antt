@@ -1,0 +1,66 @@
+-- A command has an outcome.
+use Rattle.std.proofs.Common.{◌≡◌, ◌≢◌, ◌≤◌, ◌<◌, ℕ, List, length, Option, Some, None, refl, inl, inr}
+use Rattle.std.proofs.lemmas.Bool.{cases_lt}
+use Rattle.mtn_answers.specs.Queries.{first_unknown, ids_of}
+use Rattle.mtn_answers.specs.Views.{Answer, IsContentChanged, IsRoster, corresponding_at, manifest_at}
+use Rattle.mtn_answers.specs.declared.query.Query.{Query}
+use Rattle.mtn_answers.proofs.Existing.{some_answer, some_graph}
+use Rattle.mtn_answers.proofs.MarksExist.{some_content, some_roster}
+use Rattle.mtn_base.specs.declared.id.Id.{Id}
+use Rattle.mtn_base.specs.declared.refusal.Cause.{Cause}
+use Rattle.mtn_base.specs.declared.refusal.Cause.TheVariants.{TextTooLong}
+use Rattle.mtn_changes.specs.RevisionText.{IsRevisionFault}
+use Rattle.mtn_changes.specs.declared.error.ChangeTextError.{ChangeTextError}
+use Rattle.mtn_changes.specs.declared.error.ChangeTextError.TheVariants as error
+use Rattle.mtn_history_laws.specs.History.{Revision, IsGrown}
+use Rattle.mtn_model.specs.Outcome.{Outcome}
+use Rattle.mtn_model.specs.State.{State}
+use Rattle.mtn_replay.specs.Accepting.{Decides, IsTooLong, IsUnread, IsDecided, fault_cause, logged_beside, refusal_beside}
+use Rattle.mtn_replay.specs.Lawful.{IsLawful}
+use Rattle.mtn_replay.specs.Texts.{text_under}
+use Rattle.mtn_replay.proofs.Histories.{history_is_grown}
+use Rattle.mtn_step.specs.Step.{Asked, OfHistory, Steps, Viewed, told}
+use Rattle.mtn_step.specs.declared.call.Call.{Call}
+use Rattle.mtn_step.specs.declared.call.Call.TheVariants.{PutFile, PutRevision, GetFile, GetRevision, GetManifestOf, GetRoster, GetContentChanged, GetCorrespondingPath, Ask, Graph}
+use Rattle.mtn_step_laws.proofs.Revisions.{spells_or_fault}
+
+-- a fault that is none of memory has a cause
+cause_of : (e : ChangeTextError) → e ≢ error.NoMemory → (c : Cause) × (fault_cause e ≡ Some c)
+cause_of (error.NotText place) some = (_, refl)
+cause_of (error.BadStanza number) some = (_, refl)
+cause_of (error.BadOrder number) some = (_, refl)
+cause_of (error.Repeated number) some = (_, refl)
+cause_of (error.BadEdge number) some = (_, refl)
+cause_of error.NoMemory some = absurd (some refl)
+
+module _ (f : List ℕ → List ℕ) (s : State) (lawful : IsLawful f s) where
+  some_decision : (text : List ℕ) → (refusal : Option Cause) × (after : State) × Decides f s text refusal after
+  some_decision text = elim (cases_lt 67108864 (length text)) [
+    | inl long ↦ (Some (TextTooLong (length text)), s, inl (record { long = long; is = refl }))
+    | inr short ↦ elim (spells_or_fault text) [
+      | inl read ↦ (_, _, inr (inr (record { short = short; read = read.0; spells = read.1; history = lawful.history; spelled = lawful.log; is = refl; after = refl })))
+      | inr fault ↦ let cause = cause_of fault.0 fault.1 in (Some cause.0, s, inr (inl (record { short = short; fault = fault.0; faulty = fault.2; cause = cause.0; named = cause.1; is = refl })))
+    ]
+  ]
+
+  grown : IsGrown lawful.history
+  grown = history_is_grown f s.files s.log lawful.history lawful.log
+
+  viewed : (Is : List Revision → Answer → Type 0) → (answer : Answer) × Is lawful.history answer → (o : Outcome) × OfHistory f s (λ h. Viewed (Is h) s o)
+  viewed Is answer = (told s answer.0, (lawful.history, lawful.log, (answer.0, answer.1, refl)))
+
+  asked : (query : Query) → (unknown : Option Id) → first_unknown lawful.history (ids_of query) ≡ unknown → (o : Outcome) × Asked lawful.history query s unknown o
+  asked query (Some id) e = (_, refl)
+  asked query None e = let answer = some_answer lawful.history grown query e in (_, (answer.0, answer.1, refl))
+
+  pub some_of_step : (call : Call) (payload : List ℕ) → (o : Outcome) × Steps f call payload s o
+  some_of_step PutFile payload = (_, refl)
+  some_of_step PutRevision payload = let d = some_decision payload in (_, record { refusal = d.0; after = d.1; decides = d.2; is = refl })
+  some_of_step (GetFile id) payload = (_, refl)
+  some_of_step (GetRevision id) payload = (_, refl)
+  some_of_step (GetManifestOf id) payload = viewed (λ h answer. answer ≡ manifest_at h id) (manifest_at lawful.history id, refl)
+  some_of_step (GetRoster id) payload = viewed (λ h answer. IsRoster h id answer) (some_roster lawful.history grown id)
+  some_of_step (GetContentChanged id path) payload = viewed (λ h answer. IsContentChanged h id path answer) (some_content lawful.history grown id path)
+  some_of_step (GetCorrespondingPath id path other) payload = viewed (λ h answer. answer ≡ corresponding_at h id path other) (corresponding_at lawful.history id path other, refl)
+  some_of_step (Ask query) payload = let a = asked query (first_unknown lawful.history (ids_of query)) refl in (a.0, (lawful.history, lawful.log, a.1))
+  some_of_step Graph payload = let g = some_graph lawful.history grown in (_, (lawful.history, lawful.log, (g.0, g.1, refl)))
