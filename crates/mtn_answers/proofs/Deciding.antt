@@ -1,6 +1,6 @@
 -- Whether a question of the graph holds of an id can be told.
-use Rattle.std.specs.Prelude.{Contains, slice_get, IsTrue}
-use Rattle.std.proofs.Common.{◌≡◌, ◌≢◌, ◌<◌, ℕ, List, [], ◌∷◌, Option, Some, None, refl, sym, ap, ◌∙◌, subst, ⊎_elim}
+use Rattle.std.specs.Prelude.{Contains}
+use Rattle.std.proofs.Common.{◌≡◌, ◌≢◌, ◌<◌, ℕ, zero, suc, List, [], ◌∷◌, Option, Some, None, refl, sym, ap, ◌∙◌, subst, ⊎_elim}
 use Rattle.std.proofs.Math.Decide.{ℕ_discrete}
 use Rattle.mtn_ancestry.specs.Ancestors.{IsAncestor}
 use Rattle.mtn_ancestry.proofs.Ancestry.{tell_ancestor}
@@ -64,10 +64,7 @@ module _ (h : List Revision) (grown : IsGrown h) where
       by (Some a) e = here a (place_has h x a e) (d a)
 
   pub tell_held : (x : Id) → Dec (IsHeld h x)
-  tell_held x = elim (at_place (λ a. IsTrue' a) x (λ a. yes refl)) [ yes t ↦ yes (t.0, t.1) | no n ↦ no (λ t. n (t.0, t.1, refl)) ]
-    where
-      abbrev IsTrue' : ℕ → Type 0
-      IsTrue' a = a ≡ a
+  tell_held x = elim (at_place (λ a. a ≡ a) x (λ a. yes refl)) [ yes t ↦ yes (t.0, t.1) | no n ↦ no (λ t. n (t.0, t.1, refl)) ]
 
   -- a fact of the only places of two ids
   at_places : (P : ℕ → ℕ → Type 0) (x r : Id) → ((a b : ℕ) → Dec (P a b)) → Dec ((a b : ℕ) × IsPlaceOf h x a × IsPlaceOf h r b × P a b)
@@ -100,7 +97,7 @@ module _ (h : List Revision) (grown : IsGrown h) where
       among : (vs : List Revision) {x : Id} (a : ℕ) → IsPlaceOf vs x a → Contains (ids_in vs) x
       among [] a is = absurd (let e = is.1 in cc)
       among (v ∷ vs) {x} zero is = subst (Contains (ids_in (v ∷ vs))) (let e : v ≡ is.0 = (let g = is.1 in cc) in ap (λ (w : Revision). w.id) e ∙ is.2) (Contains-head v.id (ids_in vs))
-      among (v ∷ vs) {x} (suc a) is = Contains-later v.id (ids_in vs) (among vs a (is.0, (let g = is.1 in g), is.2))
+      among (v ∷ vs) {x} (suc a) is = Contains-later v.id (ids_in vs) (among vs a (is.0, is.1, is.2))
 
   pub tell_asked : (q : Query) (x : Id) → Dec (IsAsked h q x)
   tell_asked (Parents r) x = tell_parent x r

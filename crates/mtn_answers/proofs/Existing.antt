@@ -2,6 +2,7 @@
 use Rattle.std.specs.Prelude.{Contains, slice_get, map, All, find, is_none, unwrap_or}
 use Rattle.std.specs.List.{AllByRecursion}
 use Rattle.std.specs.List.Sorted.{IsStrictlySortedBy}
+use Rattle.std.specs.Cmp.{nat_cmp_is}
 use Rattle.std.specs.Ordering.{nat_cmp}
 use Rattle.std.specs.declared.cmp.Ordering.TheVariants.{Less}
 use Rattle.std.proofs.Common.{◌≡◌, ◌≢◌, ◌↔◌, ◌<◌, ◌≤◌, ◌+◌, ◌-◌, ℕ, zero, suc, Bool, true, false, cond, List, [], ◌∷◌, length, Option, Some, None, refl, sym, ap, ◌∙◌, subst, ⊎_elim, arith}
@@ -39,7 +40,7 @@ module _ (h : List Revision) (grown : IsGrown h) (P : Id → Type 0) (tell : (x 
       by (Some b) e = e ∙ ap Some (grown.differ x b a (place_has h x b e) is)
 
   less_of : (a b : ℕ) → a < b → nat_cmp a b ≡ Less
-  less_of a b lt = grind (arith, lt)
+  less_of a b lt = sym (nat_cmp_is a b Less lt)
 
   before : (x y : Id) (a b : ℕ) → IsPlaceOf h x a → IsPlaceOf h y b → a < b → by_place h x y ≡ Less
   before x y a b p q lt =
@@ -47,46 +48,58 @@ module _ (h : List Revision) (grown : IsGrown h) (P : Id → Type 0) (tell : (x 
       ∙ ap (λ o. nat_cmp a (unwrap_or o (length h))) (place_is y b q) ∙ less_of a b lt
 
   with_one : (k : ℕ) (v : Revision) (ids : List Id) → slice_get h k ≡ Some v → IsKeptFrom h P (suc k) ids → Dec (P v.id) → (new : List Id) × IsKeptFrom h P k new
-  with_one k v ids at kept (yes p) = (v.id ∷ ids, record {
-    ascending = sorted_cons (by_place h) v.id ids (each_to (λ y. by_place h v.id y ≡ Less) ids (λ y c. let l = kept.low y c in before v.id y k l.0 (v, at, refl) l.2 (omega (arith, l.1)))) kept.ascending;
-    low = λ x c. ⊎_elim (λ e. (k, omega arith, (v, at, e), subst P e p)) (λ d. let l = kept.low x d in (l.0, omega (arith, l.1), l.2, l.3)) (Contains-cases v.id ids x c);
-    all = λ x a is le px. elim (ℕ_discrete k a) [
-      | yes e ↦ subst (Contains (v.id ∷ ids)) (grown_id a is e) (Contains-head v.id ids)
-      | no n ↦ Contains-later v.id ids (kept.all x a is (omega (arith, le, n)) px)
-    ];
-  })
+  with_one k v ids at kept (yes p) = (
+    v.id ∷ ids,
+    record {
+      ascending = sorted_cons (by_place h) v.id ids (each_to (λ y. by_place h v.id y ≡ Less) ids (λ y c. let l = kept.low y c in before v.id y k l.0 (v, at, refl) l.2 (omega (arith, l.1)))) kept.ascending;
+      low = λ x c. ⊎_elim (λ e. (k, omega arith, (v, at, e), subst P e p)) (λ d. let l = kept.low x d in (l.0, omega (arith, l.1), l.2, l.3)) (Contains-cases v.id ids x c);
+      all = λ x a is le px. elim (ℕ_discrete k a) [
+        | yes e ↦ subst (Contains (v.id ∷ ids)) (grown_id a is e) (Contains-head v.id ids)
+        | no n ↦ Contains-later v.id ids (kept.all x a is (omega (arith, le, n)) px)
+      ];
+    },
+  )
     where
       grown_id : {x : Id} (a : ℕ) → (is : IsPlaceOf h x a) → k ≡ a → v.id ≡ x
       grown_id a is e = let same : v ≡ is.0 = (let t = sym at ∙ ap (slice_get h) e ∙ is.1 in cc) in ap (λ (w : Revision). w.id) same ∙ is.2
-  with_one k v ids at kept (no n) = (ids, record {
-    ascending = kept.ascending;
-    low = λ x c. let l = kept.low x c in (l.0, omega (arith, l.1), l.2, l.3);
-    all = λ x a is le px. elim (ℕ_discrete k a) [
-      | yes e ↦ absurd (n (subst P (sym (the_id a is e)) px))
-      | no m ↦ kept.all x a is (omega (arith, le, m)) px
-    ];
-  })
+  with_one k v ids at kept (no n) = (
+    ids,
+    record {
+      ascending = kept.ascending;
+      low = λ x c. let l = kept.low x c in (l.0, omega (arith, l.1), l.2, l.3);
+      all = λ x a is le px. elim (ℕ_discrete k a) [
+        | yes e ↦ absurd (n (subst P (sym (the_id a is e)) px))
+        | no m ↦ kept.all x a is (omega (arith, le, m)) px
+      ];
+    },
+  )
     where
       the_id : {x : Id} (a : ℕ) → (is : IsPlaceOf h x a) → k ≡ a → v.id ≡ x
       the_id a is e = let same : v ≡ is.0 = (let t = sym at ∙ ap (slice_get h) e ∙ is.1 in cc) in ap (λ (w : Revision). w.id) same ∙ is.2
 
   step_down : (k : ℕ) (o : Option Revision) → slice_get h k ≡ o → (ids : List Id) × IsKeptFrom h P (suc k) ids → (ids : List Id) × IsKeptFrom h P k ids
-  step_down k None at kept = (kept.0, record {
-    ascending = kept.1.ascending;
-    low = λ x c. let l = kept.1.low x c in (l.0, omega (arith, l.1), l.2, l.3);
-    all = λ x a is le px. elim (ℕ_discrete k a) [
-      | yes e ↦ absurd (let t = sym at ∙ ap (slice_get h) e ∙ is.1 in cc)
-      | no m ↦ kept.1.all x a is (omega (arith, le, m)) px
-    ];
-  })
+  step_down k None at kept = (
+    kept.0,
+    record {
+      ascending = kept.1.ascending;
+      low = λ x c. let l = kept.1.low x c in (l.0, omega (arith, l.1), l.2, l.3);
+      all = λ x a is le px. elim (ℕ_discrete k a) [
+        | yes e ↦ absurd (let t = sym at ∙ ap (slice_get h) e ∙ is.1 in cc)
+        | no m ↦ kept.1.all x a is (omega (arith, le, m)) px
+      ];
+    },
+  )
   step_down k (Some v) at kept = with_one k v kept.0 at kept.1 (tell v.id)
 
   down : (n k : ℕ) → length h ≤ n + k → (ids : List Id) × IsKeptFrom h P k ids
-  down zero k long = ([], record {
-    ascending = sorted_nil (by_place h);
-    low = λ x c. absurd (Contains-nil c);
-    all = λ x a is le px. absurd (let lt = inside h a is.0 is.1 in omega (arith, lt, le, long));
-  })
+  down zero k long = (
+    [],
+    record {
+      ascending = sorted_nil (by_place h);
+      low = λ x c. absurd (Contains-nil c);
+      all = λ x a is le px. absurd (let lt = inside h a is.0 is.1 in omega (arith, lt, le, long));
+    },
+  )
   down (suc n) k long = step_down k (slice_get h k) refl (down n (suc k) (omega (arith, long)))
 
   -- those with P in the order of the log, and by ascending ids
@@ -97,20 +110,22 @@ module _ (h : List Revision) (grown : IsGrown h) (P : Id → Type 0) (tell : (x 
 
   pub listed_by_id : ((x : Id) → P x → IsHeld h x) → (ids : List Id) × IsListOf by_id P ids
   listed_by_id held =
-      let given = listed_by_place held in
-      (in_id_order given.0, record {
-        ascending = in_order_ascends given.0;
-        exact = λ x. (λ c. (given.1.exact x).0 ((in_order_same given.0 x).0 c), λ p. (in_order_same given.0 x).1 ((given.1.exact x).1 p));
-      })
+      let given = listed_by_place held in (
+        in_id_order given.0,
+        record {
+          ascending = in_order_ascends given.0;
+          exact = λ x. (λ c. (given.1.exact x).0 ((in_order_same given.0 x).0 c), λ p. (in_order_same given.0 x).1 ((given.1.exact x).1 p));
+        },
+      )
 
 -- ids that are known are held
 known_held : (h : List Revision) (ids : List Id) → first_unknown h ids ≡ None → (x : Id) → Contains ids x → IsHeld h x
 known_held h [] none x c = absurd (Contains-nil c)
-known_held h (y ∷ ids) none x c = by (place_of h y) refl none
+known_held h (y ∷ ids) none x c = by (place_of h y) refl none (λ rest d. known_held h ids rest x d)
   where
-    by : (o : Option ℕ) → place_of h y ≡ o → cond (is_none o) (Some y) (first_unknown h ids) ≡ None → IsHeld h x
-    by None e n = absurd cc
-    by (Some a) e n = ⊎_elim (λ same. (a, subst (λ z. IsPlaceOf h z a) same (place_has h y a e))) (λ d. known_held h ids n x d) (Contains-cases y ids x c)
+    by : (o : Option ℕ) → place_of h y ≡ o → cond (is_none o) (Some y) (first_unknown h ids) ≡ None → (first_unknown h ids ≡ None → Contains ids x → IsHeld h x) → IsHeld h x
+    by None e n later = absurd cc
+    by (Some a) e n later = ⊎_elim (λ same. (a, subst (λ z. IsPlaceOf h z a) same (place_has h y a e))) (λ d. later n d) (Contains-cases y ids x c)
 
 module _ (h : List Revision) (grown : IsGrown h) where
   -- what is asked for is held
@@ -147,7 +162,7 @@ module _ (h : List Revision) (grown : IsGrown h) where
   parents_of_id : (r : Id) → (ids : List Id) × IsListOf by_id (λ x. IsParent h x r) ids
   parents_of_id r = listed_by_id h grown (λ x. IsParent h x r) (λ x. tell_parent h grown x r) (λ x is. (is.0, is.2))
 
-  line_of : Id → Line
+  abbrev line_of : Id → Line
   line_of r = record { id = r; parents = (parents_of_id r).0 }
 
   lines_of : (ids : List Id) → map (λ (line : Line). line.id) (map line_of ids) ≡ ids

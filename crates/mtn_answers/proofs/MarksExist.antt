@@ -4,7 +4,7 @@ use Rattle.std.proofs.Common.{◌≡◌, ◌<◌, ℕ, List, Option, Some, None,
 use Rattle.std.proofs.Math.Decide.{ℕ_discrete}
 use Rattle.mtn_ancestry.specs.Ancestors.{ParentsAreEarlier}
 use Rattle.mtn_ancestry.proofs.Members.{find_in, by_position}
-use Rattle.mtn_answers.specs.Views.{Answer, AreMarkIds, IsContentAt, IsContentChanged, IsContentIn, IsContentOf, IsRoster, IsRosterIn, marks_text}
+use Rattle.mtn_answers.specs.Views.{TextAnswer, AreMarkIds, IsContentAt, IsContentChanged, IsContentIn, IsContentOf, IsRoster, IsRosterIn, marks_text}
 use Rattle.mtn_answers.proofs.Deciding.{at_place, tell_two}
 use Rattle.mtn_answers.proofs.Existing.{listed_by_id}
 use Rattle.mtn_base.specs.declared.id.Id.{Id}
@@ -61,24 +61,24 @@ module _ (h : List Revision) (grown : IsGrown h) where
       let ids = listed_by_id h grown P tell (λ x is. (is.0, is.1)) in
       (ids.0, record { ascending = ids.1.ascending; exact = ids.1.exact })
 
-  pub some_roster : (id : Id) → (answer : Answer) × IsRoster h id answer
+  pub some_roster : (id : Id) → (answer : TextAnswer) × IsRoster h id answer
   some_roster id = by (place_of h id)
     where
-      by : (o : Option ℕ) → (answer : Answer) × IsRosterIn h id o answer
+      by : (o : Option ℕ) → (answer : TextAnswer) × IsRosterIn h id o answer
       by None = (Err (UnknownRevision id), refl)
       by (Some r) = let ids : Scalar → List Id = λ s. (some_marks r s).0 in (Ok (spelling (roster_of (tree_at h r) ids)), (ids, (λ s. (some_marks r s).1), refl))
 
-  pub some_content : (id : Id) (path : List (List ℕ)) → (answer : Answer) × IsContentChanged h id path answer
+  pub some_content : (id : Id) (path : List (List ℕ)) → (answer : TextAnswer) × IsContentChanged h id path answer
   some_content id path = by (place_of h id)
     where
-      by_body : (r : ℕ) (n : NodeName) (b : Body) → (answer : Answer) × IsContentOf h r path n b answer
+      by_body : (r : ℕ) (n : NodeName) (b : Body) → (answer : TextAnswer) × IsContentOf h r path n b answer
       by_body r n Dir = (Err (NotAFile path), refl)
       by_body r n (File content) = let ids = some_marks r (ContentOf n) in (Ok (marks_text ids.0), (ids.0, ids.1, refl))
 
-      by_entry : (r : ℕ) (o : Option Entry) → (answer : Answer) × IsContentAt h r path o answer
+      by_entry : (r : ℕ) (o : Option Entry) → (answer : TextAnswer) × IsContentAt h r path o answer
       by_entry r None = (Err (NoSuchPath path), refl)
       by_entry r (Some e) = by_body r e.name e.body
 
-      by : (o : Option ℕ) → (answer : Answer) × IsContentIn h id path o answer
+      by : (o : Option ℕ) → (answer : TextAnswer) × IsContentIn h id path o answer
       by None = (Err (UnknownRevision id), refl)
       by (Some r) = by_entry r (node_at (tree_at h r) path)

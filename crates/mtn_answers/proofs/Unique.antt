@@ -13,13 +13,13 @@ use Rattle.mtn_roster.specs.declared.entry.Body.TheVariants.{Dir, File}
 use Rattle.mtn_roster.specs.declared.entry.Entry.{Entry}
 use Rattle.mtn_roster.specs.Tree.{node_at}
 use Rattle.mtn_roster_text.specs.RosterText.{roster_of}
-use Rattle.mtn_answers.specs.Views.{Answer, AreMarkIds, IsContentAt, IsContentChanged, IsContentIn, IsContentOf, IsRoster, IsRosterIn, marks_text}
+use Rattle.mtn_answers.specs.Views.{TextAnswer, AreMarkIds, IsContentAt, IsContentChanged, IsContentIn, IsContentOf, IsRoster, IsRosterIn, marks_text}
 
 -- the ids of a scalar's marks are one list
 pub one_ids : (h : List Revision) (r : ℕ) (s : Scalar) (a b : List Id) → AreMarkIds h r s a → AreMarkIds h r s b → a ≡ b
 one_ids h r s a b x y = one_list_of a b x.ascending y.ascending (λ z c. (y.exact z).1 ((x.exact z).0 c)) (λ z c. (x.exact z).1 ((y.exact z).0 c))
 
-module _ (h : List Revision) (id : Id) (path : List (List ℕ)) (a b : Answer) where
+module _ (h : List Revision) (id : Id) (path : List (List ℕ)) (a b : TextAnswer) where
   of_body : (r : ℕ) (n : NodeName) (body : Body) → IsContentOf h r path n body a → IsContentOf h r path n body b → a ≡ b
   of_body r n Dir x y = x ∙ sym y
   of_body r n (File content) x y = x.2 ∙ ap (λ (l : List Id). Ok (marks_text l)) (one_ids h r (ContentOf n) x.0 y.0 x.1 y.1) ∙ sym y.2
@@ -35,7 +35,7 @@ module _ (h : List Revision) (id : Id) (path : List (List ℕ)) (a b : Answer) w
   pub one_content : IsContentChanged h id path a → IsContentChanged h id path b → a ≡ b
   one_content x y = of_place (place_of h id) x y
 
-module _ (h : List Revision) (id : Id) (a b : Answer) where
+module _ (h : List Revision) (id : Id) (a b : TextAnswer) where
   -- the ids of all marks are one function
   of_revision : (o : Option ℕ) → IsRosterIn h id o a → IsRosterIn h id o b → a ≡ b
   of_revision None x y = x ∙ sym y

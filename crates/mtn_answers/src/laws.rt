@@ -2,7 +2,7 @@
 ghost use Rattle.std.specs.Prelude.{◌≡◌, ℕ, List, Some, None, Contains};
 ghost use Rattle.mtn_answers.specs.Lines.{IsGraph};
 ghost use Rattle.mtn_answers.specs.Queries.{IsAnswer, first_unknown, ids_of};
-ghost use Rattle.mtn_answers.specs.Views.{Answer, AreMarkIds, IsContentChanged, IsRoster};
+ghost use Rattle.mtn_answers.specs.Views.{TextAnswer, AreMarkIds, IsContentChanged, IsRoster};
 ghost use Rattle.mtn_answers.specs.declared.query.Line.{Line};
 ghost use Rattle.mtn_answers.specs.declared.query.Query.{Query};
 ghost use Rattle.mtn_base.specs.declared.id.Id.{Id};
@@ -19,8 +19,8 @@ pub fn one_answer()
 pub fn some_answer()
     ensures ids { (h : List Revision) → IsGrown h → (q : Query) → first_unknown h (ids_of q) ≡ None → (ids : List Id) × IsAnswer h q ids }
     ensures graph { (h : List Revision) → IsGrown h → (lines : List Line) × IsGraph h lines }
-    ensures roster { (h : List Revision) → IsGrown h → (id : Id) → (answer : Answer) × IsRoster h id answer }
-    ensures content { (h : List Revision) → IsGrown h → (id : Id) (path : List (List ℕ)) → (answer : Answer) × IsContentChanged h id path answer }
+    ensures roster { (h : List Revision) → IsGrown h → (id : Id) → (answer : TextAnswer) × IsRoster h id answer }
+    ensures content { (h : List Revision) → IsGrown h → (id : Id) (path : List (List ℕ)) → (answer : TextAnswer) × IsContentChanged h id path answer }
 {}
 
 /// Each scalar of a revision's tree has the id of a mark: no line of marks is without one.

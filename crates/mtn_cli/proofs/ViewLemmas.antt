@@ -19,7 +19,7 @@ use Rattle.mtn_history.proofs.FileLemmas.{draft_stands}
 use Rattle.mtn_history.proofs.Founding.{founded}
 use Rattle.mtn_history.proofs.MarkedLemmas.{draft_counts}
 use Rattle.mtn_history.proofs.MetaLemmas.{no_damage}
-use Rattle.mtn_answers.specs.Views.{Answer}
+use Rattle.mtn_answers.specs.Views.{TextAnswer}
 use Rattle.mtn_roster_queries.specs.Answers.{Gives}
 use Rattle.mtn_cli.specs.declared.answer.Reply.{Reply}
 use Rattle.mtn_model.specs.Outcome.{Outcome}
@@ -41,10 +41,10 @@ reason_of now p NoMemory faults0 faults1 rose damage counts = tt
 reason_of None p (Damaged d) faults0 faults1 rose damage counts = tt
 reason_of (Some c) p (Damaged d) faults0 faults1 rose damage counts = damage counts
 
-module _ (f : List ℕ → List ℕ) {K : Type 0} (contents : K → Option Contents) (leaves : K → Contents → Type 0) (faults : K → ℕ) (old new : K) (before after : Pending) (Is : List Revision → Answer → Type 0)
+module _ (f : List ℕ → List ℕ) {K : Type 0} (contents : K → Option Contents) (leaves : K → Contents → Type 0) (faults : K → ℕ) (old new : K) (before after : Pending) (Is : List Revision → TextAnswer → Type 0)
     (stays : Stays contents leaves faults old new) (same : after ≡ before) where
   -- the answer is one over the history of the state
-  is_told : (answer : Answer) → ((g : List ℕ → List ℕ) (s : State) (d : IsFounded g (contents new) before s) → Is d.stands.history answer) →
+  is_told : (answer : TextAnswer) → ((g : List ℕ → List ℕ) (s : State) (d : IsFounded g (contents new) before s) → Is d.stands.history answer) →
       (c : Contents) (s : State) (o : Outcome) → contents new ≡ Some c → IsDraft f c before s → o ≡ told s answer → OfHistory f s (λ h. Viewed (Is h) s o)
   is_told answer gives c s o now draft outcome =
       let d = founded f (contents new) c before s now draft in

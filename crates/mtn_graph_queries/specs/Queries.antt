@@ -13,6 +13,6 @@ NamesUnknown h ids (Unknown id) = first_unknown h ids ≡ Some id
 NamesUnknown h ids NoMemory = ⊤
 
 -- the answer, where all ids are known, or the first that is not
-abbrev pub Answers : List Revision → Query → Result (List Id) QueryError → Type 0
-Answers h q (Ok ids) = (first_unknown h (ids_of q) ≡ None) × IsAnswer h q ids
-Answers h q (Err e) = NamesUnknown h (ids_of q) e
+abbrev pub AnswersQuery : List Revision → Query → Result (List Id) QueryError → Type 0
+AnswersQuery h q (Ok ids) = (first_unknown h (ids_of q) ≡ None) × IsAnswer h q ids
+AnswersQuery h q (Err e) = NamesUnknown h (ids_of q) e

@@ -5,7 +5,7 @@ ghost use Rattle.mtn_history_laws.specs.History.{IsPlaceOf, Revision};
 ghost use Rattle.mtn_replay.specs.Graphs.{Tells};
 ghost use Rattle.mtn_base.specs.Ids.{by_id};
 ghost use Rattle.mtn_answers.specs.Queries.{IsAnswer, IsListOf, IsParent};
-ghost use Rattle.mtn_graph_queries.specs.Queries.{Answers};
+ghost use Rattle.mtn_graph_queries.specs.Queries.{AnswersQuery};
 
 use crate::ids::{ids_at, sorted_ids};
 use crate::places::{place, places};
@@ -17,7 +17,7 @@ use std::alloc::Global;
 
 /// The answer to a query; Unknown with the first id that it names and the graph does not have.
 pub fn answer(alloc: Global, graph: &Graph, query: &Query) -> Result<List<Id>, QueryError>
-    ensures { (h : Seq Revision) → Tells h graph.now → Answers h query.now result }
+    ensures { (h : Seq Revision) → Tells h graph.now → AnswersQuery h query.now result }
 {
     match query {
         Query::Parents { of } => parents(alloc, graph, *of),
@@ -51,14 +51,14 @@ pub fn parents_at(alloc: Global, graph: &Graph, at: Pos) -> Result<List<Id>, NoM
 }
 
 fn parents(alloc: Global, graph: &Graph, of: Id) -> Result<List<Id>, QueryError>
-    ensures { (h : Seq Revision) → Tells h graph.now → Answers h (Query.Parents of) result }
+    ensures { (h : Seq Revision) → Tells h graph.now → AnswersQuery h (Query.Parents of) result }
 {
     let at = place(graph, of)?;
     Ok(parents_at(alloc, graph, at)?)
 }
 
 fn children(alloc: Global, graph: &Graph, of: Id) -> Result<List<Id>, QueryError>
-    ensures { (h : Seq Revision) → Tells h graph.now → Answers h (Query.Children of) result }
+    ensures { (h : Seq Revision) → Tells h graph.now → AnswersQuery h (Query.Children of) result }
 {
     let at = place(graph, of)?;
     let found = places_of(alloc, graph, &Wanted::Children { of: at })?;
@@ -66,7 +66,7 @@ fn children(alloc: Global, graph: &Graph, of: Id) -> Result<List<Id>, QueryError
 }
 
 fn ancestors(alloc: Global, graph: &Graph, of: &[Id]) -> Result<List<Id>, QueryError>
-    ensures { (h : Seq Revision) → Tells h graph.now → Answers h (Query.Ancestors of.now) result }
+    ensures { (h : Seq Revision) → Tells h graph.now → AnswersQuery h (Query.Ancestors of.now) result }
 {
     let at = places(alloc, graph, of)?;
     let found = graph.ancestors(alloc, &at)?;
@@ -74,7 +74,7 @@ fn ancestors(alloc: Global, graph: &Graph, of: &[Id]) -> Result<List<Id>, QueryE
 }
 
 fn descendents(alloc: Global, graph: &Graph, of: &[Id]) -> Result<List<Id>, QueryError>
-    ensures { (h : Seq Revision) → Tells h graph.now → Answers h (Query.Descendents of.now) result }
+    ensures { (h : Seq Revision) → Tells h graph.now → AnswersQuery h (Query.Descendents of.now) result }
 {
     let at = places(alloc, graph, of)?;
     let found = graph.descendents(alloc, &at)?;
@@ -82,7 +82,7 @@ fn descendents(alloc: Global, graph: &Graph, of: &[Id]) -> Result<List<Id>, Quer
 }
 
 fn common(alloc: Global, graph: &Graph, of: Id, others: &[Id]) -> Result<List<Id>, QueryError>
-    ensures { (h : Seq Revision) → Tells h graph.now → Answers h (Query.CommonAncestors of others.now) result }
+    ensures { (h : Seq Revision) → Tells h graph.now → AnswersQuery h (Query.CommonAncestors of others.now) result }
 {
     let first = place(graph, of)?;
     let mut at = places(alloc, graph, others)?;
@@ -92,7 +92,7 @@ fn common(alloc: Global, graph: &Graph, of: Id, others: &[Id]) -> Result<List<Id
 }
 
 fn erase_ancestors(alloc: Global, graph: &Graph, of: &[Id]) -> Result<List<Id>, QueryError>
-    ensures { (h : Seq Revision) → Tells h graph.now → Answers h (Query.EraseAncestors of.now) result }
+    ensures { (h : Seq Revision) → Tells h graph.now → AnswersQuery h (Query.EraseAncestors of.now) result }
 {
     let at = places(alloc, graph, of)?;
     let found = graph.erase_ancestors(alloc, &at)?;
@@ -100,7 +100,7 @@ fn erase_ancestors(alloc: Global, graph: &Graph, of: &[Id]) -> Result<List<Id>, 
 }
 
 fn toposort(alloc: Global, graph: &Graph, of: &[Id]) -> Result<List<Id>, QueryError>
-    ensures { (h : Seq Revision) → Tells h graph.now → Answers h (Query.Toposort of.now) result }
+    ensures { (h : Seq Revision) → Tells h graph.now → AnswersQuery h (Query.Toposort of.now) result }
 {
     let at = places(alloc, graph, of)?;
     let found = graph.toposort(alloc, &at)?;
@@ -108,7 +108,7 @@ fn toposort(alloc: Global, graph: &Graph, of: &[Id]) -> Result<List<Id>, QueryEr
 }
 
 fn difference(alloc: Global, graph: &Graph, of: Id, others: &[Id]) -> Result<List<Id>, QueryError>
-    ensures { (h : Seq Revision) → Tells h graph.now → Answers h (Query.AncestryDifference of others.now) result }
+    ensures { (h : Seq Revision) → Tells h graph.now → AnswersQuery h (Query.AncestryDifference of others.now) result }
 {
     let first = place(graph, of)?;
     let at = places(alloc, graph, others)?;

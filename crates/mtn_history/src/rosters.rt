@@ -9,10 +9,10 @@ ghost use Rattle.mtn_history.specs.Rosters.{IsRostered, IsChainOf, IsRosterHeld,
 use crate::damaged::{bad, missing};
 use crate::{Draft, ROSTERS, StoreError};
 use mtn_ancestry::Pos;
-use mtn_roster_deltas::{DEEPEST, rebuild};
 use mtn_marking::MarkedRoster;
 use mtn_ports::Keeper;
 use mtn_records::{Numbered, RecordError, RosterRecord, read_roster};
+use mtn_roster_deltas::{DEEPEST, rebuild};
 use std::rc::Rc;
 
 /// A roster as its records give it: its entries under their numbers, the roster with its marks, and how many deltas its

@@ -16,10 +16,10 @@ use crate::records::{Known, Written, log_body, next_number, numbered, write_reco
 use crate::unfit::unfit;
 use mtn_ancestry::Pos;
 use mtn_base::Id;
-use mtn_roster_deltas::NumberError;
 use mtn_history::{Draft, Rebuilt, StoreError};
 use mtn_marking::MarkedRoster;
 use mtn_ports::Keeper;
+use mtn_roster_deltas::NumberError;
 use std::alloc::Global;
 
 /// Puts the records of a revision with this tree and these parents, and the draft remembers its roster. An error leaves what

@@ -16,12 +16,12 @@ ghost use Rattle.mtn_put_revision.specs.Keeping.{IsDeltaBody, IsLogBodyOf, IsWho
 
 use mtn_ancestry::{ParentList, Pos};
 use mtn_base::{Bytes, Id, List as Items, NoMemory};
-use mtn_roster_deltas::{DEEPEST, NumberError, delta, number};
 use mtn_history::{Draft, StoreError};
 use mtn_make_roster::MAX_NODES;
 use mtn_marking::MarkedRoster;
 use mtn_ports::Keeper;
 use mtn_records::{LogRecord, Numbered, RosterRecord, is_record_at, write_log, write_roster};
+use mtn_roster_deltas::{DEEPEST, NumberError, delta, number};
 use std::alloc::Global;
 
 /// The greatest number that a log can have as its next: 100,000 for each of 2,147,483,648 revisions, from 1.

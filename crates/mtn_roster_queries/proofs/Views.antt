@@ -28,19 +28,19 @@ use Rattle.mtn_roster.specs.declared.entry.Body.{Body}
 use Rattle.mtn_roster.specs.declared.entry.Body.TheVariants.{Dir, File}
 use Rattle.mtn_roster.specs.declared.entry.Entry.{Entry}
 use Rattle.mtn_roster.specs.Tree.{Tree, node_at}
-use Rattle.mtn_answers.specs.Views.{Answer, over}
+use Rattle.mtn_answers.specs.Views.{TextAnswer, over}
 use Rattle.mtn_roster_queries.specs.Answers.{Gives}
 use Rattle.mtn_roster_queries.specs.Marks.{AreContentMarks, AreMarksFor, GivesMarks}
 use Rattle.mtn_answers.specs.Views.{IsContentAt, IsContentChanged, IsContentIn, IsContentOf, corresponding_at, marks_text, node_text}
 use Rattle.mtn_roster_queries.proofs.Marking.{are_mark_ids, mark_there}
 
 -- a revision that was not found
-pub not_found : (h : List Revision) (id : Id) (Is : Option ℕ → Answer → Type 0) → Is None (Err (UnknownRevision id)) → (e : HistoryError) → FindsRoster h id (Err e) → Gives (Is (place_of h id)) (Err e)
+pub not_found : (h : List Revision) (id : Id) (Is : Option ℕ → TextAnswer → Type 0) → Is None (Err (UnknownRevision id)) → (e : HistoryError) → FindsRoster h id (Err e) → Gives (Is (place_of h id)) (Err e)
 not_found h id Is unknown (Refused cause) found = subst (λ o. Is o (Err cause)) (sym found.1) (subst (λ k. Is None (Err k)) (sym found.0) unknown)
 not_found h id Is unknown (Store e) found = tt
 
 -- an answer over the place of a revision
-pub answer_at : (h : List Revision) (id : Id) (Is : Option ℕ → Answer → Type 0) (at : ℕ) (answer : Answer) → place_of h id ≡ Some at → Is (Some at) answer → Is (place_of h id) answer
+pub answer_at : (h : List Revision) (id : Id) (Is : Option ℕ → TextAnswer → Type 0) (at : ℕ) (answer : TextAnswer) → place_of h id ≡ Some at → Is (Some at) answer → Is (place_of h id) answer
 answer_at h id Is at answer place is = subst (λ o. Is o answer) (sym place) is
 
 module _ (h : List Revision) (id : Id) (path : List (List ℕ)) (at : ℕ) (place : place_of h id ≡ Some at) where
@@ -110,7 +110,7 @@ held_damage told p q marks r e is same known fact =
     by (Some c) known h = λ counts. h counts known
 
 -- an answer that is one, is another that is the same
-pub gives_same : (x y : Answer) (r : Result (List ℕ) HistoryError) → x ≡ y → Gives (λ answer. answer ≡ x) r → Gives (λ answer. answer ≡ y) r
+pub gives_same : (x y : TextAnswer) (r : Result (List ℕ) HistoryError) → x ≡ y → Gives (λ answer. answer ≡ x) r → Gives (λ answer. answer ≡ y) r
 gives_same x y r same gives = subst (λ z. Gives (λ answer. answer ≡ z) r) same gives
 
 -- a damage of what is pending is one of what was pending before
@@ -122,13 +122,13 @@ same_damage told p q r e is same fact =
 
 -- where both revisions stand
 module _ (h : List Revision) (id other : Id) (path : List (List ℕ)) where
-  abbrev in_both : ℕ → ℕ → Answer
+  abbrev in_both : ℕ → ℕ → TextAnswer
   in_both r q = over (NoSuchPath path) (node_at (tree_at h r) path) (λ e. Ok (node_text (tree_at h q) e.name))
 
-  abbrev pub over_second : ℕ → Option ℕ → Answer
+  abbrev pub over_second : ℕ → Option ℕ → TextAnswer
   over_second r o = over (UnknownRevision other) o (λ q. in_both r q)
 
-  abbrev pub over_first : Option ℕ → Answer
+  abbrev pub over_first : Option ℕ → TextAnswer
   over_first o = over (UnknownRevision id) o (λ r. over_second r (place_of h other))
 
   pub with_first : (r : ℕ) → place_of h id ≡ Some r → over_second r (place_of h other) ≡ corresponding_at h id path other

@@ -5,7 +5,7 @@ use Rattle.std.specs.List.{flat_map}
 use Rattle.hex.specs.Hex.{encode_lower}
 use Rattle.mtn_answers.specs.Lines.{IsGraph}
 use Rattle.mtn_answers.specs.Queries.{IsAnswer, first_unknown, ids_of}
-use Rattle.mtn_answers.specs.Views.{Answer, manifest_at, corresponding_at, IsContentChanged, IsRoster}
+use Rattle.mtn_answers.specs.Views.{TextAnswer, manifest_at, corresponding_at, IsContentChanged, IsRoster}
 use Rattle.mtn_answers.specs.declared.query.Line.{Line}
 use Rattle.mtn_answers.specs.declared.query.Query.{Query}
 use Rattle.mtn_base.specs.Refusals.{refusal_text}
@@ -56,7 +56,7 @@ pub record PutsRevision (f : List ℕ → List ℕ) (text : List ℕ) (s : State
   pub is : o ≡ unless refusal s after (id_line (f text))
 
 -- an answer, which leaves the state
-abbrev pub told : State → Answer → Outcome
+abbrev pub told : State → TextAnswer → Outcome
 told s (Ok text) = done s text
 told s (Err cause) = refused cause s
 
@@ -65,8 +65,8 @@ abbrev pub OfHistory : (List ℕ → List ℕ) → State → (List Revision → 
 OfHistory f s P = (h : List Revision) × IsHistory f s.files s.log h × P h
 
 -- the outcome of a question about a history, whose answer is such
-abbrev pub Viewed : (Answer → Type 0) → State → Outcome → Type 0
-Viewed Is s o = (answer : Answer) × Is answer × (o ≡ told s answer)
+abbrev pub Viewed : (TextAnswer → Type 0) → State → Outcome → Type 0
+Viewed Is s o = (answer : TextAnswer) × Is answer × (o ≡ told s answer)
 
 -- ids, one a line
 abbrev pub id_lines : List Id → List ℕ

@@ -2,7 +2,7 @@
 use Rattle.std.proofs.Common.{◌≡◌, ◌≢◌, ◌≤◌, ◌<◌, ℕ, List, length, Option, Some, None, refl, inl, inr}
 use Rattle.std.proofs.lemmas.Bool.{cases_lt}
 use Rattle.mtn_answers.specs.Queries.{first_unknown, ids_of}
-use Rattle.mtn_answers.specs.Views.{Answer, IsContentChanged, IsRoster, corresponding_at, manifest_at}
+use Rattle.mtn_answers.specs.Views.{TextAnswer, IsContentChanged, IsRoster, corresponding_at, manifest_at}
 use Rattle.mtn_answers.specs.declared.query.Query.{Query}
 use Rattle.mtn_answers.proofs.Existing.{some_answer, some_graph}
 use Rattle.mtn_answers.proofs.MarksExist.{some_content, some_roster}
@@ -38,7 +38,7 @@ module _ (f : List ℕ → List ℕ) (s : State) (lawful : IsLawful f s) where
   some_decision text = elim (cases_lt 67108864 (length text)) [
     | inl long ↦ (Some (TextTooLong (length text)), s, inl (record { long = long; is = refl }))
     | inr short ↦ elim (spells_or_fault text) [
-      | inl read ↦ (_, _, inr (inr (record { short = short; read = read.0; spells = read.1; history = lawful.history; spelled = lawful.log; is = refl; after = refl })))
+      | inl read ↦ (refusal_beside (text_under s.log (f text)) f s.files lawful.history text read.0, logged_beside (text_under s.log (f text)) f s text, inr (inr (record { short = short; read = read.0; spells = read.1; history = lawful.history; spelled = lawful.log; is = refl; after = refl })))
       | inr fault ↦ let cause = cause_of fault.0 fault.1 in (Some cause.0, s, inr (inl (record { short = short; fault = fault.0; faulty = fault.2; cause = cause.0; named = cause.1; is = refl })))
     ]
   ]
@@ -46,7 +46,7 @@ module _ (f : List ℕ → List ℕ) (s : State) (lawful : IsLawful f s) where
   grown : IsGrown lawful.history
   grown = history_is_grown f s.files s.log lawful.history lawful.log
 
-  viewed : (Is : List Revision → Answer → Type 0) → (answer : Answer) × Is lawful.history answer → (o : Outcome) × OfHistory f s (λ h. Viewed (Is h) s o)
+  viewed : (Is : List Revision → TextAnswer → Type 0) → (answer : TextAnswer) × Is lawful.history answer → (o : Outcome) × OfHistory f s (λ h. Viewed (Is h) s o)
   viewed Is answer = (told s answer.0, (lawful.history, lawful.log, (answer.0, answer.1, refl)))
 
   asked : (query : Query) → (unknown : Option Id) → first_unknown lawful.history (ids_of query) ≡ unknown → (o : Outcome) × Asked lawful.history query s unknown o

@@ -5,3 +5,5 @@ pub mod Telling
 pub mod Texts
 pub mod Revisions
 pub mod Existing
+pub mod TreeEntries
+pub mod LawfulEntries

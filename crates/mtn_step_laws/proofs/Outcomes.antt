@@ -6,7 +6,7 @@ use Rattle.mtn_step.specs.declared.call.Call.{Call}
 use Rattle.mtn_step.specs.declared.call.Call.TheVariants.{PutFile, PutRevision, GetFile, GetRevision, GetManifestOf, GetRoster, GetContentChanged, GetCorrespondingPath, Ask, Graph}
 use Rattle.mtn_history_laws.specs.History.{Revision}
 use Rattle.mtn_replay.proofs.Histories.{one_history}
-use Rattle.mtn_answers.specs.Views.{Answer}
+use Rattle.mtn_answers.specs.Views.{TextAnswer}
 use Rattle.mtn_answers.specs.Views.{IsContentChanged, IsRoster, corresponding_at, manifest_at}
 use Rattle.mtn_answers.proofs.Unique.{one_content, one_roster}
 use Rattle.mtn_model.specs.Outcome.{Outcome}
@@ -31,7 +31,7 @@ of_one : (f : List ℕ → List ℕ) (s : State) (P Q : List Revision → Type 0
 of_one f s P Q is also = (is.0, is.2, subst Q (sym (one_history f s.files s.log is.0 also.0 is.1 also.1)) also.2)
 
 -- a question has one outcome, where it has one answer over a history
-one_viewed : (f : List ℕ → List ℕ) (s : State) (Is : List Revision → Answer → Type 0) (o p : Outcome) → ((h : List Revision) (a b : Answer) → Is h a → Is h b → a ≡ b) →
+one_viewed : (f : List ℕ → List ℕ) (s : State) (Is : List Revision → TextAnswer → Type 0) (o p : Outcome) → ((h : List Revision) (a b : TextAnswer) → Is h a → Is h b → a ≡ b) →
     OfHistory f s (λ h. Viewed (Is h) s o) → OfHistory f s (λ h. Viewed (Is h) s p) → o ≡ p
 one_viewed f s Is o p one is also =
     let both = of_one f s (λ h. Viewed (Is h) s o) (λ h. Viewed (Is h) s p) is also in

@@ -66,9 +66,11 @@ next_of before s = by (read_change s).0 (read_change s).1 (read_head s).0 (read_
 -- one more change
 changes_more : (cs : List Change) (c : Change) → AreChanges cs → Stands cs c → AreChanges (cs ++ c ∷ [])
 changes_more cs c lawful is k d lt = elim (cases_lt k (length cs)) [
-  | inl before ↦ rw (take-append-le k cs (c ∷ []) (omega (arith, before)), get_front cs c d k before) (lawful k d before)
+  | inl before ↦ subst (λ (bs : List Change). Stands bs (get_or (cs ++ c ∷ []) k d)) (sym (take-append-le k cs (c ∷ []) (omega (arith, before))))
+      (subst (λ (x : Change). Stands (take k cs) x) (sym (get_front cs c d k before)) (lawful k d before))
   | inr le ↦ let at : k ≡ length cs = omega (arith, le, lt, length-append cs (c ∷ [])) in
-      subst (λ n. Stands (take n (cs ++ c ∷ [])) (get_or (cs ++ c ∷ []) n d)) (sym at) (rw (take_front cs c, get_last cs c d) is)
+      subst (λ n. Stands (take n (cs ++ c ∷ [])) (get_or (cs ++ c ∷ []) n d)) (sym at)
+      (subst (λ (bs : List Change). Stands bs (get_or (cs ++ c ∷ []) (length cs) d)) (sym (take_front cs c)) (subst (λ (x : Change). Stands cs x) (sym (get_last cs c d)) is))
 ]
   where
     get_front : (cs : List Change) (c d : Change) (k : ℕ) → k < length cs → get_or (cs ++ c ∷ []) k d ≡ get_or cs k d
@@ -154,7 +156,7 @@ module _ (ss : List (List LineText)) (id : Id) where
       ss ≡ opening (edge_stanzas e ++ (edge_stanzas (edge_of parent cs) ++ rest)) → IsDecided ss
   second e parent cs [] fine lawful up whole =
       ended (e ∷ edge_of parent cs ∷ []) (fine, lawful, up) whole
-  second e parent cs (s ∷ rest) fine lawful up whole = by (next_of cs s)
+  second e parent cs (s ∷ rest) fine lawful up whole = by (next_of cs s) (λ c more is. second e parent (cs ++ c ∷ []) rest fine more up is)
     where
       f : Edge
       f = edge_of parent cs
@@ -165,17 +167,17 @@ module _ (ss : List (List LineText)) (id : Id) where
       split : ss ≡ map head_stanza heads ++ flat_map edge_stanzas (e ∷ f ∷ []) ++ s ∷ rest
       split = whole ∙ ap (λ xs. opening xs) (ap (λ xs. edge_stanzas e ++ (xs ++ s ∷ rest)) (sym (append-nil (edge_stanzas f))) ∙ sym (append_assoc (edge_stanzas e) (edge_stanzas f ++ []) (s ∷ rest)))
 
-      by : Next cs s → IsDecided ss
-      by (stands c same is) = second e parent (cs ++ c ∷ []) rest fine (changes_more cs c lawful is) up
+      by : Next cs s → ((c : Change) → AreChanges (cs ++ c ∷ []) → ss ≡ opening (edge_stanzas e ++ (edge_stanzas (edge_of parent (cs ++ c ∷ [])) ++ rest)) → IsDecided ss) → IsDecided ss
+      by (stands c same is) later = later c (changes_more cs c lawful is)
           (whole ∙ ap (λ (x : List LineText). opening (edge_stanzas e ++ (edge_stanzas f ++ x ∷ rest))) same ∙ ap (λ xs. opening (edge_stanzas e ++ xs)) (edge_more parent cs c rest))
-      by (bad w) = bad_stanza ss _ (wrong ss heads (e ∷ f ∷ []) s rest one.BadStanza front split w)
-      by (misplaced w) = bad_order ss _ (wrong ss heads (e ∷ f ∷ []) s rest one.BadOrder front split w)
-      by (again w) = repeats ss _ (wrong ss heads (e ∷ f ∷ []) s rest one.Repeated front split w)
+      by (bad w) later = bad_stanza ss _ (wrong ss heads (e ∷ f ∷ []) s rest one.BadStanza front split w)
+      by (misplaced w) later = bad_order ss _ (wrong ss heads (e ∷ f ∷ []) s rest one.BadOrder front split w)
+      by (again w) later = repeats ss _ (wrong ss heads (e ∷ f ∷ []) s rest one.Repeated front split w)
 
   -- the first
   first : (parent : Option Id) (cs : List Change) (rest : List (List LineText)) → AreChanges cs → ss ≡ opening (edge_stanzas (edge_of parent cs) ++ rest) → IsDecided ss
   first parent cs [] lawful whole = ended (edge_of parent cs ∷ []) lawful whole
-  first parent cs (s ∷ rest) lawful whole = by (tell_parent s)
+  first parent cs (s ∷ rest) lawful whole = by (tell_parent s) (λ c more is. first parent (cs ++ c ∷ []) rest more is)
     where
       e : Edge
       e = edge_of parent cs
@@ -183,20 +185,20 @@ module _ (ss : List (List LineText)) (id : Id) where
       split : ss ≡ map head_stanza heads ++ flat_map edge_stanzas (e ∷ []) ++ s ∷ rest
       split = whole ∙ ap (λ xs. opening (xs ++ s ∷ rest)) (sym (append-nil (edge_stanzas e)))
 
-      next : Next cs s → ((p : Option Id) → s ≡ head_stanza (Parent p) → ⊥) → IsDecided ss
-      next (stands c same is) none = first parent (cs ++ c ∷ []) rest (changes_more cs c lawful is)
+      next : Next cs s → ((p : Option Id) → s ≡ head_stanza (Parent p) → ⊥) → ((c : Change) → AreChanges (cs ++ c ∷ []) → ss ≡ opening (edge_stanzas (edge_of parent (cs ++ c ∷ [])) ++ rest) → IsDecided ss) → IsDecided ss
+      next (stands c same is) none later = later c (changes_more cs c lawful is)
           (whole ∙ ap (λ (x : List LineText). opening (edge_stanzas e ++ x ∷ rest)) same ∙ ap (λ xs. opening xs) (edge_more parent cs c rest))
-      next (bad w) none = bad_stanza ss _ (wrong ss heads (e ∷ []) s rest one.BadStanza lawful split (w, none))
-      next (misplaced w) none = bad_order ss _ (wrong ss heads (e ∷ []) s rest one.BadOrder lawful split (w, none))
-      next (again w) none = repeats ss _ (wrong ss heads (e ∷ []) s rest one.Repeated lawful split (w, none))
+      next (bad w) none later = bad_stanza ss _ (wrong ss heads (e ∷ []) s rest one.BadStanza lawful split (w, none))
+      next (misplaced w) none later = bad_order ss _ (wrong ss heads (e ∷ []) s rest one.BadOrder lawful split (w, none))
+      next (again w) none later = repeats ss _ (wrong ss heads (e ∷ []) s rest one.Repeated lawful split (w, none))
 
       other : (p : Option Id) → s ≡ head_stanza (Parent p) → Dec (Ascend parent p) → IsDecided ss
       other p same (yes up) = second e p [] rest lawful no_changes up (whole ∙ ap (λ (x : List LineText). opening (edge_stanzas e ++ x ∷ rest)) same)
       other p same (no n) = bad_edge ss _ (wrong ss heads (e ∷ []) s rest one.BadEdge lawful split (p, same, n))
 
-      by : ((p : Option Id) × (s ≡ head_stanza (Parent p))) ⊎ ((p : Option Id) → s ≡ head_stanza (Parent p) → ⊥) → IsDecided ss
-      by (inl is) = other is.0 is.1 (tell_ascend parent is.0)
-      by (inr none) = next (next_of cs s) none
+      by : ((p : Option Id) × (s ≡ head_stanza (Parent p))) ⊎ ((p : Option Id) → s ≡ head_stanza (Parent p) → ⊥) → ((c : Change) → AreChanges (cs ++ c ∷ []) → ss ≡ opening (edge_stanzas (edge_of parent (cs ++ c ∷ [])) ++ rest) → IsDecided ss) → IsDecided ss
+      by (inl is) later = other is.0 is.1 (tell_ascend parent is.0)
+      by (inr none) later = next (next_of cs s) none later
 
 -- a stanza where a head has to stand
 data NextHead (r : ℕ) (s : List LineText) : Type 0 where
@@ -266,8 +268,11 @@ spells_or_fault text = elim (stanzas_or_place text) [
     faulty ss ok same NoMemory some f = tt
 
     by : (ss : List (List LineText)) → AreStanzas ss → text ≡ spelling ss → IsDecided ss → ((r : Revision) × Spells text r) ⊎ ((e : ChangeTextError) × (e ≢ NoMemory) × IsRevisionFault text e)
-    by ss ok same (inl r) = inl (r.0, record {
-      reads = record { lawful = r.1.lawful; spelled = same ∙ ap spelling r.1.spelled };
-      stanzas = subst AreStanzas r.1.spelled ok;
-    })
+    by ss ok same (inl r) = inl (
+      r.0,
+      record {
+        reads = record { lawful = r.1.lawful; spelled = same ∙ ap spelling r.1.spelled };
+        stanzas = subst AreStanzas r.1.spelled ok;
+      },
+    )
     by ss ok same (inr e) = inr (e.0, e.1, faulty ss ok same e.0 e.1 e.2)

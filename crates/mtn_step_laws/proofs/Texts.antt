@@ -24,16 +24,22 @@ module _ (text : List ℕ) where
   abbrev HasStopped : Type 0
   HasStopped = (place : ℕ) × Stops text place
 
+  plus_one : (k : ℕ) → k + 1 ≡ suc k
+  plus_one k = omega arith
+
   one_more : (k : ℕ) → k < length text → (r : IsRead k) → (o : Option (Done × Phase)) → step r.done r.phase (get_or text k 0) ≡ o → IsRead (suc k) ⊎ HasStopped
-  one_more k lt r None is = inr (k, record {
-    within = omega (arith, lt);
-    done = r.done;
-    phase = r.phase;
-    ran = r.ran;
-    stuck = λ _. is;
-    ended = λ e. absurd (omega (arith, lt, e));
-  })
-  one_more k lt r (Some s) is = inl (record { done = s.0; phase = s.1; ran = subst (λ n. run start (Indent 0) (take n text) ≡ Some s) (omega arith) (run_more start (Indent 0) text k r.done r.phase (Some s) lt r.ran is) })
+  one_more k lt r None is = inr (
+    k,
+    record {
+      within = omega (arith, lt);
+      done = r.done;
+      phase = r.phase;
+      ran = r.ran;
+      stuck = λ _. is;
+      ended = λ e. absurd (omega (arith, lt, e));
+    },
+  )
+  one_more k lt r (Some s) is = inl (record { done = s.0; phase = s.1; ran = subst (λ n. run start (Indent 0) (take n text) ≡ Some s) (plus_one k) (run_more start (Indent 0) text k r.done r.phase (Some s) lt r.ran is) })
 
   front : (k : ℕ) → k ≤ length text → IsRead k ⊎ HasStopped
   front zero le = inl (record { done = start; phase = Indent 0; ran = run_nil start (Indent 0) })
@@ -43,14 +49,17 @@ module _ (text : List ℕ) where
   ]
 
   ends : (r : IsRead (length text)) → (o : Option (List (List LineText))) → answer r.done r.phase ≡ o → ((ss : List (List LineText)) × Reads text ss) ⊎ HasStopped
-  ends r None is = inr (length text, record {
-    within = omega arith;
-    done = r.done;
-    phase = r.phase;
-    ran = r.ran;
-    stuck = λ lt. absurd (omega (arith, lt));
-    ended = λ e. is;
-  })
+  ends r None is = inr (
+    length text,
+    record {
+      within = omega arith;
+      done = r.done;
+      phase = r.phase;
+      ran = r.ran;
+      stuck = λ lt. absurd (omega (arith, lt));
+      ended = λ e. is;
+    },
+  )
   ends r (Some ss) is = inl (ss, record { done = r.done; phase = r.phase; ran = ap (run start (Indent 0)) (sym (take_all (length text) text (omega arith))) ∙ r.ran; ends = is })
 
   read_text : ((ss : List (List LineText)) × Reads text ss) ⊎ HasStopped
