@@ -2,3 +2,4 @@ pub mod Reading
 pub mod Entering
 pub mod Recording
 pub mod Lengths
+pub mod PathRefused

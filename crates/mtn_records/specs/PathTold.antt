@@ -20,7 +20,7 @@ no_slash (b ∷ c) all =
     All-cons (λ (x : ℕ). x == 47 ≡ false) b c q.1 (no_slash c parts.1)
 
 -- the pieces of its text are its components
-pieces : (c : List ℕ) (cs : List (List ℕ)) → AreComps (c ∷ cs) → pieces_of (path_text (c ∷ cs)) ≡ c ∷ cs
+pub pieces : (c : List ℕ) (cs : List (List ℕ)) → AreComps (c ∷ cs) → pieces_of (path_text (c ∷ cs)) ≡ c ∷ cs
 pieces c [] all = slice_split_none (λ (b : ℕ). b == 47) c (no_slash c all.0.plain)
 pieces c (d ∷ cs) all =
     slice_split_at (λ (b : ℕ). b == 47) c 47 (path_text (d ∷ cs)) (no_slash c all.0.plain) refl ∙ ap (λ (xs : List (List ℕ)). c ∷ xs) (pieces d cs all.1)

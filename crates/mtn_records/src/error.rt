@@ -5,7 +5,7 @@ use mtn_base::NoMemory;
 use std::alloc::{AllocError, AllocFailed};
 
 /// Why the bytes of a record give no value.
-#[derive(Clone, Copy, PartialEq, Eq)]
+#[derive(Clone, Copy)]
 pub enum RecordError {
     /// The bytes are no record of this form.
     Bad,

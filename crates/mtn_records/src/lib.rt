@@ -18,6 +18,7 @@
 //! Cost: linear in the bytes. Nothing is sorted.
 #![tactic(auto)]
 
+mod copies;
 mod entries;
 mod entry;
 mod error;
@@ -30,6 +31,7 @@ mod names;
 mod record;
 mod rosters;
 
+pub use copies::copy_value;
 pub use entry::{Numbered, NumberedAttr, NumberedBody, NumberedEntry};
 pub use error::RecordError;
 pub use field::Field;
@@ -38,6 +40,3 @@ pub use laws::{log_again, one_record, roster_again};
 pub use logs::{read_log, write_log};
 pub use record::{LogRecord, RosterRecord};
 pub use rosters::{read_roster, write_roster};
-
-#[cfg(test)]
-mod tests;
