@@ -22,6 +22,3 @@ pub use graph::Graph;
 pub use pos::{LogEntry, ParentList, Pos};
 pub use set::PosSet;
 pub use walk::{Parents, WalkError, uncommon};
-
-#[cfg(test)]
-mod tests;

@@ -17,7 +17,7 @@ impl Model for Pos {
 }
 
 /// The parents of a revision: none, one or two, in the order of its edges.
-#[derive(Clone, Copy, PartialEq, Eq)]
+#[derive(Clone, Copy)]
 pub enum ParentList {
     Zero,
     One(Pos),
@@ -25,7 +25,7 @@ pub enum ParentList {
 }
 
 /// What the log has at a position: a revision's id, and where its parents stand.
-#[derive(Clone, Copy, PartialEq, Eq)]
+#[derive(Clone, Copy)]
 pub struct LogEntry {
     pub id: Id,
     pub parents: ParentList,

@@ -1,4 +1,4 @@
--- The edits of one edge: patches, and cleared and set attributes.
+-- private, for the proof of `apply`: the edits of one edge: patches, and cleared and set attributes.
 use Rattle.std.specs.Prelude.{◌≡◌, ◌+◌, ℕ, Bool, true, List, ◌++◌, length, drop, filter_map, slice_get, map, Vec, Option, Some, None}
 use Rattle.std.specs.BTreeMap.{BTreeMap}
 use Rattle.mtn_apply.specs.Maps.{of_name}

@@ -1,4 +1,4 @@
--- An edge with its index: for each target, and for each old node, the first change that names it.
+-- private, for the proof of `apply`: an edge with its index: for each target, and for each old node, the first change that names it.
 use Rattle.std.specs.Prelude.{◌≡◌, ◌≤◌, ℕ, Bool, List, Option, Some, length, drop, slice_get}
 use Rattle.mtn_apply.specs.Maps.{of_place, of_path}
 use Rattle.std.specs.List.{position_from}

@@ -1,4 +1,4 @@
--- Maps by names and by paths, as lists of their entries, and by places.
+-- private, for the proof of `apply`: maps by names and by paths, as lists of their entries, and by places.
 use Rattle.std.specs.Prelude.{ℕ, List, Option, option_and_then, slice_get}
 use Rattle.std.specs.BTreeMap.{is_at}
 use Rattle.std.specs.Map.{lookup}

@@ -1,4 +1,4 @@
--- Marks that tell of paths that they are not in a map.
+-- private, for the proof of `apply`: marks that tell of paths that they are not in a map.
 use Rattle.std.specs.Prelude.{ℕ, ◌+◌, ◌-◌, ◌*◌, ◌%◌, Bool, cond, nat_eq, List, length, fold, slice_get, Option, Some, None}
 use Rattle.mtn_base.specs.Lists.{is_some_with}
 

@@ -36,18 +36,6 @@ fn mover<'a>(edge: &Edge<'a>, node: Node) -> Option<&'a Change>
     }
 }
 
-fn copy_slot(alloc: Global, slot: &Slot) -> Result<Slot, NoMemory>
-    ensures { IfOk result (λ s. s ≡ slot.now) }
-{
-    match slot {
-        Slot::Root => Ok(Slot::Root),
-        Slot::Below { parent, name } => Ok(Slot::Below {
-            parent: parent.copy(alloc)?,
-            name: name.copy(alloc)?,
-        }),
-    }
-}
-
 /// The slot of a path of the new tree.
 fn slot_of(alloc: Global, edge: &Edge, new: Id, path: &Path) -> Result<Slot, NoMemory>
     requires { IsIndexed edge.now }
@@ -73,7 +61,7 @@ fn slot_after(alloc: Global, edge: &Edge, new: Id, node: Node) -> Result<Slot, N
 {
     match mover(edge, node) {
         Some(Change::Rename { path: _, to }) => slot_of(alloc, edge, new, to),
-        _ => copy_slot(alloc, &node.value.slot),
+        _ => node.value.slot.copy(alloc),
     }
 }
 

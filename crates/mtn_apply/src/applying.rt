@@ -95,6 +95,3 @@ pub fn apply(
     let edge = indexed(alloc, old, changes.changes.as_slice())?;
     applied(alloc, &edge, new)
 }
-
-#[cfg(test)]
-mod tests;

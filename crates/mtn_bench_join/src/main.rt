@@ -71,11 +71,11 @@ fn entries_of(alloc: Global, text: &[u8]) -> Option<Vec<Entry>> {
 }
 
 /// How many nodes the joining of two trees has, whose births all are known.
-fn joined_count(alloc: Global, left: &Roster, right: &Roster) -> Option<u64> {
+fn joined_count(alloc: Global, left: Roster, right: Roster) -> Option<u64> {
     let new = Id([9; 20]);
     let lefts = BTreeSet::new(alloc);
     let rights = BTreeSet::new(alloc);
-    if !common_are_known(left, right, new, &lefts, &rights) {
+    if !common_are_known(&left, &right, new, &lefts, &rights) {
         return None;
     }
     let joined = join(alloc, left, right, new, &lefts, &rights).ok()?;
@@ -97,7 +97,7 @@ fn count_after(alloc: Global, text: &[u8], stop: Option<&str>) -> Option<u64> {
     if stop == Some("two") {
         return Some(0);
     }
-    joined_count(alloc, &left, &right)
+    joined_count(alloc, left, right)
 }
 
 fn main(rt: HostRuntime) -> io::Result<ExitCode> {

@@ -21,6 +21,3 @@ pub use answers::answer;
 pub use graph::lines;
 pub use mtn_answers::{Line, Query};
 pub use query::QueryError;
-
-#[cfg(test)]
-mod tests;

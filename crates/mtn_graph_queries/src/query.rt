@@ -3,7 +3,7 @@ use mtn_base::{Id, NoMemory};
 use std::alloc::{AllocError, AllocFailed};
 
 /// Why a query has no answer.
-#[derive(Clone, Copy, Drop, PartialEq, Eq)]
+#[derive(Clone, Copy, Drop)]
 pub enum QueryError {
     /// The graph does not have this id; it is the first such that the query names.
     Unknown(Id),

@@ -15,17 +15,17 @@ use Rattle.mtn_roster.specs.Walk.{by_path, IsAbove}
 use Rattle.mtn_roster.proofs.Forest.{same_some}
 use Rattle.mtn_base.proofs.Tests.{both_true, same_bytes-is, same_bytes-self}
 use Rattle.mtn_roster.proofs.Walking.{child_path}
-use Rattle.mtn_join.specs.Join.{IsPairedAt, hangs_alike}
+use Rattle.mtn_join.specs.Pairing.{IsPairedAt, hangs_alike}
 use Rattle.mtn_roster.proofs.Along.{held, named_by, one_stop}
 
-ends_alike : (p q : List (List ℕ)) (a b : List ℕ) → p ++ a ∷ [] ≡ q ++ b ∷ [] → (p ≡ q) × (a ≡ b)
+pub ends_alike : (p q : List (List ℕ)) (a b : List ℕ) → p ++ a ∷ [] ≡ q ++ b ∷ [] → (p ≡ q) × (a ≡ b)
 ends_alike p q a b h =
     let r : a ∷ reverse p ≡ b ∷ reverse q = sym (reverse-append p (a ∷ [])) ∙ ap reverse h ∙ reverse-append q (b ∷ []) in
     let last : a ≡ b = cc in
     let front : reverse p ≡ reverse q = cc in
     (sym (reverse-reverse p) ∙ ap reverse front ∙ reverse-reverse q, last)
 
-no_end : (q : List (List ℕ)) (b : List ℕ) → [] ≡ q ++ b ∷ [] → ⊥
+pub no_end : (q : List (List ℕ)) (b : List ℕ) → [] ≡ q ++ b ∷ [] → ⊥
 no_end [] b h = cc
 no_end (c ∷ q) b h = cc
 

@@ -16,7 +16,7 @@ use Rattle.mtn_roster.proofs.Ordered.{forest_of}
 use Rattle.mtn_roster.proofs.Leading.{get_within}
 use Rattle.mtn_changeset_laws.specs.Joining.{is_old}
 use Rattle.mtn_changeset_laws.specs.Laws.{CommonAreKnown}
-use Rattle.mtn_join.specs.Join.{is_common_known}
+use Rattle.mtn_join.specs.Pairing.{is_common_known}
 
 third : (a b c : Bool) → (a || b || c) ≡ true → a ≡ false → b ≡ false → c ≡ true
 third true b c h e f = absurd cc

@@ -1,7 +1,7 @@
 -- The attributes of two nodes.
 use Rattle.std.specs.Prelude.{find, is_some, is_none, option_map, option_and_then, slice_get, IfSome}
 use Rattle.std.specs.List.{filter, AllByRecursion, IsDistinct}
-use Rattle.std.proofs.Common.{◌≡◌, ℕ, ◌+◌, ◌<◌, take, append_assoc, Bool, true, false, cond, List, [], ◌∷◌, ◌++◌, length, get_or, Option, Some, None, refl, sym, ◌∙◌, ap}
+use Rattle.std.proofs.Common.{◌≡◌, ℕ, ◌+◌, ◌<◌, take, Bool, true, false, cond, List, [], ◌∷◌, ◌++◌, length, get_or, Option, Some, None, refl, sym, ◌∙◌, ap}
 use Rattle.std.proofs.lemmas.List.{take_more}
 use Rattle.mtn_base.specs.Names.{same_bytes, bytes_cmp}
 use Rattle.mtn_roster.specs.declared.entry.Attr.{Attr}
@@ -17,7 +17,7 @@ use Rattle.mtn_base.proofs.Placed.{find-placed}
 use Rattle.mtn_base.proofs.Sorting.{one_sorted, ordered-rises, rises_placed, rising_differ}
 use Rattle.mtn_changeset_laws.specs.Changes.{or_else}
 use Rattle.mtn_changeset_laws.specs.Joining.{joined_attrs}
-use Rattle.mtn_join.specs.Join.{both_attrs}
+use Rattle.mtn_join.specs.Pairing.{both_attrs}
 
 -- lists by ascending keys that look up the same are one
 pub one_by_keys : (xs ys : List Attr) → are_keyed xs ≡ true → are_keyed ys ≡ true → ((k : List ℕ) → find (keyed_by k) xs ≡ find (keyed_by k) ys) → xs ≡ ys
@@ -161,10 +161,10 @@ lacks first k (Some at) h low =
     ap (λ (x : Option Attr). is_none (option_map (λ (a : Attr). a.value) x)) (sym h ∙ t.1)
 
 pub more_others : (first second now now' : List Attr) (i : ℕ) (a : Attr) (k : List ℕ) (o : Option ℕ) → i < length second → a ≡ get_or second i a → k ≡ a.key
-    → option_and_then (slice_get first) o ≡ find (keyed_by k) first → IfSome o (λ at. at < length first) → now ≡ first ++ filter (lacked first) (take i second)
-    → now' ≡ now ++ cond (is_none o) (a ∷ []) [] → now' ≡ first ++ filter (lacked first) (take (i + 1) second)
+    → option_and_then (slice_get first) o ≡ find (keyed_by k) first → IfSome o (λ at. at < length first) → now ≡ filter (lacked first) (take i second)
+    → now' ≡ now ++ cond (is_none o) (a ∷ []) [] → now' ≡ filter (lacked first) (take (i + 1) second)
 more_others first second now now' i a k o low at key found within was more =
     let p : lacked first a ≡ is_none o = ap (λ q. is_none (attr_of first q)) (sym key) ∙ lacks first k o found within in
-    more ∙ ap (λ l. l ++ cond (is_none o) (a ∷ []) []) was ∙ append_assoc first (filter (lacked first) (take i second)) (cond (is_none o) (a ∷ []) [])
-    ∙ ap (λ l. first ++ l) (ap (λ b. filter (lacked first) (take i second) ++ cond b (a ∷ []) []) (sym p) ∙ sym (filter-snoc (lacked first) (take i second) a)
-    ∙ ap (filter (lacked first)) (ap (λ x. take i second ++ x ∷ []) at ∙ sym (take_more second i a low)))
+    more ∙ ap (λ l. l ++ cond (is_none o) (a ∷ []) []) was
+    ∙ ap (λ b. filter (lacked first) (take i second) ++ cond b (a ∷ []) []) (sym p) ∙ sym (filter-snoc (lacked first) (take i second) a)
+    ∙ ap (filter (lacked first)) (ap (λ x. take i second ++ x ∷ []) at ∙ sym (take_more second i a low))

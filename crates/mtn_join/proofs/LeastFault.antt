@@ -25,7 +25,7 @@ use Rattle.mtn_changeset_laws.specs.Joining.{JoinWhy, join_why, fault_at, least,
 use Rattle.mtn_changeset_laws.specs.Joining.JoinWhy.{Disagree}
 use Rattle.mtn_changeset_laws.proofs.Joins.{in_map, of_map}
 use Rattle.mtn_join.specs.declared.pair.PairFault.{PairFault}
-use Rattle.mtn_join.specs.Join.{IsPairedAt, pair_why, IsAgreement, IsEnd, ArePaired, path_along, lesser_path, why_of}
+use Rattle.mtn_join.specs.Pairing.{IsPairedAt, pair_why, IsAgreement, IsEnd, ArePaired, path_along, lesser_path, why_of}
 use Rattle.mtn_roster.proofs.Along.{held, leads, less, not_less, one_stop, reached}
 
 abbrev PathFault : Type 0

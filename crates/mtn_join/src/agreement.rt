@@ -2,7 +2,8 @@
 ghost use Rattle.std.specs.Prelude.{◌≡◌, IfOk, option_copied, slice_get};
 ghost use Rattle.mtn_roster.specs.Tree.{IsSane};
 ghost use Rattle.mtn_roster.specs.Walk.{by_path, AreStops};
-ghost use Rattle.mtn_join.specs.Join.{is_outside, hangs_alike, IsAgreement, path_along, lesser_path};
+ghost use Rattle.mtn_join.specs.Join.{is_outside};
+ghost use Rattle.mtn_join.specs.Pairing.{hangs_alike, IsAgreement, path_along, lesser_path};
 
 use crate::pair::{Births, PairFault, pair_fault};
 use mtn_base::{NoMemory, Path};
@@ -88,10 +89,9 @@ fn path_at(
     requires { AreStops roster.now stops.now }
     ensures { IfOk result (λ path. path ≡ path_along roster.now at) }
 {
-    let _nodes = roster.len();
-    match entry_along(roster, stops, at) {
+    match stops.get(at) {
         None => Ok(None),
-        Some(entry) => roster.path_of(alloc, &entry.name),
+        Some(stop) => roster.path_at(alloc, stop.place),
     }
 }
 

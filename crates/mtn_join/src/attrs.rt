@@ -1,12 +1,14 @@
 // The attributes of two nodes, by ascending keys.
-ghost use Rattle.std.specs.Prelude.{◌≡◌, IsTrue, IfOk};
+ghost use Rattle.std.specs.Prelude.{◌≡◌, IsTrue, IfOk, filter, is_none};
+ghost use Rattle.mtn_roster.specs.declared.entry.Attr.{Attr};
+ghost use Rattle.mtn_roster.specs.Tree.{attr_of};
 ghost use Rattle.mtn_changeset_laws.specs.Joining.{has_live as has_all_live, same_live as have_same_live};
 ghost use Rattle.mtn_roster.specs.Attrs.{are_keyed};
-ghost use Rattle.mtn_join.specs.Join.{is_live_in, both_attrs};
+ghost use Rattle.mtn_join.specs.Pairing.{is_live_in, both_attrs};
 
 use mtn_base::{List, NoMemory};
 use mtn_roster::Attr;
-use mtn_roster::attrs::{copy_attr, copy_attrs, live_value, place_of_key};
+use mtn_roster::attrs::{live_value, place_of_key};
 use std::alloc::Global;
 
 /// Whether an attribute, if it is live, is one of the others.
@@ -40,16 +42,31 @@ pub fn same_live(first: &[Attr], second: &[Attr]) -> bool
     has_live(second, first) && has_live(first, second)
 }
 
-/// The attributes of the first node, and behind them those of the second whose keys the first lacks.
-pub fn attrs_of_both(alloc: Global, first: &[Attr], second: &[Attr]) -> Result<List<Attr>, NoMemory>
+/// The attributes whose keys the first node lacks.
+fn others_of(alloc: Global, first: &[Attr], second: &[Attr]) -> Result<Vec<Attr>, NoMemory>
     requires { IsTrue (are_keyed first.now) }
-    ensures { IfOk result (λ attrs. attrs ≡ both_attrs first.now second.now) }
+    ensures { IfOk result (λ others. others.items ≡ filter (λ (b : Attr). is_none (attr_of first.now b.key)) second.now) }
 {
-    let mut attrs = copy_attrs(alloc, first)?;
+    let mut others = Vec::new(alloc);
     for attr in second {
         if place_of_key(first, attr.key.as_slice()).is_none() {
-            attrs.push(copy_attr(alloc, attr)?)?;
+            others.push(attr.copy(alloc)?)?;
         }
     }
+    Ok(others)
+}
+
+/// The attributes of the first node, and behind them those of the second whose keys the first lacks.
+pub fn attrs_of_both(
+    alloc: Global,
+    first: List<Attr>,
+    second: &[Attr],
+) -> Result<List<Attr>, NoMemory>
+    requires { IsTrue (are_keyed first) }
+    ensures { IfOk result (λ attrs. attrs ≡ both_attrs first second.now) }
+{
+    let mut others = others_of(alloc, first.as_slice(), second)?;
+    let mut attrs = first.into_vec();
+    attrs.append(&mut others)?;
     Ok(List::from_vec(attrs))
 }

@@ -1,7 +1,8 @@
 // What joining asks of births.
 ghost use Rattle.std.specs.Prelude.{◌≡◌, ◌↔◌, IsTrue};
 ghost use Rattle.mtn_changeset_laws.specs.Laws.{CommonAreKnown};
-ghost use Rattle.mtn_join.specs.Join.{is_outside, is_common_known};
+ghost use Rattle.mtn_join.specs.Join.{is_outside};
+ghost use Rattle.mtn_join.specs.Pairing.{is_common_known};
 
 use crate::pair::{Births, is_old};
 use mtn_base::Id;

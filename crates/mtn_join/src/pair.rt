@@ -2,7 +2,8 @@
 ghost use Rattle.std.specs.Prelude.{◌≡◌, IsTrue, Some, option_map};
 ghost use Rattle.mtn_changeset_laws.specs.Joining.{is_old as is_old_in, same_body as have_same_body, disagree as nodes_disagree, is_revived as is_node_revived, join_why};
 ghost use Rattle.mtn_roster.specs.Attrs.{are_keyed};
-ghost use Rattle.mtn_join.specs.Join.{is_outside, why_of};
+ghost use Rattle.mtn_join.specs.Join.{is_outside};
+ghost use Rattle.mtn_join.specs.Pairing.{why_of};
 
 use crate::attrs::same_live;
 use mtn_base::Id;
@@ -10,7 +11,7 @@ use mtn_roster::{Body, Entry};
 use std::collections::BTreeSet;
 
 /// What is wrong with two nodes at one path.
-#[derive(Clone, Copy, PartialEq, Eq)]
+#[derive(Clone, Copy)]
 pub enum PairFault {
     Disagree,
     Revived,

@@ -18,7 +18,8 @@ use Rattle.mtn_roster.proofs.Forest.{same_some}
 use Rattle.mtn_base.proofs.Members.{taken}
 use Rattle.mtn_base.proofs.Finding.{Split}
 use Rattle.mtn_roster.proofs.Ordered.{forest_of}
-use Rattle.mtn_make_roster.specs.Limits.{is_long, slashed, slashed_at, IsMet}
+use Rattle.mtn_replay.specs.Making.{is_long}
+use Rattle.mtn_make_roster.specs.Limits.{slashed, slashed_at, IsMet}
 
 -- with a slash behind each component a path has one byte more
 one_more : (c : List ℕ) (cs : List (List ℕ)) → slashed (c ∷ cs) ≡ length (path_text (c ∷ cs)) + 1
@@ -152,12 +153,3 @@ module _ (t : Tree) (sane : IsSane t) (stops : List Stop) (are : AreStops t stop
 
 pub no_long : (t : Tree) (stops : List Stop) → AreStops t stops → (i : ℕ) → length stops ≤ i → (lengths : List ℕ) → IsSummed t lengths i → None ≡ find is_long (map (path_of t) (by_path t))
 no_long t stops are i far lengths sum = sym sum.1 ∙ ap (find is_long) (all_met t (path_of t) stops are i far)
-
--- the path of the node at a place that was found
-pub path_at_place : (t : Tree) → IsSane t → (o : Option ℕ) (place : ℕ) (e : Entry) (found : Option (List (List ℕ))) → o ≡ Some place → Some e ≡ slice_get t place
-    → option_map (path_of t) (option_and_then (slice_get t) o) ≡ found → option_map (path_of t) (entry_of t e.name) ≡ found
-path_at_place t sane o place e found is there h =
-    let r = taken t place (get_within t place e (sym there)) in
-    let same : r.0 ≡ e = same_some r.1 (sym there) in
-    let own : entry_of t e.name ≡ Some e = (forest_of t sane).distinct e (subst (Split t) same r.2) in
-    ap (option_map (path_of t)) (own ∙ there) ∙ ap (λ x. option_map (path_of t) (option_and_then (slice_get t) x)) (sym is) ∙ h

@@ -1,12 +1,8 @@
--- The lengths of paths along a walk.
-use Rattle.std.specs.Prelude.{ℕ, ◌+◌, ◌<◌, ◌≤◌, Bool, nat_lt, List, [], ◌∷◌, length, slice_index_or}
-use Rattle.mtn_base.specs.Paths.{path_text}
+-- private, for the proof of `make`: the lengths of paths along a walk.
+use Rattle.std.specs.Prelude.{ℕ, ◌+◌, ◌<◌, ◌≤◌, List, [], ◌∷◌, length, slice_index_or}
+use Rattle.mtn_base.specs.declared.limits.TheConstants.{MAX_PATH}
 use Rattle.mtn_roster.specs.declared.entry.Slot.{Slot}
 use Rattle.mtn_roster.specs.declared.entry.Slot.TheVariants.{Root, Below}
-
--- a path of more than 4,096 bytes
-abbrev pub is_long : List (List ℕ) → Bool
-is_long path = nat_lt 4096 (length (path_text path))
 
 -- the bytes of a path with a slash behind each component
 abbrev pub slashed : List (List ℕ) → ℕ
@@ -21,4 +17,4 @@ slashed_at lengths (Below parent name) above = slice_index_or lengths above 0 + 
 -- the parent was met, and its path is not long
 abbrev pub IsMet : List ℕ → Slot → ℕ → Type 0
 IsMet lengths Root above = Unit {0}
-IsMet lengths (Below parent name) above = (above < length lengths) × (slice_index_or lengths above 0 ≤ 4097)
+IsMet lengths (Below parent name) above = (above < length lengths) × (slice_index_or lengths above 0 ≤ MAX_PATH + 1)

@@ -1,4 +1,4 @@
--- What applying one edge answers, and what joining two trees does.
+-- private, for the proof of `make`: what applying one edge answers, and what joining two trees does.
 use Rattle.std.specs.Prelude.{◌≡◌, ℕ, List, Some, option_map}
 use Rattle.std.specs.BTreeSet.{BTreeSet}
 use Rattle.mtn_base.specs.declared.id.Id.{Id}

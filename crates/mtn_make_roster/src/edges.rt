@@ -47,20 +47,20 @@ pub fn edge_tree(
     }
 }
 
-/// The joining of the trees of both edges.
+/// The joining of the trees of both edges, which it takes.
 pub fn joined_tree(
     alloc: Global,
-    left: &Roster,
-    right: &Roster,
+    left: Roster,
+    right: Roster,
     new: Id,
     only_left: &Uncommon,
     only_right: &Uncommon,
 ) -> Result<Roster, MakeError>
-    ensures ok { IfOk result (λ roster. roster ≡ joined left.now right.now new) }
-    ensures agreed { OnOk result (join_fault new (is_outside only_right.now.ids) (is_outside only_left.now.ids) left.now right.now ≡ None) }
-    ensures err { IfErr result (IsJoinError new only_left.now.ids only_right.now.ids left.now right.now) }
+    ensures ok { IfOk result (λ roster. roster ≡ joined left right new) }
+    ensures agreed { OnOk result (join_fault new (is_outside only_right.now.ids) (is_outside only_left.now.ids) left right ≡ None) }
+    ensures err { IfErr result (IsJoinError new only_left.now.ids only_right.now.ids left right) }
 {
-    if !common_are_known(left, right, new, &only_left.ids, &only_right.ids) {
+    if !common_are_known(&left, &right, new, &only_left.ids, &only_right.ids) {
         return Err(MakeError::Damaged);
     }
     match join(alloc, left, right, new, &only_left.ids, &only_right.ids) {

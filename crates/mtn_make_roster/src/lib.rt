@@ -25,9 +25,5 @@ mod marked;
 pub use basis::{Basis, Uncommon};
 pub use contents::new_content;
 pub use error::MakeError;
-pub use limits::{MAX_NODES, MAX_PATH};
 pub use making::make;
 pub use marked::mark;
-
-#[cfg(test)]
-mod tests;

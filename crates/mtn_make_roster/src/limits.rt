@@ -1,22 +1,16 @@
 // How much a tree may have.
 ghost use Rattle.std.specs.Prelude.{◌≡◌, None, find, map, option_map, option_and_then, slice_get, IfOk, IfErr, OnOk};
 ghost use Rattle.mtn_changeset_laws.specs.Changes.{or_else};
-ghost use Rattle.mtn_replay.specs.Making.{too_many, too_long};
+ghost use Rattle.mtn_replay.specs.Making.{is_long, too_many, too_long};
 ghost use Rattle.mtn_roster.specs.Tree.{path_of};
 ghost use Rattle.mtn_roster.specs.Walk.{by_path, AreStops};
 ghost use Rattle.mtn_make_roster.specs.Basis.{IsCauseOf};
-ghost use Rattle.mtn_make_roster.specs.Limits.{is_long, slashed_at, IsMet};
+ghost use Rattle.mtn_make_roster.specs.Limits.{slashed_at, IsMet};
 
 use crate::MakeError;
-use mtn_base::{Cause, NoMemory, Path};
+use mtn_base::{Cause, MAX_NODES, MAX_PATH, NoMemory, Path};
 use mtn_roster::{Roster, Slot, Stop};
 use std::alloc::Global;
-
-/// The most nodes of a tree.
-pub const MAX_NODES: u64 = 100_000;
-
-/// The most bytes of a path.
-pub const MAX_PATH: usize = 4_096;
 
 /// The bytes of the path of what hangs there, with a slash behind each component, by those of the nodes before.
 fn slashed_length(lengths: &[usize], slot: &Slot, above: usize) -> usize
@@ -51,14 +45,10 @@ fn long_place(alloc: Global, roster: &Roster, stops: &[Stop]) -> Result<Option<u
 fn long_path(alloc: Global, roster: &Roster) -> Result<Option<Path>, NoMemory>
     ensures { IfOk result (λ path. path ≡ find is_long (map (path_of roster.now) (by_path roster.now))) }
 {
-    let _nodes = roster.len();
     let stops = roster.stops(alloc)?;
     match long_place(alloc, roster, &stops)? {
         None => Ok(None),
-        Some(place) => match roster.at_place(place) {
-            None => Ok(None),
-            Some(entry) => roster.path_of(alloc, &entry.name),
-        },
+        Some(place) => roster.path_at(alloc, place),
     }
 }
 
@@ -68,7 +58,7 @@ pub fn within_limits(alloc: Global, roster: &Roster) -> Result<(), MakeError>
     ensures err { IfErr result (IsCauseOf (or_else (too_many roster.now) (too_long roster.now))) }
 {
     let count = roster.len();
-    if count > MAX_NODES {
+    if count > MAX_NODES as u64 {
         return Err(MakeError::Refused(Cause::TooManyNodes { count }));
     }
     match long_path(alloc, roster)? {

@@ -38,7 +38,7 @@ fn tree_of_edges(alloc: Global, edges: &[Edge], basis: &Basis, new: Id) -> Resul
             [first, second] => {
                 let left = edge_tree(alloc, 1, Some(left.roster()), first, new)?;
                 let right = edge_tree(alloc, 2, Some(right.roster()), second, new)?;
-                joined_tree(alloc, &left, &right, new, only_left, only_right)
+                joined_tree(alloc, left, right, new, only_left, only_right)
             }
             _ => Err(MakeError::Damaged),
         },

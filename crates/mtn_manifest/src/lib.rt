@@ -105,6 +105,3 @@ pub fn write(roster: &Roster, out: &mut Vec<u8>) -> Result<(), NoMemory>
     }
     written
 }
-
-#[cfg(test)]
-mod tests;

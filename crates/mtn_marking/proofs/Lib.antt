@@ -1,6 +1,5 @@
 pub mod Keyed
 pub mod ByName
-pub mod ByKey
 pub mod Joined
 pub mod Rows
 pub mod Siding

@@ -1,29 +1,19 @@
 -- What tests of values tell, and what a look-up of an attribute does.
-use Rattle.std.specs.Prelude.{◌&&◌, IsTrue, map, find, option_map, slice_get}
-use Rattle.std.proofs.Common.{◌≡◌, ◌↔◌, ℕ, zero, suc, Bool, true, List, [], ◌∷◌, Option, Some, sym, ◌∙◌, ap, subst}
-use Rattle.mtn_base.specs.Names.{same_bytes, same_name, bytes_cmp}
-use Rattle.mtn_base.specs.declared.name.NodeName.{NodeName}
+use Rattle.std.specs.Prelude.{IsTrue, map, find, option_map, slice_get}
+use Rattle.std.proofs.Common.{◌≡◌, ◌↔◌, ℕ, zero, suc, true, List, [], ◌∷◌, Option, Some, sym, ◌∙◌, ap, subst}
+use Rattle.mtn_base.specs.Names.{same_bytes, bytes_cmp}
 use Rattle.mtn_history_laws.specs.Scalars.Value.{AttrValue}
 use Rattle.mtn_roster.specs.declared.entry.Attr.{Attr}
-use Rattle.mtn_roster.specs.declared.entry.Slot.{Slot}
-use Rattle.mtn_roster.specs.declared.entry.Slot.TheVariants.{Below}
 use Rattle.mtn_base.specs.Lists.{rises}
-use Rattle.mtn_roster.specs.Tree.{same_slot, attr_of}
+use Rattle.mtn_roster.specs.Tree.{attr_of}
 use Rattle.mtn_base.proofs.Finding.{found}
 use Rattle.mtn_base.proofs.Orders.{bytes_total, exact_bytes}
-use Rattle.mtn_roster.proofs.Slots.{same_slot-is, same_slot-self}
 use Rattle.mtn_base.proofs.Tests.{same_bytes-is, same_bytes-self}
 use Rattle.mtn_marking.specs.declared.node.AttrMarks.{AttrMarks}
 use Rattle.mtn_marking.specs.declared.side.Have.{Have}
 use Rattle.mtn_marking.specs.Marking.{side, attr_marks_of}
 use Rattle.mtn_marking.specs.Parts.{Tells}
 use Rattle.mtn_marking.proofs.Keyed.{found_there}
-
-pub told_slot : (s t : Slot) (r : Bool) → r ≡ same_slot s t → IsTrue r ↔ (s ≡ t)
-told_slot s t r e = (λ h. same_slot-is s t (sym e ∙ h), λ d. e ∙ subst (λ z. same_slot s z ≡ true) d (same_slot-self s))
-
-pub slot_then : (s t : Slot) (p q : NodeName) (a b : List ℕ) (r : Bool) → s ≡ Below p a → t ≡ Below q b → same_name p q ≡ r → same_slot s t ≡ (r && same_bytes a b)
-slot_then s t p q a b r es et h = (λ i. same_slot (es i) (et i)) ∙ ap (λ x. x && same_bytes a b) h
 
 abbrev pub key_of : Attr → List ℕ
 key_of a = a.key

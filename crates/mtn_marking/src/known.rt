@@ -1,20 +1,17 @@
 // What a parent has of a node, and of each of its scalars.
-ghost use Rattle.std.specs.Prelude.{◌≡◌, ◌<◌, length, map, find, slice_get, option_and_then, option_map, IsTrue, IfSome};
-ghost use Rattle.mtn_base.specs.Names.{bytes_cmp, same_bytes};
+ghost use Rattle.std.specs.Prelude.{◌≡◌, Some, option_map};
 ghost use Rattle.mtn_base.specs.declared.name.NodeName.{NodeName};
 ghost use Rattle.mtn_history_laws.specs.Scalars.Scalar.{SlotOf, ContentOf, AttrOf};
 ghost use Rattle.mtn_history_laws.specs.Scalars.Value.{SlotValue, ContentValue, AttrValue};
-ghost use Rattle.mtn_base.specs.Lists.{rises};
-ghost use Rattle.mtn_roster.specs.declared.entry.Attr.{Attr};
 ghost use Rattle.mtn_marking.specs.Marking.{birth_or, known_by, side_of};
 ghost use Rattle.mtn_marking.specs.Parts.{seen, IsOrderly, Tells};
 
 use crate::Marking;
 use crate::marked::MarkedRoster;
-use crate::same::{are_same_ids, are_same_slots, are_same_values};
 use crate::side::Have;
 use mtn_ancestry::Pos;
-use mtn_base::{Bytes, Id, NodeName};
+use mtn_base::{Id, NodeName};
+use mtn_roster::attrs::{place_of_key, same_value};
 use mtn_roster::{Attr, Body, Entry, Slot};
 
 /// A node of a parent: its entry and its marking.
@@ -55,7 +52,7 @@ pub fn have_slot<'a>(known: Option<Known<'a>>, slot: &Slot) -> Option<Have<'a>>
     match known {
         None => None,
         Some(found) => Some(Have {
-            equal: are_same_slots(slot, &found.node.slot),
+            equal: slot.same(&found.node.slot),
             marks: &found.marking.slot,
         }),
     }
@@ -72,23 +69,11 @@ pub fn have_content<'a>(known: Option<Known<'a>>, content: Id) -> Option<Have<'a
             Body::File { content: old } => match &found.marking.content {
                 None => None,
                 Some(marks) => Some(Have {
-                    equal: are_same_ids(content, old),
+                    equal: content == old,
                     marks,
                 }),
             },
         },
-    }
-}
-
-/// The place of a key among attributes whose keys ascend.
-fn place_of_key(attrs: &[Attr], key: &Bytes) -> Option<usize>
-    requires rising { IsTrue (rises bytes_cmp (map (λ (a : Attr). a.key) attrs.now)) }
-    ensures within { IfSome result (λ place. place < length attrs.now) }
-    ensures attr { option_and_then (slice_get attrs.now) result ≡ find (λ (a : Attr). same_bytes a.key key.now) attrs.now }
-{
-    match attrs.binary_search_by(|attr| attr.key.as_slice().cmp(key.as_slice())) {
-        Ok(place) => Some(place),
-        Err(_) => None,
     }
 }
 
@@ -98,12 +83,13 @@ fn attr_of_node<'a>(found: Known<'a>, attr: &Attr) -> Option<Have<'a>>
     ensures { (n : NodeName) → Tells (AttrValue attr.now.value) (side_of (AttrOf n attr.now.key) (seen (Some found.entry))) result }
 {
     let attrs = found.node.attrs.as_slice();
-    match place_of_key(attrs, &attr.key) {
+    let key = attr.key.as_slice();
+    match place_of_key(attrs, key) {
         None => None,
         Some(place) => match found.marking.attrs.as_slice().get(place) {
             None => None,
             Some(marked) => Some(Have {
-                equal: are_same_values(&attr.value, &attrs[place].value),
+                equal: same_value(&attr.value, &attrs[place].value),
                 marks: &marked.marks,
             }),
         },

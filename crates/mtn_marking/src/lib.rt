@@ -22,7 +22,6 @@ mod map;
 mod mark;
 mod marked;
 mod node;
-mod same;
 mod sets;
 mod side;
 
@@ -30,6 +29,3 @@ pub use map::MarkMap;
 pub use mark::{mark_one, mark_root, mark_two};
 pub use marked::MarkedRoster;
 pub use node::{AttrMarks, Marking, NodeMarks};
-
-#[cfg(test)]
-mod tests;

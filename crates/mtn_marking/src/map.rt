@@ -1,5 +1,5 @@
 // Markings by node names.
-ghost use Rattle.std.specs.Prelude.{◌≡◌, ◌≢◌, ◌<◌, [], map, length, slice_get, option_and_then, option_copied, find, Some, IsTrue, IfSome, OnOk, OnErr};
+ghost use Rattle.std.specs.Prelude.{◌≡◌, ◌≢◌, ◌<◌, [], map, length, slice_get, option_and_then, option_copied, find, Some, IsTrue, IfOk, IfSome, OnOk, OnErr};
 ghost use Rattle.mtn_base.specs.Names.{name_cmp, same_name};
 ghost use Rattle.mtn_base.specs.declared.name.NodeName.{NodeName};
 ghost use Rattle.mtn_base.specs.Lists.{rises};
@@ -99,4 +99,23 @@ impl MarkMap {
             Err(_) => None,
         }
     }
+
+    /// An equal map, which shares the sets.
+    pub fn copy(&self, alloc: Global) -> Result<MarkMap, NoMemory>
+        ensures { IfOk result (λ map. map ≡ self.now) }
+    {
+        Ok(MarkMap {
+            items: copy_nodes(alloc, &self.items)?,
+        })
+    }
+}
+
+fn copy_nodes(alloc: Global, nodes: &[NodeMarks]) -> Result<Vec<NodeMarks>, NoMemory>
+    ensures { IfOk result (λ copies. copies.items ≡ nodes.now) }
+{
+    let mut copies = Vec::with_capacity(alloc, nodes.len())?;
+    for node in nodes {
+        copies.push(node.copy(alloc)?)?;
+    }
+    Ok(copies)
 }

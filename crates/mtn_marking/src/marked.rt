@@ -1,5 +1,5 @@
 // Rosters with the marks of their nodes.
-ghost use Rattle.std.specs.Prelude.{◌≡◌, ◌↔◌, IsTrue};
+ghost use Rattle.std.specs.Prelude.{◌≡◌, ◌↔◌, IsTrue, IfOk};
 ghost use Rattle.mtn_marking.specs.Marking.{AreFor};
 ghost use Rattle.mtn_marking.specs.Marking.{known_in};
 ghost use Rattle.mtn_marking.specs.Parts.{seen, IsOrderly};
@@ -7,8 +7,9 @@ ghost use Rattle.mtn_marking.specs.Parts.{seen, IsOrderly};
 use crate::MarkMap;
 use crate::fits::are_for;
 use crate::known::Known;
-use mtn_base::NodeName;
+use mtn_base::{NoMemory, NodeName};
 use mtn_roster::Roster;
+use std::alloc::Global;
 use std::marker::Model;
 
 /// A roster with the marks of exactly its nodes and their scalars.
@@ -78,5 +79,16 @@ impl MarkedRoster {
                 },
             },
         }
+    }
+
+    /// An equal roster with equal marks, which share the sets.
+    pub fn copy(&self, alloc: Global) -> Result<MarkedRoster, NoMemory>
+        ensures { IfOk result (λ marked. marked ≡ self.now) }
+    {
+        let roster = self.roster.copy(alloc)?;
+        Ok(MarkedRoster {
+            roster,
+            marks: self.marks.copy(alloc)?,
+        })
     }
 }

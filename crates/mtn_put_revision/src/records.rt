@@ -15,9 +15,8 @@ ghost use Rattle.mtn_put_revision.specs.Finding.{IsFound};
 ghost use Rattle.mtn_put_revision.specs.Keeping.{IsDeltaBody, IsLogBodyOf, IsWhole, IsWrittenOn};
 
 use mtn_ancestry::{ParentList, Pos};
-use mtn_base::{Bytes, Id, List as Items, NoMemory};
+use mtn_base::{Bytes, Id, List as Items, MAX_NODES, NoMemory};
 use mtn_history::{Draft, StoreError};
-use mtn_make_roster::MAX_NODES;
 use mtn_marking::MarkedRoster;
 use mtn_ports::Keeper;
 use mtn_records::{LogRecord, Numbered, RosterRecord, is_record_at, write_log, write_roster};
@@ -74,7 +73,7 @@ pub fn numbered(
     ensures next { AreKnown (shown known.now) next → IfOk result (λ r. r.1 ≡ next + length (fresh (shown known.now) roster.now.tree)) }
     ensures clash { result ≡ Err NumberError.Clash → AreKnown (shown known.now) next → ⊥ }
 {
-    if roster.roster().len() > MAX_NODES {
+    if roster.roster().len() > MAX_NODES as u64 {
         return Err(NumberError::NoMemory);
     }
     number(alloc, roster, known, next)

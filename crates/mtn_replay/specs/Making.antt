@@ -7,6 +7,7 @@ use Rattle.mtn_base.specs.Hex.{id_of}
 use Rattle.mtn_base.specs.Names.{same_id}
 use Rattle.mtn_base.specs.Paths.{path_text}
 use Rattle.mtn_base.specs.declared.id.Id.{Id}
+use Rattle.mtn_base.specs.declared.limits.TheConstants.{MAX_LOG, MAX_NODES, MAX_PATH}
 use Rattle.mtn_base.specs.declared.refusal.Cause.{Cause}
 use Rattle.mtn_base.specs.declared.refusal.Cause.TheVariants.{LogFull, UnknownParent, BadChange, Disagree as Disagrees, Revived as Revives, TooManyNodes, PathTooLong, UnknownFile, ManifestDiffers}
 use Rattle.mtn_basic_io.specs.Spelling.{spelling}
@@ -62,9 +63,9 @@ parents_of h edges = filter_map (λ (e : Edge). option_and_then (place_of h) e.p
 abbrev pub made : List Revision → Id → List Edge → Revision
 made h new edges = record { id = new; parents = parents_of h edges; tree = made_tree h new edges }
 
--- a log has 2,147,483,648 revisions at most
+-- a log has MAX_LOG revisions at most
 abbrev pub log_full : List Revision → Option Cause
-log_full h = if nat_le 2147483648 (length h) then Some (LogFull (length h)) else None
+log_full h = if nat_le MAX_LOG (length h) then Some (LogFull (length h)) else None
 
 -- the first parent that is not held
 abbrev pub unknown_parent : List Revision → List Edge → Option Cause
@@ -89,13 +90,17 @@ bad_join h new (e ∷ f ∷ []) =
     option_map join_cause (join_fault new (is_above h e.parent) (is_above h f.parent) (edge_tree h new e) (edge_tree h new f))
 bad_join h new _ = None
 
--- a tree has 100,000 nodes at most
+-- a tree has MAX_NODES nodes at most
 abbrev pub too_many : Tree → Option Cause
-too_many t = if nat_lt 100000 (length t) then Some (TooManyNodes (length t)) else None
+too_many t = if nat_lt MAX_NODES (length t) then Some (TooManyNodes (length t)) else None
 
--- the least path of more than 4,096 bytes
+-- a path of more than MAX_PATH bytes
+abbrev pub is_long : List (List ℕ) → Bool
+is_long path = nat_lt MAX_PATH (length (path_text path))
+
+-- the least such path
 abbrev pub too_long : Tree → Option Cause
-too_long t = option_map PathTooLong (find (λ p. nat_lt 4096 (length (path_text p))) (map (path_of t) (by_path t)))
+too_long t = option_map PathTooLong (find is_long (map (path_of t) (by_path t)))
 
 -- the content that a change brings
 abbrev pub new_content : Change → Option Id

@@ -1,9 +1,7 @@
 -- A tree is the list of its entries. What a list does not say in one way only, it says by ascending names.
-use Rattle.std.specs.Prelude.{◌≡◌, ℕ, Bool, true, false, ◌&&◌, IsTrue, List, [], ◌∷◌, ◌++◌, find, map, reverse, codes, Option, Some, None, option_map, option_and_then}
+use Rattle.std.specs.Prelude.{◌≡◌, ℕ, Bool, true, false, ◌&&◌, IsTrue, List, [], ◌∷◌, ◌++◌, find, map, reverse, codes, Option, Some, option_map, option_and_then}
 use Rattle.std.specs.Option.{option_map_or}
 use Rattle.std.specs.List.{list_all}
-use Rattle.std.specs.declared.cmp.Ordering.{Ordering}
-use Rattle.std.specs.Ordering.{is_lt}
 use Rattle.mtn_base.specs.Lists.{placed, ordered, rises}
 use Rattle.mtn_base.specs.Names.{same_bytes, same_name, bytes_cmp, name_cmp}
 use Rattle.mtn_base.specs.declared.name.NodeName.{NodeName}

@@ -1,5 +1,5 @@
 //! Attributes of one node, by ascending keys as they stand in a tree.
-ghost use Rattle.std.specs.Prelude.{◌≡◌, ◌<◌, IsTrue, IfOk, IfSome, find, length, option_copied, option_and_then, slice_get};
+ghost use Rattle.std.specs.Prelude.{◌≡◌, ◌↔◌, ◌<◌, IsTrue, IfOk, IfSome, find, length, option_copied, option_and_then, slice_get};
 ghost use Rattle.mtn_base.specs.Names.{same_bytes};
 ghost use Rattle.mtn_roster.specs.Attrs.{are_keyed};
 ghost use Rattle.mtn_roster.specs.Tree.{live_of};
@@ -31,17 +31,26 @@ pub fn live_value<'a>(attrs: &'a [Attr], key: &[u8]) -> Option<&'a Bytes>
     }
 }
 
-/// An equal attribute.
-pub fn copy_attr(alloc: Global, attr: &Attr) -> Result<Attr, NoMemory>
-    ensures { IfOk result (λ a. a ≡ attr.now) }
+/// Whether two values are equal; `None`, cleared, is a value. It takes no memory.
+pub fn same_value(first: &Option<Bytes>, second: &Option<Bytes>) -> bool
+    ensures { IsTrue result ↔ (first.now ≡ second.now) }
 {
-    let key = attr.key.copy(alloc)?;
-    match &attr.value {
-        None => Ok(Attr { key, value: None }),
-        Some(value) => Ok(Attr {
-            key,
-            value: Some(value.copy(alloc)?),
-        }),
+    match first {
+        None => second.is_none(),
+        Some(value) => match second {
+            None => false,
+            Some(other) => value.as_slice() == other.as_slice(),
+        },
+    }
+}
+
+/// An equal value.
+pub fn copy_value(alloc: Global, value: &Option<Bytes>) -> Result<Option<Bytes>, NoMemory>
+    ensures { IfOk result (λ v. v ≡ value.now) }
+{
+    match value {
+        None => Ok(None),
+        Some(bytes) => Ok(Some(bytes.copy(alloc)?)),
     }
 }
 
@@ -51,7 +60,7 @@ pub fn copy_attrs(alloc: Global, attrs: &[Attr]) -> Result<Vec<Attr>, NoMemory>
 {
     let mut copies = Vec::with_capacity(alloc, attrs.len())?;
     for attr in attrs {
-        copies.push(copy_attr(alloc, attr)?)?;
+        copies.push(attr.copy(alloc)?)?;
     }
     Ok(copies)
 }

@@ -15,7 +15,7 @@ use mtn_base::{List, NoMemory};
 use std::alloc::{AllocError, AllocFailed, Global};
 
 /// Why entries make no roster.
-#[derive(Clone, Copy, PartialEq, Eq)]
+#[derive(Clone, Copy)]
 pub enum BuildError {
     /// A name or a key repeats, or the tree is not sane.
     Insane,

@@ -87,6 +87,3 @@ pub fn arrange(alloc: Global, entries: &mut [Entry])
     };
     bring(entries, &mut sources);
 }
-
-#[cfg(test)]
-mod tests;

@@ -123,14 +123,44 @@ impl Roster {
         self.entries.get(place)
     }
 
-    /// The path of a node, or None where there is no such node. It costs a look-up for each component.
+    /// The path of a node, or None where there is no such node. It costs a look-up.
     pub fn path_of(&self, alloc: Global, name: &NodeName) -> Result<Option<Path>, NoMemory>
         ensures { IfOk result (λ path. path ≡ option_map (path_of self.now) (entry_of self.now name.now)) }
     {
         match place_among(&self.entries, name) {
             None => Ok(None),
-            Some(place) => Ok(Some(path_from(alloc, &self.entries, place)?)),
+            Some(place) => Ok(Some(path_from(alloc, &self.entries, &self.ups, place)?)),
         }
+    }
+
+    /// The path of the entry at a place, or None where there is no such place. It goes up by the places of
+    /// parents and looks nothing up, so that it costs no more than to copy the path.
+    pub fn path_at(&self, alloc: Global, place: usize) -> Result<Option<Path>, NoMemory>
+        ensures { IfOk result (λ path. path ≡ option_map (path_of self.now) (slice_get self.now place)) }
+    {
+        match self.at_place(place) {
+            None => Ok(None),
+            Some(_) => Ok(Some(path_from(alloc, &self.entries, &self.ups, place)?)),
+        }
+    }
+
+    /// The entries by ascending name, out of the tree. It takes no memory.
+    pub fn into_entries(self) -> Vec<Entry>
+        ensures { result.items ≡ self }
+    {
+        self.entries
+    }
+
+    /// An equal tree.
+    pub fn copy(&self, alloc: Global) -> Result<Roster, NoMemory>
+        ensures { IfOk result (λ roster. roster ≡ self.now) }
+    {
+        let entries = copy_entries(alloc, &self.entries)?;
+        Ok(Roster {
+            entries,
+            ups: self.ups.clone()?,
+            by_slot: self.by_slot.clone()?,
+        })
     }
 
     /// The children of a node in byte order of their components; a file and a stranger have none.
@@ -188,16 +218,22 @@ fn node_among(entries: &[Entry], ups: &[usize], by_slot: &[usize], comps: &[Comp
 }
 
 /// The path of the entry at a place: its components are met from the last one up.
-fn path_from(alloc: Global, entries: &[Entry], place: usize) -> Result<Path, NoMemory>
+fn path_from(
+    alloc: Global,
+    entries: &[Entry],
+    ups: &[usize],
+    place: usize,
+) -> Result<Path, NoMemory>
     requires sane { IsSane entries.now }
+    requires ups { AreUps entries.now ups.now }
     requires within { place < length entries.now }
     ensures { IfOk result (λ path. path ≡ path_at entries.now place) }
 {
     let mut names: Vec<&Comp> = Vec::new(alloc);
     let mut at = place;
-    while let Slot::Below { parent, name } = &entries[at].slot {
+    while let Slot::Below { name, .. } = &entries[at].slot {
         names.push(name)?;
-        at = place_among(entries, parent).unwrap();
+        at = ups[at];
     }
     let mut path = Path::root(alloc);
     while let Some(name) = names.pop() {
@@ -230,5 +266,13 @@ fn names_along(alloc: Global, entries: &[Entry], stops: &[Stop]) -> Result<Vec<N
     Ok(names)
 }
 
-#[cfg(test)]
-mod tests;
+/// Equal entries.
+fn copy_entries(alloc: Global, entries: &[Entry]) -> Result<Vec<Entry>, NoMemory>
+    ensures { IfOk result (λ copies. copies.items ≡ entries.now) }
+{
+    let mut copies = Vec::with_capacity(alloc, entries.len())?;
+    for entry in entries {
+        copies.push(entry.copy(alloc)?)?;
+    }
+    Ok(copies)
+}

@@ -101,7 +101,7 @@ fn run_below<'a>(
 }
 
 /// A node on the walk: its place among the entries, and how many stops before its parent's.
-#[derive(Clone, Copy, PartialEq, Eq)]
+#[derive(Clone, Copy)]
 pub struct Stop {
     pub place: usize,
     pub above: usize,

@@ -21,6 +21,3 @@ mod walk;
 pub use positions::marked_positions;
 pub use table::{IdTable, Named};
 pub use walk::write;
-
-#[cfg(test)]
-mod tests;

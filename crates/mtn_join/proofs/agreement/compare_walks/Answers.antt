@@ -6,7 +6,8 @@ use Rattle.mtn_roster.specs.Tree.{path_of}
 use Rattle.mtn_roster.specs.Walk.{by_path}
 use Rattle.mtn_roster.proofs.Forest.{same_some}
 use Rattle.mtn_roster.proofs.Leading.{get_within}
-use Rattle.mtn_join.specs.Join.{is_outside, IsPairedAt, pair_why, why_of}
+use Rattle.mtn_join.specs.Join.{is_outside}
+use Rattle.mtn_join.specs.Pairing.{IsPairedAt, pair_why, why_of}
 use Rattle.mtn_roster.proofs.Along.{as_long, above_at, unwrapped, held, keyed}
 use Rattle.mtn_join.proofs.Alike.{alike, unlike, next_too}
 use Rattle.mtn_join.proofs.agreement.compare_walks.Goals as goal

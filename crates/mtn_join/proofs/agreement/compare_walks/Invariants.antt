@@ -1,5 +1,6 @@
 use Rattle.std.proofs.Common.{◌≡◌, ◌<◌, ℕ, None}
-use Rattle.mtn_join.specs.Join.{is_outside, IsPairedAt, pair_why}
+use Rattle.mtn_join.specs.Join.{is_outside}
+use Rattle.mtn_join.specs.Pairing.{IsPairedAt, pair_why}
 use Rattle.mtn_join.proofs.agreement.compare_walks.Given as goal
 
 abbrev pub invariant-loop-count : goal.invariant-loop-count

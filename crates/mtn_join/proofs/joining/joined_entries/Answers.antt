@@ -1,40 +1,22 @@
--- Entry by entry, each after its parent's.
-use Rattle.std.proofs.Common.{sym, ◌∙◌, ap, ◌<◌, subst}
+-- Entry by entry, each with its mate.
+use Rattle.std.proofs.Common.{◌≡◌, ◌+◌, ◌++◌, ◌∷◌, [], ℕ, List, length, length-append, vec_len, ◌∙◌, arith}
+use Rattle.std.specs.Vec.Iter.{into_iter_items}
 use Rattle.mtn_roster.specs.declared.entry.Entry.{Entry}
-use Rattle.mtn_join.specs.Join.{paired_entry}
-use Rattle.mtn_roster.proofs.Along.{as_long, above_at, unwrapped, held, keyed}
-use Rattle.mtn_join.proofs.Made.{made_before, made_of, more_made}
+use Rattle.mtn_join.proofs.Mates.{mate_there, one_joined, some_copied}
 use Rattle.mtn_join.proofs.joining.joined_entries.Goals as goal
 
-pub slot_of-requires : goal.slot_of-requires
-slot_of-requires c =
-    let l = c.args.left.now in
-    let i = c.loop-at.at in
-    let x : Entry = c.unwrap-x.result.now in
-    let xi = unwrapped c.entry_along.result c.unwrap-x.result _ c.unwrap-x.ensures c.entry_along.ensures in
-    made_before l c.args.right.now c.args.new c.len-nodes.ensures.sane c.len-others.ensures.sane c.deref.result.now i _ (c.deref.ensures.value ∙ c.loop-at.invariant) x.slot
-    (above_at l c.args.walk.now c.requires.walk i (record { place = 0; above = 0 }) x c.loop-at-test.true xi)
+pub unwrap-y-requires : goal.unwrap-y-requires
+unwrap-y-requires c =
+    let m = mate_there c.args.left.items c.args.right c.requires.sane c.len-others.ensures.sane c.args.mates.items c.requires.mates c.loop-x.yielded (into_iter_items c.next.new.self) (into_iter_items c.loop-x.x-iterator) c.in-Some.x
+    c.len-in-loop-x.result c.index.result.now c.at_place.result c.loop-x.invariant.0 c.in-Some.ensures.steps.0 (c.len-in-loop-x.ensures ∙ c.loop-x.invariant.2) c.index.ensures c.at_place.ensures in
+    some_copied c.at_place.result m.0 m.1
 
-pub entry_of_pair-requires : goal.entry_of_pair-requires
-entry_of_pair-requires c =
-    let l = c.args.left.now in
-    let x : Entry = c.unwrap-x.result.now in
-    let xi = unwrapped c.entry_along.result c.unwrap-x.result _ c.unwrap-x.ensures c.entry_along.ensures in
-    keyed l c.len-nodes.ensures.sane x (held l c.len-nodes.ensures.sane c.loop-at.at x xi)
+grown : (m n : ℕ) (ys : List Entry) (x : Entry) → m ≡ length ys → n ≡ m + 1 → n ≡ length (ys ++ x ∷ [])
+grown m n ys x h g = omega (arith, h, g, length-append ys (x ∷ []))
 
-pub loop-at-preserved : goal.loop-at-preserved
-loop-at-preserved c =
-    let l = c.args.left.now in
-    let r = c.args.right.now in
-    let i = c.loop-at.at in
-    let x : Entry = c.unwrap-x.result.now in
-    let y : Entry = c.unwrap-y.result.now in
-    let xi = unwrapped c.entry_along.result c.unwrap-x.result _ c.unwrap-x.ensures c.entry_along.ensures in
-    let yi = unwrapped c.entry_along-in-loop-at.result c.unwrap-y.result _ c.unwrap-y.ensures c.entry_along-in-loop-at.ensures in
-    let pair = c.requires.paired i (subst (λ n. i < n) (sym (as_long l c.args.walk.now c.requires.walk)) c.loop-at-test.true) in
-    let known = above_at l c.args.walk.now c.requires.walk i (record { place = 0; above = 0 }) x c.loop-at-test.true xi in
-    let sane = c.len-nodes.ensures.sane in
-    let other = c.len-others.ensures.sane in
-    more_made l r c.args.new sane other c.loop-at.entries.items i 0 c.loop-at.invariant c.push.new.self.items x c.in_ok-entry_of_pair.field-0 xi
-    (c.in_ok-entry_of_pair.ensures ∙ ap (paired_entry c.args.new x y) c.in_ok-slot.ensures ∙ made_of l r c.args.new sane other c.deref.result.now i _ (c.deref.ensures.value ∙ c.loop-at.invariant) x y xi yi pair known)
-    c.in_ok-push.ensures.items
+pub loop-x-preserved : goal.loop-x-preserved
+loop-x-preserved c =
+    let m = one_joined c.args.left.items c.args.right c.requires.sane c.len-others.ensures.sane c.args.new c.args.mates.items c.requires.mates c.loop-x.yielded (into_iter_items c.next.new.self) (into_iter_items c.loop-x.x-iterator) c.in-Some.x c.in_ok-entry_of_pair.field-0
+    c.len-in-loop-x.result c.index.result.now c.at_place.result c.unwrap-y.result c.loop-x.entries.items c.push.new.self.items c.loop-x.invariant.0 c.in-Some.ensures.steps.0 (c.len-in-loop-x.ensures ∙ c.loop-x.invariant.2) c.index.ensures c.at_place.ensures
+    c.unwrap-y.ensures c.in_ok-entry_of_pair.ensures c.loop-x.invariant.1 c.in_ok-push.ensures.items in
+    (m.0, m.1, grown (vec_len c.loop-x.entries) (vec_len c.push.new.self) c.loop-x.yielded c.in-Some.x c.loop-x.invariant.2 c.in_ok-push.ensures.len)

@@ -1,7 +1,8 @@
 use Rattle.std.proofs.Common.{◌≡◌, ◌<◌, ℕ, Some, true}
 use Rattle.std.specs.Prelude.{slice_get}
 use Rattle.mtn_roster.specs.declared.entry.Entry.{Entry}
-use Rattle.mtn_join.specs.Join.{is_outside, is_common_known}
+use Rattle.mtn_join.specs.Join.{is_outside}
+use Rattle.mtn_join.specs.Pairing.{is_common_known}
 use Rattle.mtn_join.proofs.known.common_are_known.Given as goal
 
 abbrev pub invariant-loop-at : goal.invariant-loop-at

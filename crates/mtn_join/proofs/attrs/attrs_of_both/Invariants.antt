@@ -1,7 +1,0 @@
-use Rattle.std.proofs.Common.{◌≡◌, ◌++◌, take}
-use Rattle.std.specs.List.{filter}
-use Rattle.mtn_join.proofs.Keyed.{lacked}
-use Rattle.mtn_join.proofs.attrs.attrs_of_both.Given as goal
-
-abbrev pub invariant-loop-attr : goal.invariant-loop-attr
-invariant-loop-attr l = l.attrs.items ≡ l.first ++ filter (lacked l.first) (take l.attr-index l.second)
