@@ -37,8 +37,8 @@ fn work_on<C: Commands, K: Keeper>(
     }
 }
 
-// Puts the records, all of them or none; where there are none the keeper is not called.
-fn put_all<K: Keeper>(keeper: &mut K, batch: &Batch) -> Result<(), KeepError>
+/// Puts the records, all of them or none; where there are none the keeper is not called.
+pub fn put_all<K: Keeper>(keeper: &mut K, batch: &Batch) -> Result<(), KeepError>
     ensures { Puts K.contents K.leaves K.faults K.reads keeper.old keeper.new batch.now result }
 {
     if batch.len() == 0 {
@@ -47,8 +47,8 @@ fn put_all<K: Keeper>(keeper: &mut K, batch: &Batch) -> Result<(), KeepError>
     keeper.apply(batch)
 }
 
-// Writes the text from its front.
-fn deliver<O: Sink>(sink: &mut O, status: Status, text: &[u8]) -> Status
+/// Writes the text from its front; the status is that, or SinkFault.
+pub fn deliver<O: Sink>(sink: &mut O, status: Status, text: &[u8]) -> Status
     ensures later { O.faults sink.old ≤ O.faults sink.new }
     ensures delivers { Delivers status text.now (O.written sink.old) (O.written sink.new) (O.faults sink.old) (O.faults sink.new) result }
 {

@@ -12,8 +12,8 @@ use mtn_model::Status;
 use mtn_ports::{Keeper, Sink};
 use std::alloc::Global;
 
-// Whether the session goes on behind such an answer.
-fn goes_on(status: Status) -> bool
+/// Whether a session goes on behind such an answer.
+pub fn goes_on(status: Status) -> bool
     ensures { result ≡ answers_on status }
 {
     match status {

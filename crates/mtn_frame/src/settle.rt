@@ -19,7 +19,7 @@ pub struct Settled {
     pub batch: Batch,
 }
 
-// The answer of a command, whatever it was.
+/// The answer of a command, whatever it was, in its form; want of memory where it cannot be framed.
 pub fn settle(alloc: Global, form: Form, worked: Result<Worked, WorkError>) -> Settled
     ensures { Settles form worked result }
 {

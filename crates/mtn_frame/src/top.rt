@@ -39,8 +39,8 @@ fn reads_source<C: Commands>(alloc: Global, commands: &C, words: &[Bytes]) -> Re
     Ok(spelled && commands.takes_payload(words))
 }
 
-// What is given of the source.
-fn feed<S: Source>(alloc: Global, reads: bool, source: &mut S) -> Result<Vec<u8>, ReadStop>
+/// What is given of the source: all of it, or nothing where it is not read.
+pub fn feed<S: Source>(alloc: Global, reads: bool, source: &mut S) -> Result<Vec<u8>, ReadStop>
     ensures all { IfOk result (λ payload. Feeds reads (S.left source.old) (S.left source.new) payload.items) }
     ensures limit { Stops reads (S.left source.old) (S.left source.new) result }
     ensures unread { Unread reads (S.left source.old) (S.left source.new) }
