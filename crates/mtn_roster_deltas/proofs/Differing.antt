@@ -96,9 +96,9 @@ rebuilt_rises (Whole all ∷ rs) es h =
     ] refl h
 
 -- one more record of a chain
-pub goes_on : (chain : List RosterRecord) (depth : ℕ) (es : Entries) (left rest : List RosterRecord) (r : RosterRecord) (fs : Entries) → GoesOn chain depth es left → left ≡ r ∷ rest →
-    after_record depth es r ≡ Some fs → GoesOn chain (depth + 1) fs rest
-goes_on chain depth es left rest r fs m is h = record {
+pub goes_on : (whole : Option Entries) (depth : ℕ) (es : Entries) (left rest : List RosterRecord) (r : RosterRecord) (fs : Entries) → GoesOn whole depth es left → left ≡ r ∷ rest →
+    after_record depth es r ≡ Some fs → GoesOn whole (depth + 1) fs rest
+goes_on whole depth es left rest r fs m is h = record {
   so_far = m.so_far ∙ ap (after_all depth es) is ∙ ap (option_and_then (λ gs. after_all (depth + 1) gs rest)) h;
   rising = record_rises depth es r fs m.rising h;
 }
@@ -116,6 +116,27 @@ after_snoc (q ∷ rs) depth es base r h =
     option_and_then (λ fs. after_all (depth + 1) fs (rs ++ r ∷ [])) o ≡ after_record (depth + suc (length rs)) base r) [
       | None ↦ λ g. absurd cc
       | Some fs ↦ λ g. after_snoc rs (depth + 1) fs base r g ∙ ap (λ k. after_record k base r) (let z : depth + 1 + length rs ≡ depth + suc (length rs) = omega arith in z)
+    ] h
+
+-- more records behind others
+after_more : (rs qs : List RosterRecord) (depth : ℕ) (es base : Entries) → after_all depth es rs ≡ Some base → after_all depth es (rs ++ qs) ≡ after_all (depth + length rs) base qs
+after_more [] qs depth es base h =
+    let e : es ≡ base = cc in
+    ap (λ l. after_all depth l qs) e ∙ ap (λ k. after_all k base qs) (let z : depth ≡ depth + 0 = omega arith in z)
+after_more (q ∷ rs) qs depth es base h =
+    elim (after_record depth es q) as (λ o. option_and_then (λ fs. after_all (depth + 1) fs rs) o ≡ Some base →
+    option_and_then (λ fs. after_all (depth + 1) fs (rs ++ qs)) o ≡ after_all (depth + suc (length rs)) base qs) [
+      | None ↦ λ g. absurd cc
+      | Some fs ↦ λ g. after_more rs qs (depth + 1) fs base g ∙ ap (λ k. after_all k base qs) (let z : depth + 1 + length rs ≡ depth + suc (length rs) = omega arith in z)
+    ] h
+
+pub rebuilt_on : (chain deltas : List RosterRecord) (base : Entries) → rebuilt chain ≡ Some base → rebuilt (chain ++ deltas) ≡ after_all (length chain) base deltas
+rebuilt_on [] deltas base h = absurd cc
+rebuilt_on (Delta at depth gone changed ∷ rs) deltas base h = absurd cc
+rebuilt_on (Whole all ∷ rs) deltas base h =
+    elim (ascend all) as (λ b. cond b (after_all 1 all rs) None ≡ Some base → cond b (after_all 1 all (rs ++ deltas)) None ≡ after_all (suc (length rs)) base deltas) [
+      | true ↦ λ g. after_more rs deltas 1 all base g ∙ ap (λ k. after_all k base deltas) (let z : 1 + length rs ≡ suc (length rs) = omega arith in z)
+      | false ↦ λ g. absurd cc
     ] h
 
 -- one more record

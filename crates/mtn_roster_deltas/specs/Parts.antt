@@ -8,7 +8,7 @@ use Rattle.mtn_records.specs.declared.record.RosterRecord.{RosterRecord}
 use Rattle.mtn_roster.specs.declared.entry.Entry.{Entry}
 use Rattle.mtn_base.specs.Lists.{rises}
 use Rattle.mtn_roster_deltas.specs.Spelled.{IsEntryOf}
-use Rattle.mtn_roster_deltas.specs.Chain.{Entries, ascend, with_all, after_all, rebuilt}
+use Rattle.mtn_roster_deltas.specs.Chain.{Entries, ascend, with_all, after_all}
 
 -- The first of two lists put together, if any, and what is left of both
 pub record GivesNext (es cs : Entries) (next : Option NumberedEntry) (es_left cs_left : Entries) : Type 0 where
@@ -22,9 +22,9 @@ pub record MergesTo (whole done es cs : Entries) : Type 0 where
   pub entries : IsTrue (ascend es)
   pub changed : IsTrue (ascend cs)
 
--- a chain gives what the records that are left make of the entries at hand, of which the numbers ascend
-pub record GoesOn (chain : List RosterRecord) (depth : ℕ) (es : Entries) (left : List RosterRecord) : Type 0 where
-  pub so_far : rebuilt chain ≡ after_all depth es left
+-- records give what those that are left make of the entries at hand, of which the numbers ascend
+pub record GoesOn (whole : Option Entries) (depth : ℕ) (es : Entries) (left : List RosterRecord) : Type 0 where
+  pub so_far : whole ≡ after_all depth es left
   pub rising : IsTrue (ascend es)
 
 abbrev pub numbered_key : NumberedAttr → List ℕ

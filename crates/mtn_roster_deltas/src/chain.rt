@@ -1,6 +1,6 @@
 // The entries at the end of a chain.
-ghost use Rattle.std.specs.Prelude.{◌≡◌, ◌≤◌, Some, None, IfOk, IsErrOf, IsTrue};
-ghost use Rattle.mtn_roster_deltas.specs.Chain.{ascend, applied, after_record, rebuilt};
+ghost use Rattle.std.specs.Prelude.{◌≡◌, Some, None, IfOk, IsErrOf, IsTrue};
+ghost use Rattle.mtn_roster_deltas.specs.Chain.{ascend, applied, after_record, after_all, rebuilt};
 
 use crate::merge::{drop_gone, merged};
 use crate::order::{are_there, entries_ascend, numbers_ascend};
@@ -56,6 +56,25 @@ fn follow(
     }
 }
 
+/// The entries after deltas, of which the first is to stand `depth` records above a whole one.
+pub fn follow_all(
+    alloc: Global,
+    mut entries: Vec<NumberedEntry>,
+    mut depth: u8,
+    mut records: VecDeque<RosterRecord>,
+) -> Result<Vec<NumberedEntry>, RecordError>
+    requires ascending { IsTrue (ascend entries.items) }
+    ensures ok { IfOk result (λ v. after_all depth entries.items records.items ≡ Some v.items) }
+    ensures ascending { IfOk result (λ v. IsTrue (ascend v.items)) }
+    ensures bad { IsErrOf result RecordError.Bad → after_all depth entries.items records.items ≡ None }
+{
+    while let Some(next) = records.pop_front() {
+        entries = follow(alloc, entries, depth, next)?;
+        depth += 1;
+    }
+    Ok(entries)
+}
+
 /// The entries at the end of a chain.
 pub fn entries_at_end(
     alloc: Global,
@@ -69,14 +88,9 @@ pub fn entries_at_end(
     let Some(RosterRecord::Whole(whole)) = records.pop_front() else {
         return Err(RecordError::Bad);
     };
-    let mut entries = whole.entries.into_vec();
+    let entries = whole.entries.into_vec();
     if !entries_ascend(&entries) {
         return Err(RecordError::Bad);
     }
-    let mut depth = 1;
-    while let Some(next) = records.pop_front() {
-        entries = follow(alloc, entries, depth, next)?;
-        depth += 1;
-    }
-    Ok(entries)
+    follow_all(alloc, entries, 1, records)
 }

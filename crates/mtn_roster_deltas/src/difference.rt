@@ -5,7 +5,6 @@ ghost use Rattle.mtn_roster_deltas.specs.Chain.{ascend, deepest, number_of, rebu
 ghost use Rattle.mtn_roster_deltas.specs.Difference.{IsDeltaTo, IsDifference};
 ghost use Rattle.mtn_roster_deltas.specs.Parts.{Continues};
 
-use crate::copies::copy_entry;
 use crate::same::are_same;
 use mtn_ancestry::Pos;
 use mtn_base::{List, NoMemory};
@@ -37,14 +36,14 @@ fn step(
             Ok((1, 0))
         }
         Ordering::Greater => {
-            found.changed.push(copy_entry(alloc, new)?)?;
+            found.changed.push(new.copy(alloc)?)?;
             Ok((0, 1))
         }
         Ordering::Equal => {
             if are_same(old, new) {
                 return Ok((1, 1));
             }
-            found.changed.push(copy_entry(alloc, new)?)?;
+            found.changed.push(new.copy(alloc)?)?;
             Ok((1, 1))
         }
     }
@@ -81,7 +80,7 @@ fn note_changed(
     ensures { OnOk result (changed.new.items ≡ changed.old.items ++ new.now) }
 {
     for entry in new {
-        changed.push(copy_entry(alloc, entry)?)?;
+        changed.push(entry.copy(alloc)?)?;
     }
     Ok(())
 }

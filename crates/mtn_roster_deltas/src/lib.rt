@@ -16,7 +16,6 @@
 #![tactic(auto)]
 
 mod chain;
-mod copies;
 mod difference;
 mod error;
 pub mod laws;
@@ -34,7 +33,4 @@ pub use chain::DEEPEST;
 pub use difference::delta;
 pub use error::NumberError;
 pub use numbering::number;
-pub use rebuilding::rebuild;
-
-#[cfg(test)]
-mod tests;
+pub use rebuilding::{entries_of, rebuild, rebuild_on};

@@ -9,14 +9,13 @@ ghost use Rattle.mtn_roster_deltas.specs.Numbering.{fresh, shown, AreKnown, IsNu
 ghost use Rattle.mtn_roster_deltas.specs.Noting.{AreNumbered, IsNumberedOf, IsNumberedSlot};
 ghost use Rattle.mtn_roster_deltas.specs.Spelled.{attr_of, attr_marks_of, body_of, content_marks_of, Spells};
 
-use crate::copies::copy_value;
 use crate::error::NumberError;
 use crate::noting::numbers_of;
 use crate::order::are_in_order;
 use mtn_ancestry::PosSet;
 use mtn_base::{Bytes, List, NoMemory, NodeName};
 use mtn_marking::{AttrMarks, MarkedRoster, NodeMarks};
-use mtn_records::{Numbered, NumberedAttr, NumberedBody, NumberedEntry};
+use mtn_records::{Numbered, NumberedAttr, NumberedBody, NumberedEntry, copy_value};
 use mtn_roster::{Attr, Body, Entry, Slot};
 use std::alloc::Global;
 

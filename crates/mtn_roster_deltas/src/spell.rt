@@ -9,12 +9,11 @@ ghost use Rattle.mtn_roster_deltas.specs.Chain.{ascend};
 ghost use Rattle.mtn_roster_deltas.specs.Parts.{numbered_key, IsKeyedEntryOf};
 ghost use Rattle.mtn_roster_deltas.specs.Spelled.{attr_of, attr_marks_of, body_of, content_marks_of, marks_of, IsSlotOf};
 
-use crate::copies::copy_value;
 use crate::order::entry_of;
 use mtn_ancestry::PosSet;
 use mtn_base::{Comp, List, NoMemory, PathError};
 use mtn_marking::{AttrMarks, Marking, NodeMarks};
-use mtn_records::{NumberedAttr, NumberedBody, NumberedEntry, RecordError};
+use mtn_records::{NumberedAttr, NumberedBody, NumberedEntry, RecordError, copy_value};
 use mtn_roster::{Attr, Body, Entry, Slot};
 use std::alloc::Global;
 
