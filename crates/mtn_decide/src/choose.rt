@@ -1,5 +1,5 @@
 // What is decided of one scalar.
-ghost use Rattle.std.specs.Prelude.{◌≡◌, ◌↔◌, IfOk, Some, option_map};
+ghost use Rattle.std.specs.Prelude.{◌≡◌, ◌↔◌, IsTrue, IfOk, Some, option_map};
 ghost use Rattle.mtn_base.specs.declared.name.NodeName.{NodeName};
 ghost use Rattle.mtn_history_laws.specs.Scalars.Scalar.{SlotOf, ContentOf};
 ghost use Rattle.mtn_marking.specs.Marking.{side_of};
@@ -9,10 +9,10 @@ ghost use Rattle.mtn_decide.specs.Parts.{left_of, right_of, attr_left, attr_righ
 
 use crate::decision::{AttrChoice, ContentChoice, SlotChoice};
 use crate::known::{AttrTurn, Content, Known, KnownAttr, Turn};
-use crate::same::{are_same_ids, are_same_slots, are_same_values, copy_slot, copy_value};
 use crate::scalar::{Choice, merge_scalar};
 use mtn_ancestry::PosSet;
-use mtn_base::NoMemory;
+use mtn_base::{Id, NoMemory};
+use mtn_roster::attrs::{copy_value, same_value};
 use std::alloc::Global;
 
 /// What is decided of a slot that both sides have.
@@ -26,7 +26,7 @@ fn choose_slot_of_both(
     ensures { IfOk result (λ c. (n : NodeName) →
         IsVerdict only_left.now only_right.now (side_of (SlotOf n) (left_of (Turn.Both left.entry right.entry))) (side_of (SlotOf n) (right_of (Turn.Both left.entry right.entry))) (slot_verdict c)) }
 {
-    let equal = are_same_slots(&left.node.slot, &right.node.slot);
+    let equal = left.node.slot.same(&right.node.slot);
     match merge_scalar(
         equal,
         &left.marking.slot,
@@ -34,12 +34,12 @@ fn choose_slot_of_both(
         only_left,
         only_right,
     ) {
-        Choice::Both => Ok(SlotChoice::Fixed(copy_slot(alloc, &left.node.slot)?)),
-        Choice::Left => Ok(SlotChoice::Fixed(copy_slot(alloc, &left.node.slot)?)),
-        Choice::Right => Ok(SlotChoice::Fixed(copy_slot(alloc, &right.node.slot)?)),
+        Choice::Both => Ok(SlotChoice::Fixed(left.node.slot.copy(alloc)?)),
+        Choice::Left => Ok(SlotChoice::Fixed(left.node.slot.copy(alloc)?)),
+        Choice::Right => Ok(SlotChoice::Fixed(right.node.slot.copy(alloc)?)),
         Choice::Clash => Ok(SlotChoice::Clash {
-            left: copy_slot(alloc, &left.node.slot)?,
-            right: copy_slot(alloc, &right.node.slot)?,
+            left: left.node.slot.copy(alloc)?,
+            right: right.node.slot.copy(alloc)?,
         }),
     }
 }
@@ -55,10 +55,17 @@ pub fn choose_slot(
         IsVerdict only_left.now only_right.now (side_of (SlotOf n) (left_of turn.entry)) (side_of (SlotOf n) (right_of turn.entry)) (slot_verdict c)) }
 {
     match turn {
-        Turn::Left(left) => Ok(SlotChoice::Fixed(copy_slot(alloc, &left.node.slot)?)),
-        Turn::Right(right) => Ok(SlotChoice::Fixed(copy_slot(alloc, &right.node.slot)?)),
+        Turn::Left(left) => Ok(SlotChoice::Fixed(left.node.slot.copy(alloc)?)),
+        Turn::Right(right) => Ok(SlotChoice::Fixed(right.node.slot.copy(alloc)?)),
         Turn::Both(left, right) => choose_slot_of_both(alloc, left, right, only_left, only_right),
     }
+}
+
+/// Whether two contents are equal.
+fn are_same_ids(first: Id, second: Id) -> bool
+    ensures { IsTrue result ↔ (first ≡ second) }
+{
+    first == second
 }
 
 /// What is decided of a content that both sides have. It takes no memory.
@@ -116,7 +123,7 @@ fn choose_attr_of_both(
     ensures { IfOk result (λ c.
         IsVerdict only_left.now only_right.now (attr_left (AttrTurn.Both left.entry right.entry)) (attr_right (AttrTurn.Both left.entry right.entry)) (attr_verdict c)) }
 {
-    let equal = are_same_values(&left.attr.value, &right.attr.value);
+    let equal = same_value(&left.attr.value, &right.attr.value);
     match merge_scalar(equal, left.marks, right.marks, only_left, only_right) {
         Choice::Both => Ok(AttrChoice::Fixed(copy_value(alloc, &left.attr.value)?)),
         Choice::Left => Ok(AttrChoice::Fixed(copy_value(alloc, &left.attr.value)?)),

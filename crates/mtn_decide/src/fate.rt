@@ -11,12 +11,9 @@ use crate::decision::{ContentChoice, Decision, Pending};
 use crate::known::{
     Content, Known, Turn, attr_marks_in, attrs_in, content_in, left_known, right_known,
 };
-use crate::same::copy_slot;
 use crate::scalar::{all_known, lives};
 use mtn_ancestry::PosSet;
 use mtn_base::{List, NoMemory, NodeName};
-use mtn_roster::Entry;
-use mtn_roster::attrs::copy_attrs;
 use std::alloc::Global;
 
 /// What a merge makes of a node of a side: it lives, it is pending, or it is gone.
@@ -95,18 +92,6 @@ fn decide_node(
     })
 }
 
-/// An equal entry.
-fn copy_entry(alloc: Global, entry: &Entry) -> Result<Entry, NoMemory>
-    ensures { IfOk result (λ e. e ≡ entry.now) }
-{
-    Ok(Entry {
-        name: entry.name.copy(alloc)?,
-        slot: copy_slot(alloc, &entry.slot)?,
-        body: entry.body,
-        attrs: List::from_vec(copy_attrs(alloc, entry.attrs.as_slice())?),
-    })
-}
-
 /// Whether a node that one side has, and that does not live, has a content that the other does not win.
 fn is_changed(content: Option<Content>, only: &PosSet) -> bool
     ensures yes { IsTrue result → IsChanged (option_map content_side content.entry) only.now }
@@ -132,7 +117,7 @@ fn fate_of_dead(
         Turn::Left(left) => {
             if is_changed(content_in(Some(left)), only_left) {
                 Ok(Fate::Held(Pending {
-                    entry: copy_entry(alloc, left.node)?,
+                    entry: left.node.copy(alloc)?,
                     from_left: true,
                 }))
             } else {
@@ -142,7 +127,7 @@ fn fate_of_dead(
         Turn::Right(right) => {
             if is_changed(content_in(Some(right)), only_right) {
                 Ok(Fate::Held(Pending {
-                    entry: copy_entry(alloc, right.node)?,
+                    entry: right.node.copy(alloc)?,
                     from_left: false,
                 }))
             } else {
