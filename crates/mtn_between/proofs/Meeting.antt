@@ -1,6 +1,6 @@
 -- The nodes along a walk, and their mates.
-use Rattle.std.specs.Prelude.{option_and_then, option_copied, slice_get}
-use Rattle.std.proofs.Common.{◌≡◌, ℕ, zero, suc, ◌+◌, ◌<◌, true, List, [], ◌∷◌, ◌++◌, length, get_or, Option, Some, None, Bor, refl, sym, ◌∙◌, ap, subst, arith, inl, inr}
+use Rattle.std.specs.Prelude.{IfSome, option_map, option_and_then, slice_get}
+use Rattle.std.proofs.Common.{◌≡◌, ℕ, zero, suc, ◌+◌, ◌<◌, true, List, [], ◌∷◌, ◌++◌, length, get_or, Option, Some, None, refl, sym, ◌∙◌, ap, subst, arith, inl, inr}
 use Rattle.std.proofs.lemmas.Bool.{cases_lt}
 use Rattle.std.proofs.lemmas.Option.{slice_get-get_or}
 use Rattle.mtn_base.specs.Names.{same_name}
@@ -21,7 +21,7 @@ use Rattle.mtn_roster.proofs.Leading.{get_within}
 use Rattle.mtn_roster.proofs.Along.{as_long, at_stop, held, keyed}
 use Rattle.mtn_between.specs.declared.side.Side.{Side}
 use Rattle.mtn_between.specs.declared.side.Met.{Met}
-use Rattle.mtn_between.specs.Walking.{AreMates, IsWalked, IsMet, tree_of, other_of, mate_at, entry_in}
+use Rattle.mtn_between.specs.Walking.{AreMates, IsWalked, IsStanding, IsMet, tree_of, other_of, mate_at, entry_of_node, entry_in}
 
 -- the entry at a place is that of its name
 pub at_place_is : (t : Tree) → IsSane t → (k : ℕ) (e : Entry) → slice_get t k ≡ Some e → entry_of t e.name ≡ Some e
@@ -74,15 +74,14 @@ module _ (t other : Tree) where
       ∙ mated.each s.place e (at_stop t walk are at s here ∙ h)
 
 pub met_is : (side : Side) → IsWalked side → IsSane (tree_of side) → (at : ℕ) (met : Met) (place : Option ℕ) → slice_get (by_path (tree_of side)) at ≡ Some (entry_in met) →
-    place ≡ mate_at side.walk.now side.mates.now at → option_copied met.mate ≡ option_and_then (slice_get (other_of side)) place → IsMet (tree_of side) (other_of side) met
-met_is side walked sane at met place h is mate = record {
+    IsStanding (tree_of side) met.node → place ≡ mate_at side.walk.now side.mates.now at →
+    option_map entry_of_node met.mate ≡ option_and_then (slice_get (other_of side)) place → IfSome met.mate (IsStanding (other_of side)) → IsMet (tree_of side) (other_of side) met
+met_is side walked sane at met place h stands is mate mate_stands = record {
   here = held (tree_of side) sane at (entry_in met) h;
+  place = stands;
   mate = mate ∙ ap (option_and_then (slice_get (other_of side))) is ∙ mate_of (tree_of side) (other_of side) side.walk.now side.mates.now walked.stops walked.mates at (entry_in met) h;
+  mate_place = mate_stands;
 }
-
--- the mate is the node of its name
-pub mate_here : (t other : Tree) (met : Met) (b : Bor Entry) → IsMet t other met → met.mate ≡ Some b → entry_of other b.now.name ≡ Some b.now
-mate_here t other met b is h = own other (entry_in met).name b.now (sym is.mate ∙ ap option_copied h)
 
 -- the keys of what a node had ascend
 pub keys_had : (old : Tree) → IsSane old → (f : Entry) → are_keyed (attrs_before old f) ≡ true

@@ -1,10 +1,11 @@
 -- Private, for the proof of `between`: a tree that is walked along beside another, and what of both a change needs.
-use Rattle.std.specs.Prelude.{◌≡◌, ℕ, List, length, Option, Some, option_and_then, option_copied, slice_get}
+use Rattle.std.specs.Prelude.{◌≡◌, ℕ, List, length, Option, Some, IfSome, option_map, option_and_then, slice_get}
 use Rattle.mtn_roster.specs.declared.entry.Entry.{Entry}
 use Rattle.mtn_roster.specs.declared.walk.Stop.{Stop}
 use Rattle.mtn_roster.specs.Tree.{Tree, entry_of}
 use Rattle.mtn_roster.specs.Walk.{AreStops}
 use Rattle.mtn_between.specs.declared.side.Met.{Met}
+use Rattle.mtn_between.specs.declared.side.Node.{Node}
 use Rattle.mtn_between.specs.declared.side.Side.{Side}
 
 -- for each place of a tree that of the node of its name in the other, if it stands there
@@ -28,10 +29,19 @@ pub record IsWalked (side : Side) : Type 0 where
 abbrev pub mate_at : List Stop → List (Option ℕ) → ℕ → Option ℕ
 mate_at walk mates at = option_and_then (λ (s : Stop). option_and_then (λ (m : Option ℕ). m) (slice_get mates s.place)) (slice_get walk at)
 
+abbrev pub entry_of_node : Node → Entry
+entry_of_node node = node.entry.now
+
+-- the entry stands at the place
+abbrev pub IsStanding : Tree → Node → Type 0
+IsStanding t node = slice_get t node.place ≡ Some (entry_of_node node)
+
 abbrev pub entry_in : Met → Entry
-entry_in met = met.entry.now
+entry_in met = entry_of_node met.node
 
 -- a node of a tree, and that of its name in the other
 pub record IsMet (t other : Tree) (met : Met) : Type 0 where
   pub here : entry_of t (entry_in met).name ≡ Some (entry_in met)
-  pub mate : option_copied met.mate ≡ entry_of other (entry_in met).name
+  pub place : IsStanding t met.node
+  pub mate : option_map entry_of_node met.mate ≡ entry_of other (entry_in met).name
+  pub mate_place : IfSome met.mate (IsStanding other)

@@ -1,18 +1,18 @@
 // The canonical changeset, part by part.
-ghost use Rattle.std.specs.Prelude.{◌≡◌, ◌++◌, [], filter_map, option_copied, IfOk, OnOk};
+ghost use Rattle.std.specs.Prelude.{◌≡◌, ◌++◌, [], filter_map, option_map, IfOk, OnOk};
 ghost use Rattle.std.specs.List.{cons_option, flat_map};
 ghost use Rattle.std.specs.Option.{option_map_or};
 ghost use Rattle.mtn_roster.specs.declared.entry.Entry.{Entry};
 ghost use Rattle.mtn_roster.specs.Walk.{by_path};
 ghost use Rattle.mtn_between.specs.Between.{deleting, renaming, adding_dir, adding_file, patching, clearing, setting, between as between_trees};
-ghost use Rattle.mtn_between.specs.Walking.{IsWalked, IsMet, tree_of, other_of, entry_in};
+ghost use Rattle.mtn_between.specs.Walking.{IsWalked, IsMet, tree_of, other_of, entry_of_node, entry_in};
 
 use crate::differing::{added_dir, added_file, cleared, deleted, patched, renamed, set};
 use crate::mates::mates_of;
-use crate::side::{Met, Side, met_along};
+use crate::side::{Met, Node, Side, met_along};
 use mtn_base::{List, NoMemory};
 use mtn_changes::{Change, Changeset};
-use mtn_roster::{Attr, Entry, Roster};
+use mtn_roster::{Attr, Roster};
 use std::alloc::Global;
 
 /// Appends a change, if there is one.
@@ -96,12 +96,12 @@ fn push_patches(alloc: Global, side: &Side, changes: &mut List<Change>) -> Resul
 }
 
 /// The attributes that a node had; one that is added had none.
-fn attrs_before<'a>(mate: Option<&'a Entry>) -> &'a [Attr]
-    ensures { result.now ≡ option_map_or (λ (e : Entry). e.attrs) (option_copied mate.entry) [] }
+fn attrs_before<'a>(mate: Option<Node<'a>>) -> &'a [Attr]
+    ensures { result.now ≡ option_map_or (λ (e : Entry). e.attrs) (option_map entry_of_node mate.entry) [] }
 {
     match mate {
         None => &[],
-        Some(mate) => mate.attrs.as_slice(),
+        Some(mate) => mate.entry.attrs.as_slice(),
     }
 }
 
@@ -118,7 +118,7 @@ fn push_clears_of(
 {
     let _nodes = new.len();
     for attr in attrs_before(met.mate) {
-        let change = cleared(alloc, new, met.entry, attr)?;
+        let change = cleared(alloc, new, &met.node, attr)?;
         push_some(changes, change)?;
     }
     Ok(())
@@ -150,8 +150,8 @@ fn push_sets_of(
 {
     let _nodes = old.len();
     let before = attrs_before(met.mate);
-    for attr in met.entry.attrs.as_slice() {
-        let change = set(alloc, new, met.entry, before, attr)?;
+    for attr in met.node.entry.attrs.as_slice() {
+        let change = set(alloc, new, &met.node, before, attr)?;
         push_some(changes, change)?;
     }
     Ok(())
@@ -171,7 +171,7 @@ fn push_sets(alloc: Global, side: &Side, changes: &mut List<Change>) -> Result<(
 }
 
 /// The canonical changeset from one tree to another, in the order in which it is written. It costs a walk over each tree,
-/// one pass over both by name, and a look-up for each component of a path that it spells.
+/// one pass over both by name, and the paths that it spells.
 pub fn between(alloc: Global, old: &Roster, new: &Roster) -> Result<Changeset, NoMemory>
     ensures { IfOk result (λ changes. changes ≡ between_trees old.now new.now) }
 {

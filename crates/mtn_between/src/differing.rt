@@ -1,37 +1,18 @@
 // What changes of one node.
-ghost use Rattle.std.specs.Prelude.{◌≡◌, IfOk, IsTrue, Some};
+ghost use Rattle.std.specs.Prelude.{◌≡◌, IfOk, IsTrue};
 ghost use Rattle.mtn_roster.specs.Attrs.{are_keyed};
 ghost use Rattle.mtn_base.specs.Names.{same_bytes};
 ghost use Rattle.mtn_base.specs.Lists.{is_some_with};
-ghost use Rattle.mtn_roster.specs.Tree.{entry_of, live_of, path_of as path_in, same_slot as have_same_slot};
-ghost use Rattle.mtn_between.specs.Walking.{IsMet, entry_in};
+ghost use Rattle.mtn_roster.specs.Tree.{live_of, path_of as path_in};
+ghost use Rattle.mtn_between.specs.Walking.{IsMet, IsStanding, entry_in, entry_of_node};
 ghost use Rattle.mtn_between.specs.Between.{deleting, renaming, adding_dir, adding_file, patching, clearing_key, setting_key};
 
-use crate::side::{Met, path_of};
+use crate::side::{Met, Node, path_of};
 use mtn_base::NoMemory;
 use mtn_changes::Change;
 use mtn_roster::attrs::live_value;
-use mtn_roster::{Attr, Body, Entry, Roster, Slot};
+use mtn_roster::{Attr, Body, Roster};
 use std::alloc::Global;
-
-/// Whether two nodes hang in one slot.
-fn same_slot(first: &Slot, second: &Slot) -> bool
-    ensures { result ≡ have_same_slot first.now second.now }
-{
-    match first {
-        Slot::Root => match second {
-            Slot::Root => true,
-            Slot::Below { .. } => false,
-        },
-        Slot::Below { parent, name } => match second {
-            Slot::Root => false,
-            Slot::Below {
-                parent: other,
-                name: comp,
-            } => parent.same(other) && name == comp,
-        },
-    }
-}
 
 /// The delete of a node of the old tree, if the new one lacks it.
 pub fn deleted(
@@ -46,7 +27,7 @@ pub fn deleted(
     match met.mate {
         Some(_) => Ok(None),
         None => Ok(Some(Change::Delete {
-            path: path_of(alloc, old, met.entry)?,
+            path: path_of(alloc, old, &met.node)?,
         })),
     }
 }
@@ -64,12 +45,12 @@ pub fn renamed(
     match met.mate {
         None => Ok(None),
         Some(mate) => {
-            if same_slot(&met.entry.slot, &mate.slot) {
+            if met.node.entry.slot.same(&mate.entry.slot) {
                 return Ok(None);
             }
             Ok(Some(Change::Rename {
-                path: path_of(alloc, old, met.entry)?,
-                to: path_of(alloc, new, mate)?,
+                path: path_of(alloc, old, &met.node)?,
+                to: path_of(alloc, new, &mate)?,
             }))
         }
     }
@@ -88,11 +69,11 @@ pub fn added_dir(
     match met.mate {
         Some(_) => Ok(None),
         None => {
-            if !met.entry.body.is_dir() {
+            if !met.node.entry.body.is_dir() {
                 return Ok(None);
             }
             Ok(Some(Change::AddDir {
-                path: path_of(alloc, new, met.entry)?,
+                path: path_of(alloc, new, &met.node)?,
             }))
         }
     }
@@ -110,10 +91,10 @@ pub fn added_file(
 {
     match met.mate {
         Some(_) => Ok(None),
-        None => match met.entry.body {
+        None => match met.node.entry.body {
             Body::Dir => Ok(None),
             Body::File { content } => Ok(Some(Change::AddFile {
-                path: path_of(alloc, new, met.entry)?,
+                path: path_of(alloc, new, &met.node)?,
                 content,
             })),
         },
@@ -133,16 +114,16 @@ pub fn patched(
     let Some(mate) = met.mate else {
         return Ok(None);
     };
-    match mate.body {
+    match mate.entry.body {
         Body::Dir => Ok(None),
-        Body::File { content: from } => match met.entry.body {
+        Body::File { content: from } => match met.node.entry.body {
             Body::Dir => Ok(None),
             Body::File { content: to } => {
                 if from == to {
                     return Ok(None);
                 }
                 Ok(Some(Change::Patch {
-                    path: path_of(alloc, new, met.entry)?,
+                    path: path_of(alloc, new, &met.node)?,
                     from,
                     to,
                 }))
@@ -155,19 +136,19 @@ pub fn patched(
 pub fn cleared(
     alloc: Global,
     new: &Roster,
-    entry: &Entry,
+    node: &Node,
     attr: &Attr,
 ) -> Result<Option<Change>, NoMemory>
-    requires here { entry_of new.now entry.now.name ≡ Some entry.now }
-    requires keyed { IsTrue (are_keyed entry.now.attrs) }
-    ensures { IfOk result (λ c. c ≡ clearing_key (path_in new.now entry.now) entry.now.attrs attr.now) }
+    requires here { IsStanding new.now node.now }
+    requires keyed { IsTrue (are_keyed (entry_of_node node.now).attrs) }
+    ensures { IfOk result (λ c. c ≡ clearing_key (path_in new.now (entry_of_node node.now)) (entry_of_node node.now).attrs attr.now) }
 {
     match &attr.value {
         None => Ok(None),
-        Some(_) => match live_value(entry.attrs.as_slice(), attr.key.as_slice()) {
+        Some(_) => match live_value(node.entry.attrs.as_slice(), attr.key.as_slice()) {
             Some(_) => Ok(None),
             None => Ok(Some(Change::Clear {
-                path: path_of(alloc, new, entry)?,
+                path: path_of(alloc, new, node)?,
                 key: attr.key.copy(alloc)?,
             })),
         },
@@ -189,13 +170,13 @@ fn is_live(attrs: &[Attr], key: &[u8], value: &[u8]) -> bool
 pub fn set(
     alloc: Global,
     new: &Roster,
-    entry: &Entry,
+    node: &Node,
     before: &[Attr],
     attr: &Attr,
 ) -> Result<Option<Change>, NoMemory>
-    requires here { entry_of new.now entry.now.name ≡ Some entry.now }
+    requires here { IsStanding new.now node.now }
     requires keyed { IsTrue (are_keyed before.now) }
-    ensures { IfOk result (λ c. c ≡ setting_key (path_in new.now entry.now) before.now attr.now) }
+    ensures { IfOk result (λ c. c ≡ setting_key (path_in new.now (entry_of_node node.now)) before.now attr.now) }
 {
     match &attr.value {
         None => Ok(None),
@@ -204,7 +185,7 @@ pub fn set(
                 return Ok(None);
             }
             Ok(Some(Change::Set {
-                path: path_of(alloc, new, entry)?,
+                path: path_of(alloc, new, node)?,
                 key: attr.key.copy(alloc)?,
                 value: value.copy(alloc)?,
             }))
