@@ -1,0 +1,14 @@
+pub mod Nodes
+pub mod Clear
+pub mod Ending
+pub mod Before
+pub mod Renamed
+pub mod Buildable
+pub mod Making
+pub mod Listing
+pub mod Directories
+pub mod Flagging
+pub mod Looping
+pub mod Chains
+pub mod Twinning
+pub mod Written
