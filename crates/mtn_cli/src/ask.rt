@@ -6,11 +6,11 @@ ghost use Rattle.mtn_cli.specs.Performs.{Drafts, query_refusal as refusal};
 ghost use Rattle.mtn_step.specs.Step.{Steps, id_lines as lines_of, line_text};
 
 use crate::answer::Reply;
-use mtn_step::Call;
 use mtn_base::{Bytes, Cause, Id, List, NoMemory};
 use mtn_graph_queries::{Line, Query, QueryError, answer, lines};
 use mtn_history::{Draft, HistoryError, StoreError};
 use mtn_ports::{Ident, Keeper};
+use mtn_step::Call;
 use std::alloc::Global;
 
 // Appends the digits of an id.

@@ -4,10 +4,10 @@ ghost use Rattle.mtn_cli.specs.Performs.{Drafts};
 ghost use Rattle.mtn_step.specs.Step.{Steps};
 
 use crate::answer::Reply;
-use mtn_step::Call;
 use mtn_base::{Id, Path};
 use mtn_history::{Draft, HistoryError};
 use mtn_ports::{Ident, Keeper};
+use mtn_step::Call;
 
 /// Answers where the node at a path stands in another revision.
 pub fn get_corresponding_path<I: Ident, K: Keeper>(

@@ -30,7 +30,7 @@ mod words;
 
 pub use command::are_words;
 pub use laws::one_outcome;
-pub use payload::MAX_INPUT;
 pub use mtn_model::Status;
+pub use payload::MAX_INPUT;
 pub use top::run;
 pub use words::{Command, OptionWord, WordsError, step_words};

@@ -4,10 +4,10 @@ ghost use Rattle.mtn_cli.specs.Performs.{Drafts};
 ghost use Rattle.mtn_step.specs.Step.{Steps};
 
 use crate::answer::Reply;
-use mtn_step::Call;
 use crate::put_file::id_text;
 use mtn_history::{Draft, HistoryError};
 use mtn_ports::{Ident, Keeper};
+use mtn_step::Call;
 use std::alloc::Global;
 
 /// Accepts the payload as a revision's text, and answers its id.

@@ -7,9 +7,9 @@ ghost use Rattle.mtn_cli.specs.Step.{usage_line};
 ghost use Rattle.mtn_cli.specs.Texts.{damage_line, record_text};
 
 use crate::answer::{Answer, Reply};
-use mtn_model::Status;
 use mtn_base::{Bytes, Cause, List, NoMemory, Refusal};
 use mtn_history::{Damage, HistoryError, StoreError};
+use mtn_model::Status;
 use std::alloc::Global;
 
 // The command's answer, whatever it was.

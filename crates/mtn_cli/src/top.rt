@@ -11,7 +11,6 @@ ghost use Rattle.mtn_cli.specs.Performs.{Drafts, Performs};
 use crate::answer::{Answer, Reply};
 use crate::ask::{ask, graph};
 use crate::command::read_words;
-use mtn_step::Call;
 use crate::deliver::deliver;
 use crate::get_content_changed::get_content_changed;
 use crate::get_corresponding_path::get_corresponding_path;
@@ -23,11 +22,12 @@ use crate::payload::{ReadStop, read_payload};
 use crate::put_file::put_file;
 use crate::put_revision::put_revision;
 use crate::settle::{bare, settle, usage};
-use mtn_model::Status;
 use crate::words::WordsError;
 use mtn_base::Bytes;
-use mtn_history::{Draft, HistoryError, Pending};
+use mtn_history::{Draft, HistoryError, Memory, Pending};
+use mtn_model::Status;
 use mtn_ports::{Ident, Keeper, Sink, Source};
+use mtn_step::Call;
 use std::alloc::Global;
 use std::thread::Threads;
 
@@ -73,10 +73,11 @@ fn perform<R: Threads + Sync, I: Ident, K: Keeper>(
 ) -> Result<Reply, HistoryError>
     ensures { Performs (I.meaning ident.now) K.contents K.leaves K.faults keeper.old keeper.new (Steps (I.meaning ident.now) call.now payload.now) result }
 {
-    let pending = Pending::open(alloc, keeper)?;
-    let mut draft = Draft::new(keeper, pending);
+    let memory = Memory::new(alloc);
+    let pending = Pending::open(alloc, &memory, keeper)?;
+    let mut draft = Draft::new(keeper, pending, memory);
     let worked = on_draft(rt, alloc, call, ident, payload, &mut draft);
-    let (keeper, pending) = draft.into_parts();
+    let (keeper, pending, _) = draft.into_parts();
     let reply = worked?;
     pending.finish(keeper)?;
     Ok(reply)

@@ -13,17 +13,16 @@ use Rattle.mtn_model.specs.Table.{Contents, Table, body_at}
 use Rattle.mtn_ports.specs.Kept.{Same, with_all}
 use Rattle.mtn_ports.proofs.KeptLemmas.{with_all-append}
 use Rattle.mtn_ports.specs.declared.batch.Put.{Put}
-use Rattle.mtn_records.specs.Bounds.{IsLogWithin}
 use Rattle.mtn_records.specs.Fields.{number_text}
 use Rattle.mtn_records.specs.declared.record.LogRecord.{LogRecord}
 use Rattle.mtn_records.specs.declared.record.RosterRecord.{RosterRecord}
 use Rattle.mtn_records.specs.declared.record.RosterRecord.TheVariants.{Whole, Delta}
-use Rattle.mtn_history.specs.Known.{AreRecalled, AreWithin, IsAdded, IsAmong, IsNoted}
+use Rattle.mtn_history.specs.Cache.{AreRecalled, IsAdded, IsAmong, IsNoted}
 use Rattle.mtn_history.specs.Logs.{IsLogged}
 use Rattle.mtn_history.specs.Records.{meta_puts, put_of, record_puts, revision_puts, with_revision}
 use Rattle.mtn_history.specs.Rosters.{IsChainDown, IsRostered, Rebuilds}
-use Rattle.mtn_history.specs.declared.known.Known.{Known}
-use Rattle.mtn_history.specs.declared.known.Recalled.{Recalled}
+use Rattle.mtn_history.specs.declared.cache.Cache.{Cache}
+use Rattle.mtn_history.specs.declared.cache.Recalled.{Recalled}
 use Rattle.mtn_history.specs.declared.pending.Pending.{Pending}
 use Rattle.mtn_history.specs.declared.rosters.Rebuilt.{Rebuilt}
 use Rattle.mtn_history.proofs.Extending.{earlier_at}
@@ -50,7 +49,7 @@ rebuilds_kept c d n r x same lt is = record { chain = is.chain; down = chain_kep
 logged_kept : (c d : Contents) (r : ℕ) (l : LogRecord) → body_at d 4 (number_text r) ≡ body_at c 4 (number_text r) → IsLogged c r l → IsLogged d r l
 logged_kept c d r l same is = record { body = is.body; held = same ∙ is.held; text = is.text }
 
-recalled_kept : (c d : Contents) (n m : ℕ) (k : Known) → n ≤ m → AreSameBelow 4 n c d → AreSameBelow 5 n c d → AreRecalled c n k → AreRecalled d m k
+recalled_kept : (c d : Contents) (n m : ℕ) (k : Cache) → n ≤ m → AreSameBelow 4 n c d → AreSameBelow 5 n c d → AreRecalled c n k → AreRecalled d m k
 recalled_kept c d n m k le logs rosters known = record {
   rosters = λ x x_in. let o = known.rosters x x_in in (omega (arith, o.0, le), rebuilds_kept c d n x.at x.rebuilt.value rosters o.0 o.1);
   log = λ at l found. let o = known.log at l found in (omega (arith, o.0, le), logged_kept c d at l (logs at o.0) o.1);
@@ -71,14 +70,14 @@ file_puts c ps is_new count key body t other file =
     ap (λ (d : Contents). d t) (with_all-append c ps (record_puts is_new count 2 key body)) ∙ ap (λ (d : Contents). d t) (with_all-append (with_all c ps) (meta_puts is_new count) (put_of 2 key body ∷ []))
     ∙ other_table 2 t _ _ file ∙ table_of is_new count (with_all c ps) t other
 
-recalled_file : (c : Contents) (ps : List Put) (is_new : Bool) (count : ℕ) (key body : List ℕ) (k : Known) → AreRecalled (with_all c ps) count k → AreRecalled (with_all c (ps ++ record_puts is_new count 2 key body)) count k
+recalled_file : (c : Contents) (ps : List Put) (is_new : Bool) (count : ℕ) (key body : List ℕ) (k : Cache) → AreRecalled (with_all c ps) count k → AreRecalled (with_all c (ps ++ record_puts is_new count 2 key body)) count k
 recalled_file c ps is_new count key body k known =
     recalled_kept (with_all c ps) (with_all c (ps ++ record_puts is_new count 2 key body)) count count k (omega arith)
     (λ r lt. ap (λ (t : Table). get_body t (number_text r)) (file_puts c ps is_new count key body 4 (λ e. omega (arith, e)) (λ e. omega (arith, e))))
     (λ r lt. ap (λ (t : Table). get_body t (number_text r)) (file_puts c ps is_new count key body 5 (λ e. omega (arith, e)) (λ e. omega (arith, e)))) known
 
 -- the same over what a call makes pending
-pub file_recalled : {E : Type 0} (told : Option Contents) (p after : Pending) (key body : List ℕ) (k : Known) (result : Result (Unit {0}) E) →
+pub file_recalled : {E : Type 0} (told : Option Contents) (p after : Pending) (key body : List ℕ) (k : Cache) (result : Result (Unit {0}) E) →
     OnOk result (after ≡ record p { batch = p.batch ++ record_puts p.is_new p.count 2 key body; is_new = false }) → OnErr result (after ≡ p) →
     IfSome told (λ c. AreRecalled (with_all c p.batch) p.count k) → IfSome told (λ c. AreRecalled (with_all c after.batch) after.count k)
 file_recalled told p after key body k (Ok done) ok err known =
@@ -108,34 +107,31 @@ same_rosters c p l log roster fits r lt =
     ap (λ (d : Contents). body_at d 5 (number_text r)) (grown_is c p l log roster) ∙ revision_rosters (with_all (with_all c p.batch) (meta_puts p.is_new p.count)) p.count l log roster r lt fits
     ∙ ap (λ (t : Table). get_body t (number_text r)) (table_of p.is_new p.count (with_all c p.batch) 5 (λ e. omega (arith, e)))
 
-recalled_revision : (c : Contents) (p : Pending) (l : Logged) (log roster : List ℕ) (k : Known) → p.count < 2 ^ 64 → AreRecalled (with_all c p.batch) p.count k → AreRecalled (with_all c (with_revision p l log roster).batch) (p.count + 1) k
+recalled_revision : (c : Contents) (p : Pending) (l : Logged) (log roster : List ℕ) (k : Cache) → p.count < 2 ^ 64 → AreRecalled (with_all c p.batch) p.count k → AreRecalled (with_all c (with_revision p l log roster).batch) (p.count + 1) k
 recalled_revision c p l log roster k fits known =
     recalled_kept (with_all c p.batch) (with_all c (with_revision p l log roster).batch) p.count (p.count + 1) k (omega arith) (same_logs c p l log roster fits) (same_rosters c p l log roster fits) known
 
 -- the same of what is told, and the roster of the new revision
-pub revision_recalled : (told : Option Contents) (p after : Pending) (l : Logged) (log roster : List ℕ) (k : Known) → p.count < 2 ^ 63 → after ≡ with_revision p l log roster →
+pub revision_recalled : (told : Option Contents) (p after : Pending) (l : Logged) (log roster : List ℕ) (k : Cache) → p.count < 2 ^ 63 → after ≡ with_revision p l log roster →
     IfSome told (λ c. AreRecalled (with_all c p.batch) p.count k) → IfSome told (λ c. AreRecalled (with_all c after.batch) after.count k)
 revision_recalled told p after l log roster k room is known =
     subst (λ (q : Pending). IfSome told (λ c. AreRecalled (with_all c q.batch) q.count k)) (sym is)
     (mapped told (λ c. AreRecalled (with_all c p.batch) p.count k) _ (λ c h. recalled_revision c p l log roster k (omega (arith, room)) h) known)
 
 -- one more roster
-roster_added : (c : Contents) (n : ℕ) (k after : Known) (more : Recalled) → IsAdded k.rosters.items after.rosters.items more → after.log ≡ k.log → more.at < n → Rebuilds c more.at more.rebuilt.value → AreRecalled c n k → AreRecalled c n after
+roster_added : (c : Contents) (n : ℕ) (k after : Cache) (more : Recalled) → IsAdded k.rosters.items after.rosters.items more → after.log ≡ k.log → more.at < n → Rebuilds c more.at more.rebuilt.value → AreRecalled c n k → AreRecalled c n after
 roster_added c n k after more added log lt is known = record {
   rosters = λ x x_in. ⊎_elim (λ old. known.rosters x old) (λ e. subst (λ (y : Recalled). (y.at < n) × Rebuilds c y.at y.rebuilt.value) (sym e) (lt, is)) (added x x_in);
   log = λ at l found. known.log at l (subst (λ (m : BTreeMap ℕ LogRecord). get nat_cmp m at ≡ Some l) log found);
 }
 
-pub roster_remembered : (told : Option Contents) (p : Pending) (k after : Known) (more : Recalled) → IsAdded k.rosters.items after.rosters.items more → after.log ≡ k.log → more.at < p.count →
+pub roster_remembered : (told : Option Contents) (p : Pending) (k after : Cache) (more : Recalled) → IsAdded k.rosters.items after.rosters.items more → after.log ≡ k.log → more.at < p.count →
     IfSome told (λ c. Rebuilds (with_all c p.batch) more.at more.rebuilt.value) → IfSome told (λ c. AreRecalled (with_all c p.batch) p.count k) → IfSome told (λ c. AreRecalled (with_all c p.batch) p.count after)
 roster_remembered None p k after more added log lt is known = tt
 roster_remembered (Some c) p k after more added log lt is known = roster_added (with_all c p.batch) p.count k after more added log lt is known
 
-pub within_still : (k after : Known) → after.log ≡ k.log → AreWithin k → AreWithin after
-within_still k after log within at l found = within at l (subst (λ (m : BTreeMap ℕ LogRecord). get nat_cmp m at ≡ Some l) log found)
-
 -- one more record of the log
-pub log_remembered : (told : Option Contents) (p : Pending) (k after : Known) (at : ℕ) (l : LogRecord) → after.rosters ≡ k.rosters → IsNoted k.log after.log at l → at < p.count →
+pub log_remembered : (told : Option Contents) (p : Pending) (k after : Cache) (at : ℕ) (l : LogRecord) → after.rosters ≡ k.rosters → IsNoted k.log after.log at l → at < p.count →
     IfSome told (λ c. IsLogged (with_all c p.batch) at l) → IfSome told (λ c. AreRecalled (with_all c p.batch) p.count k) → IfSome told (λ c. AreRecalled (with_all c p.batch) p.count after)
 log_remembered None p k after at l same noted lt is known = tt
 log_remembered (Some c) p k after at l same noted lt is known = record {
@@ -144,9 +140,12 @@ log_remembered (Some c) p k after at l same noted lt is known = record {
       (λ e. subst (λ n. (n < p.count) × IsLogged (with_all c p.batch) n m) (sym e.0) (lt, subst (IsLogged (with_all c p.batch) at) (sym e.1) is)) (noted r m found);
 }
 
-pub log_within : (k after : Known) (at : ℕ) (l : LogRecord) → IsNoted k.log after.log at l → IsLogWithin at l → AreWithin k → AreWithin after
-log_within k after at l noted is within r m found =
-    ⊎_elim (λ old. within r m old) (λ e. subst (λ n. IsLogWithin n m) (sym e.0) (subst (IsLogWithin at) (sym e.1) is)) (noted r m found)
+-- a record of the log that is remembered
+pub log_recalled : (told : Option Contents) (p : Pending) (k : Cache) (at : ℕ) (o : Option LogRecord) → IfSome o (λ l. get nat_cmp k.log at ≡ Some l) → IfSome told (λ c. AreRecalled (with_all c p.batch) p.count k) →
+    IfSome told (λ c. IfSome o (IsLogged (with_all c p.batch) at))
+log_recalled None p k at o noted known = tt
+log_recalled (Some c) p k at None noted known = tt
+log_recalled (Some c) p k at (Some l) noted known = (known.log at l noted).1
 
 same_or_not : (a b : ℕ) → (a ≡ b) ⊎ (a ≢ b)
 same_or_not zero zero = inl refl
@@ -167,13 +166,13 @@ noted_by old new at l (Ok before) ok err r m found = by (is_eq (nat_cmp at r)) r
 noted_by old new at l (Err e) ok err r m found = inl (ap (λ es. lookup (is_at (nat_cmp r)) es) (sym err) ∙ found)
 
 -- what is remembered is found right
-pub recalled_among : (told : Option Contents) (p : Pending) (k : Known) (at : ℕ) (r : Rebuilt) → IsAmong k.rosters.items at r → IfSome told (λ c. AreRecalled (with_all c p.batch) p.count k) → IfSome told (λ c. Rebuilds (with_all c p.batch) at r)
+pub recalled_among : (told : Option Contents) (p : Pending) (k : Cache) (at : ℕ) (r : Rebuilt) → IsAmong k.rosters.items at r → IfSome told (λ c. AreRecalled (with_all c p.batch) p.count k) → IfSome told (λ c. Rebuilds (with_all c p.batch) at r)
 recalled_among None p k at r among known = tt
 recalled_among (Some c) p k at r among known =
     let is = (known.rosters among.0 among.1).1 in
     subst (λ n. Rebuilds (with_all c p.batch) n r) among.2 (subst (λ (x : Rebuilt). Rebuilds (with_all c p.batch) among.0.at x) (sym among.3) is)
 
-pub revision_remembered : (told : Option Contents) (p after : Pending) (l : Logged) (log roster : List ℕ) (k known : Known) (more : Recalled) → p.count < 2 ^ 63 → after ≡ with_revision p l log roster → more.at ≡ p.count →
+pub revision_remembered : (told : Option Contents) (p after : Pending) (l : Logged) (log roster : List ℕ) (k known : Cache) (more : Recalled) → p.count < 2 ^ 63 → after ≡ with_revision p l log roster → more.at ≡ p.count →
     IsAdded k.rosters.items known.rosters.items more → known.log ≡ k.log → IfSome told (λ c. Rebuilds (with_all c (with_revision p l log roster).batch) p.count more.rebuilt.value) →
     IfSome told (λ c. AreRecalled (with_all c p.batch) p.count k) → IfSome told (λ c. AreRecalled (with_all c after.batch) after.count known)
 revision_remembered told p after l log roster k known more room is at added log_same rebuilt are =

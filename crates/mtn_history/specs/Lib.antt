@@ -1,11 +1,12 @@
+pub mod Cache
 pub mod Damage
 pub mod Drafts
 pub mod Errors
 pub mod Files
 pub mod Graph
-pub mod Known
 pub mod Logs
 pub mod Marked
+pub mod Memory
 pub mod Meta
 pub mod Places
 pub mod Records

@@ -4,13 +4,15 @@ ghost use Rattle.mtn_model.specs.Table.{body_at};
 ghost use Rattle.mtn_ports.specs.Causes.{Rose};
 ghost use Rattle.mtn_ports.specs.Kept.{Stays, IsBody, with_all};
 ghost use Rattle.mtn_history.specs.Errors.{IfDamage};
+ghost use Rattle.mtn_history.specs.Marked.{IsCounted};
+ghost use Rattle.mtn_history.specs.Memory.{Knows};
 ghost use Rattle.mtn_history.specs.Logs.{IsLogged};
 ghost use Rattle.mtn_history.specs.Records.{record_puts, with_revision};
 ghost use Rattle.mtn_history.specs.Rosters.{Rebuilds};
 ghost use Rattle.mtn_records.specs.Bounds.{IsLogWithin};
 
-use crate::known::Known;
-use crate::{FILES, Pending, Rebuilt, StoreError};
+use crate::cache::Cache;
+use crate::{FILES, Memory, Meta, Pending, Rebuilt, StoreError};
 use mtn_ancestry::Pos;
 use mtn_base::{Bytes, Id, NoMemory};
 use mtn_ports::Keeper;
@@ -24,49 +26,61 @@ use std::rc::Rc;
 pub struct Draft<'a, K: Keeper> {
     keeper: &'a mut K,
     pending: Pending,
-    known: Known,
+    cache: Cache,
 }
 
 impl<'a, K: Keeper> Model for Draft<'a, K> {
     ghost use Rattle.std.specs.Prelude.{IfSome};
     ghost use Rattle.mtn_history.specs.Drafts.{DraftValue};
-    ghost use Rattle.mtn_history.specs.Known.{AreRecalled, AreWithin};
+    ghost use Rattle.mtn_history.specs.Cache.{AreRecalled};
+    ghost use Rattle.mtn_history.specs.Marked.{IsCounted};
     ghost use Rattle.mtn_ports.specs.Kept.{with_all};
 
     ghost Value = { DraftValue K };
 
     ghost view = { λ d. record { keeper = record { now = d.keeper.now; ghost_name = d.keeper.ghost_name }; pending = d.pending } };
 
-    ghost invariant = { λ d. IfSome (K.contents d.keeper.now) (λ c. AreRecalled (with_all c d.pending.batch) d.pending.count d.known) × AreWithin d.known };
+    ghost invariant = { λ d. IfSome (K.contents d.keeper.now) (λ c. AreRecalled (with_all c d.pending.batch) d.pending.count d.cache) × IfSome (K.contents d.keeper.now) (IsCounted d.pending) };
 }
 
 impl<'a, K: Keeper> Draft<'a, K> {
-    /// A draft over the keeper that `Pending::open` read. It takes no memory.
-    pub fn new(keeper: &'a mut K, pending: Pending) -> Draft<'a, K>
+    /// A draft over the keeper that `Pending::open` read, and what is remembered of its records. It takes no memory.
+    pub fn new(keeper: &'a mut K, pending: Pending, memory: Memory) -> Draft<'a, K>
+        requires counted { IfSome (K.contents keeper.old) (IsCounted pending) }
+        requires knows { IfSome (K.contents keeper.old) (λ c. Knows memory (with_all c pending.batch)) }
         ensures same_reference { result.keeper.ghost_name ≡ keeper.entry.ghost_name }
         ensures keeper { result.keeper.now ≡ keeper.old }
         ensures pending { result.pending ≡ pending }
     {
-        let known = Known::new(pending.alloc);
+        let Memory { meta: _, cache } = memory;
         Draft {
             keeper,
             pending,
-            known,
+            cache,
         }
     }
 
-    /// The keeper and what is pending. It takes no memory.
-    pub fn into_parts(self) -> (&'a mut K, Pending)
+    /// The keeper, what is pending, and what is remembered of both together. It takes no memory.
+    pub fn into_parts(self) -> (&'a mut K, Pending, Memory)
         ensures same_reference { result.0.ghost_name ≡ self.entry.keeper.ghost_name }
         ensures keeper { result.0.now ≡ self.entry.keeper.now }
         ensures pending { result.1 ≡ self.entry.pending }
+        ensures knows { IfSome (K.contents self.entry.keeper.now) (λ c. Knows result.2 (with_all c self.entry.pending.batch)) }
     {
         let Draft {
             keeper,
             pending,
-            known: _,
+            cache,
         } = self;
-        (keeper, pending)
+        let meta = Meta {
+            count: pending.count,
+            is_new: pending.is_new,
+        };
+        let memory = Memory {
+            meta: Some(meta),
+            cache,
+        };
+        (keeper, pending, memory)
     }
 
     /// Where memory is taken from.
@@ -122,7 +136,7 @@ impl<'a, K: Keeper> Draft<'a, K> {
         let at = Pos(self.pending.count);
         self.pending.put_revision(id, text, log, roster)?;
         if let Ok(rebuilt) = Rc::new(self.pending.alloc, rebuilt) {
-            self.known.add_roster(at, rebuilt);
+            self.cache.add_roster(at, rebuilt);
         }
         Ok(())
     }
@@ -131,7 +145,7 @@ impl<'a, K: Keeper> Draft<'a, K> {
     pub(crate) fn recall(&self, at: Pos) -> Result<Option<Rc<Rebuilt>>, NoMemory>
         ensures { IfSome (K.contents self.now.keeper.now) (λ c. IfOk result (λ found. IfSome found (λ r. Rebuilds (with_all c self.now.pending.batch) at r.value))) }
     {
-        self.known.roster(at)
+        self.cache.roster(at)
     }
 
     /// Remembers a roster, as its records give it.
@@ -141,7 +155,7 @@ impl<'a, K: Keeper> Draft<'a, K> {
         ensures keeper { self.new.keeper ≡ self.old.keeper }
         ensures pending { self.new.pending ≡ self.old.pending }
     {
-        self.known.add_roster(at, rebuilt);
+        self.cache.add_roster(at, rebuilt);
     }
 
     /// The log's record at a position, if it is remembered. It asks for no record.
@@ -149,18 +163,17 @@ impl<'a, K: Keeper> Draft<'a, K> {
         ensures right { IfSome (K.contents self.now.keeper.now) (λ c. IfSome result (IsLogged (with_all c self.now.pending.batch) at)) }
         ensures within { IfSome result (IsLogWithin at) }
     {
-        self.known.log(at)
+        self.cache.log(at)
     }
 
     /// Remembers a record of the log.
     pub(crate) fn remember_log(&mut self, at: Pos, log: &LogRecord)
         requires below { at < self.old.pending.count }
         requires right { IfSome (K.contents self.old.keeper.now) (λ c. IsLogged (with_all c self.old.pending.batch) at log.now) }
-        requires within { IsLogWithin at log.now }
         ensures keeper { self.new.keeper ≡ self.old.keeper }
         ensures pending { self.new.pending ≡ self.old.pending }
     {
-        self.known.add_log(at, log);
+        self.cache.add_log(at, log);
     }
 
     /// The number of revisions. It takes no memory.

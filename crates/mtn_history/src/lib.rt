@@ -10,13 +10,14 @@
 //! no state. A call costs a look-up in the pending records and one in the keeper.
 #![tactic(auto)]
 
+mod cache;
 mod damaged;
 mod draft;
 mod errors;
 mod files;
-mod known;
 mod logs;
 mod marked;
+mod memory;
 mod meta;
 mod parents;
 mod pending;
@@ -28,6 +29,7 @@ mod texts;
 pub use draft::Draft;
 pub use errors::{Damage, HistoryError, StoreError};
 pub use marked::SharedRoster;
+pub use memory::Memory;
 pub use meta::Meta;
 pub use pending::Pending;
 pub use rosters::Rebuilt;

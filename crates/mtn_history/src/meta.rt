@@ -1,5 +1,5 @@
 // The two records of table 1.
-ghost use Rattle.std.specs.Prelude.{◌≡◌, ◌≢◌, Some, Err, length, IfOk, IfErr, IfSome, OnOk, MatchOption};
+ghost use Rattle.std.specs.Prelude.{◌≡◌, ◌≢◌, ◌≤◌, ◌+◌, Some, Err, length, IfOk, IfErr, IfSome, OnOk, MatchOption};
 ghost use Rattle.std.specs.Int.{w64, from_be_bytes};
 ghost use Rattle.mtn_model.specs.Table.{body_at};
 ghost use Rattle.mtn_ports.specs.Causes.{Rose};
@@ -13,7 +13,7 @@ use mtn_ports::Keeper;
 use std::alloc::Global;
 
 /// What table 1 says: the number of revisions, and whether the store has no records yet.
-#[derive(Clone, Copy, PartialEq, Eq)]
+#[derive(Clone, Copy)]
 pub struct Meta {
     pub count: u64,
     pub is_new: bool,
@@ -35,6 +35,7 @@ pub fn read_meta<K: Keeper>(alloc: Global, keeper: &mut K) -> Result<Meta, Store
     ensures meta { IfSome (K.contents keeper.new) (λ c. IfOk result (IsMetaOf c)) }
     ensures failed { result ≡ Err StoreError.Failed → Rose (K.faults keeper.old) (K.faults keeper.new) }
     ensures damaged { IfSome (K.contents keeper.new) (λ c. IfErr result (λ e. IfDamage e (MetaDamage c))) }
+    ensures reads { K.reads keeper.new ≤ K.reads keeper.old + 2 }
 {
     let mut body = Vec::new(alloc);
     if !keeper.get(META, b"count", &mut body)? {
@@ -59,6 +60,7 @@ fn read_version<K: Keeper>(alloc: Global, keeper: &mut K) -> Result<(), StoreErr
     ensures version { IfSome (K.contents keeper.new) (λ c. OnOk result (body_at c 1 version_key ≡ Some version)) }
     ensures failed { result ≡ Err StoreError.Failed → Rose (K.faults keeper.old) (K.faults keeper.new) }
     ensures damaged { IfSome (K.contents keeper.new) (λ c. IfErr result (λ e. IfDamage e (VersionDamage c))) }
+    ensures reads { K.reads keeper.new ≤ K.reads keeper.old + 1 }
 {
     let mut body = Vec::new(alloc);
     if !keeper.get(META, b"version", &mut body)? {

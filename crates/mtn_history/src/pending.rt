@@ -1,8 +1,14 @@
 // Records that wait for the keeper.
-ghost use Rattle.std.specs.Prelude.{◌≡◌, ◌<◌, ◌≤◌, ◌++◌, [], true, false, length, take, IfOk, OnOk, OnErr};
+ghost use Rattle.std.specs.Prelude.{◌≡◌, ◌<◌, ◌≤◌, ◌+◌, ◌++◌, [], true, false, length, take, Err, IfErr, IfOk, IfSome, IsSome, OnOk, OnErr};
+ghost use Rattle.mtn_ports.specs.Causes.{Rose};
+ghost use Rattle.mtn_ports.specs.Kept.{Stays};
+ghost use Rattle.mtn_history.specs.Errors.{IfDamage};
+ghost use Rattle.mtn_history.specs.Memory.{Knows};
+ghost use Rattle.mtn_history.specs.Meta.{IsMetaOf, MetaDamage};
 ghost use Rattle.mtn_history.specs.Records.{meta_puts, record_puts};
 ghost use Rattle.mtn_records.specs.Fields.{number_text};
 
+use crate::memory::Memory;
 use crate::meta::{Meta, read_meta};
 use crate::texts::POSITION;
 use crate::{LOG, META, ROSTERS, StoreError, TEXTS};
@@ -21,28 +27,32 @@ pub struct Pending {
 }
 
 impl Pending {
-    ghost use Rattle.std.specs.Prelude.{◌+◌, ◌^◌, List as Seq, ℕ, Some, Err, IfSome, IfErr};
+    ghost use Rattle.std.specs.Prelude.{◌^◌, List as Seq, ℕ, Some};
     ghost use Rattle.mtn_model.specs.Table.{Contents};
     ghost use Rattle.mtn_history.specs.Records.{revision_puts, with_revision};
     ghost use Rattle.mtn_model.specs.State.{State};
-    ghost use Rattle.mtn_ports.specs.Causes.{Rose};
-    ghost use Rattle.mtn_ports.specs.Kept.{Same, Stays};
-    ghost use Rattle.mtn_history.specs.Errors.{IfDamage};
-    ghost use Rattle.mtn_history.specs.Damage.{IsDamage};
-    ghost use Rattle.mtn_history.specs.Meta.{IsMetaOf};
+    ghost use Rattle.mtn_ports.specs.Kept.{Same};
     ghost use Rattle.mtn_history.specs.Stands.{Stands, Opens, WasTold, Finishes, FinishLeaves};
 
     /// The first half of beginning a draft: reads of table 1 what the keeper stands for, with nothing
-    /// pending. A keeper without `count` is an empty store. It asks the keeper for two records at most.
-    pub fn open<K: Keeper>(alloc: Global, keeper: &mut K) -> Result<Pending, StoreError>
+    /// pending. A keeper without `count` is an empty store. It asks the keeper for two records at most, and for none where
+    /// these are remembered. A damage is one of table 1.
+    pub fn open<K: Keeper>(
+        alloc: Global,
+        memory: &Memory,
+        keeper: &mut K,
+    ) -> Result<Pending, StoreError>
+        requires knows { IfSome (K.contents keeper.old) (Knows memory.now) }
         ensures stays { Stays K.contents K.leaves K.faults keeper.old keeper.new }
         ensures stands { (f : Seq ℕ → Seq ℕ) (c : Contents) (s : State) → K.contents keeper.new ≡ Some c → Stands f c s → Opens f c s result }
         ensures bare { IfOk result (λ p. p.batch ≡ []) }
         ensures counted { IfSome (K.contents keeper.new) (λ c. IfOk result (λ p. IsMetaOf c (record { count = p.count; is_new = p.is_new }))) }
         ensures failed { result ≡ Err StoreError.Failed → Rose (K.faults keeper.old) (K.faults keeper.new) }
-        ensures damaged { IfSome (K.contents keeper.new) (λ c. IfErr result (λ e. IfDamage e (IsDamage c))) }
+        ensures damaged { IfSome (K.contents keeper.new) (λ c. IfErr result (λ e. IfDamage e (MetaDamage c))) }
+        ensures reads { K.reads keeper.new ≤ K.reads keeper.old + 2 }
+        ensures remembered { IsSome memory.now.meta → K.reads keeper.new ≡ K.reads keeper.old }
     {
-        let meta = read_meta(alloc, keeper)?;
+        let meta = meta_of(alloc, memory, keeper)?;
         Ok(Pending::new(alloc, meta))
     }
 
@@ -176,4 +186,20 @@ fn put_all(
 {
     put_meta(batch, is_new, count)?;
     batch.put(table, key, body)
+}
+
+// What table 1 says: remembered, or read.
+fn meta_of<K: Keeper>(alloc: Global, memory: &Memory, keeper: &mut K) -> Result<Meta, StoreError>
+    requires knows { IfSome (K.contents keeper.old) (Knows memory.now) }
+    ensures stays { Stays K.contents K.leaves K.faults keeper.old keeper.new }
+    ensures meta { IfSome (K.contents keeper.new) (λ c. IfOk result (IsMetaOf c)) }
+    ensures failed { result ≡ Err StoreError.Failed → Rose (K.faults keeper.old) (K.faults keeper.new) }
+    ensures damaged { IfSome (K.contents keeper.new) (λ c. IfErr result (λ e. IfDamage e (MetaDamage c))) }
+    ensures reads { K.reads keeper.new ≤ K.reads keeper.old + 2 }
+    ensures remembered { IsSome memory.now.meta → K.reads keeper.new ≡ K.reads keeper.old }
+{
+    match memory.meta() {
+        Some(meta) => Ok(meta),
+        None => read_meta(alloc, keeper),
+    }
 }

@@ -19,6 +19,3 @@ pub use content::get_content_changed;
 pub use corresponding::get_corresponding_path;
 pub use manifest::get_manifest_of;
 pub use roster::get_roster;
-
-#[cfg(test)]
-mod tests;

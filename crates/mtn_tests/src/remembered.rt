@@ -2,7 +2,7 @@
 use crate::given::{call, store};
 use mtn_base::Id;
 use mtn_cli::Status;
-use mtn_history::{Draft, Pending};
+use mtn_history::{Draft, Memory, Pending};
 use mtn_ports::Toy;
 use std::alloc::Global;
 use std::test::Fail;
@@ -34,15 +34,16 @@ fn reads_of<T: Threads + Sync>(threads: &T, alloc: Global, times: u64) -> Result
         return Err(Fail::from("the root was not accepted"));
     };
     let before = keeper.reads();
-    let Ok(pending) = Pending::open(alloc, &mut keeper) else {
+    let memory = Memory::new(alloc);
+    let Ok(pending) = Pending::open(alloc, &memory, &mut keeper) else {
         return Err(Fail::from("the store did not open"));
     };
-    let mut draft = Draft::new(&mut keeper, pending);
+    let mut draft = Draft::new(&mut keeper, pending, memory);
     let mut found = true;
     for _ in 0..times {
         found = draft.roster_of(root).is_ok() && found;
     }
-    let (keeper, _) = draft.into_parts();
+    let (keeper, _, _) = draft.into_parts();
     if !found {
         return Err(Fail::from("the roster was not found"));
     }

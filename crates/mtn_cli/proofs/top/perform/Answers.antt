@@ -1,6 +1,7 @@
 use Rattle.std.proofs.Common.{rules, Err, Ok, sym, subst, ap, ◌∙◌}
 use Rattle.mtn_history.specs.declared.pending.Pending.{Pending}
 use Rattle.std.proofs.lemmas.Result.{err_from_is_err_and}
+use Rattle.mtn_history.proofs.MetaLemmas.{meta_damage}
 use Rattle.mtn_step.specs.Step.{Steps}
 use Rattle.mtn_cli.proofs.PerformsLemmas.{Worked, open_failed, worked, reply_failed, finished, finish_failed}
 use Rattle.mtn_cli.proofs.top.perform.Goals as goal
@@ -11,7 +12,7 @@ returns-in_err-pending g c =
     open_failed (g.I.Ident.meaning c.args.ident.now) g.K.Keeper.contents g.K.Keeper.leaves g.K.Keeper.faults _ c.args.keeper.now c.open.new.keeper c.from_residual.result c.in_err-pending.field-0.0
     (p.1 ∙ ap Err p.2) c.in_err-pending.ensures.stays
     (λ d s told stands. c.in_err-pending.ensures.stands (g.I.Ident.meaning c.args.ident.now) d s told stands)
-    (λ e. c.in_err-pending.ensures.failed (ap Err e)) c.in_err-pending.ensures.damaged
+    (λ e. c.in_err-pending.ensures.failed (ap Err e)) (meta_damage (g.K.Keeper.contents c.open.new.keeper) c.in_err-pending.field-0.0 c.in_err-pending.ensures.damaged)
 
 pub returns-in_err-reply : goal.returns-in_err-reply
 returns-in_err-reply g c =

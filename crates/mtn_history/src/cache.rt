@@ -1,12 +1,14 @@
 // What a draft remembers of the records that it stands on.
-ghost use Rattle.std.specs.Prelude.{◌≡◌, ◌⊎◌, ℕ, List, [], None, Contains, IfOk, IfSome};
+ghost use Rattle.std.specs.Prelude.{◌≡◌, ◌<◌, ◌⊎◌, ◌↔◌, ℕ, List, [], Some, None, All, Contains, IfOk, IfSome, IsTrue};
 ghost use Rattle.std.specs.BTreeMap.{get};
 ghost use Rattle.std.specs.Ordering.{nat_cmp};
-ghost use Rattle.mtn_history.specs.Known.{IsAmong, IsAdded, IsNoted};
-ghost use Rattle.mtn_history.specs.declared.known.Recalled.{Recalled as Remembered};
+ghost use Rattle.mtn_ancestry.specs.Log.{list_of};
+ghost use Rattle.mtn_records.specs.Bounds.{IsLogWithin};
+ghost use Rattle.mtn_history.specs.Cache.{IsAmong, IsAdded, IsNoted};
+ghost use Rattle.mtn_history.specs.declared.cache.Recalled.{Recalled as Remembered};
 
 use crate::Rebuilt;
-use mtn_ancestry::Pos;
+use mtn_ancestry::{ParentList, Pos};
 use mtn_base::NoMemory;
 use mtn_records::LogRecord;
 use std::alloc::Global;
@@ -29,18 +31,18 @@ pub struct Recalled {
 /// What a draft remembers: the rosters of the revisions that it read or accepted last, the newest at the end, and the
 /// records of the log that a walk asked for.
 #[derive(Drop)]
-pub struct Known {
+pub struct Cache {
     pub rosters: Vec<Recalled>,
     pub log: BTreeMap<Pos, LogRecord>,
 }
 
-impl Known {
+impl Cache {
     /// Nothing is remembered.
-    pub fn new(alloc: Global) -> Known
+    pub fn new(alloc: Global) -> Cache
         ensures rosters { result.rosters.items ≡ [] }
         ensures log { (at : ℕ) → get nat_cmp result.log at ≡ None }
     {
-        Known {
+        Cache {
             rosters: Vec::new(alloc),
             log: BTreeMap::new(alloc),
         }
@@ -70,9 +72,13 @@ impl Known {
 
     /// The log's record at a position, if it is remembered.
     pub fn log(&self, at: Pos) -> Option<LogRecord>
-        ensures { result ≡ get nat_cmp self.now.log at }
+        ensures noted { IfSome result (λ l. get nat_cmp self.now.log at ≡ Some l) }
+        ensures within { IfSome result (IsLogWithin at) }
     {
         let log = self.log.get(&at)?;
+        if !are_below(log.parents, at) {
+            return None;
+        }
         Some(LogRecord {
             id: log.id,
             next_node: log.next_node,
@@ -93,6 +99,17 @@ impl Known {
                 parents: log.parents,
             },
         );
+    }
+}
+
+// Whether each parent stands below a position.
+fn are_below(parents: ParentList, at: Pos) -> bool
+    ensures { IsTrue result ↔ All (λ p. p < at) (list_of parents) }
+{
+    match parents {
+        ParentList::Zero => true,
+        ParentList::One(parent) => parent < at,
+        ParentList::Two(first, second) => first < at && second < at,
     }
 }
 

@@ -3,10 +3,9 @@ use Rattle.std.specs.Prelude.{◌≡◌, ◌<◌, ◌⊎◌, ℕ, List, Some, Co
 use Rattle.std.specs.BTreeMap.{BTreeMap, get}
 use Rattle.std.specs.Ordering.{nat_cmp}
 use Rattle.mtn_model.specs.Table.{Contents}
-use Rattle.mtn_records.specs.Bounds.{IsLogWithin}
 use Rattle.mtn_records.specs.declared.record.LogRecord.{LogRecord}
-use Rattle.mtn_history.specs.declared.known.Known.{Known}
-use Rattle.mtn_history.specs.declared.known.Recalled.{Recalled}
+use Rattle.mtn_history.specs.declared.cache.Cache.{Cache}
+use Rattle.mtn_history.specs.declared.cache.Recalled.{Recalled}
 use Rattle.mtn_history.specs.declared.rosters.Rebuilt.{Rebuilt}
 use Rattle.mtn_history.specs.Logs.{IsLogged}
 use Rattle.mtn_history.specs.Rosters.{Rebuilds}
@@ -24,10 +23,6 @@ abbrev pub IsNoted : BTreeMap ℕ LogRecord → BTreeMap ℕ LogRecord → ℕ �
 IsNoted old new at log = (r : ℕ) (l : LogRecord) → get nat_cmp new r ≡ Some l → (get nat_cmp old r ≡ Some l) ⊎ ((r ≡ at) × (l ≡ log))
 
 -- each roster and each record of the log is that of the records, at a position below n
-pub record AreRecalled (c : Contents) (n : ℕ) (k : Known) : Type 0 where
+pub record AreRecalled (c : Contents) (n : ℕ) (k : Cache) : Type 0 where
   pub rosters : (x : Recalled) → Contains k.rosters.items x → (x.at < n) × Rebuilds c x.at x.rebuilt.value
   pub log : (at : ℕ) (l : LogRecord) → get nat_cmp k.log at ≡ Some l → (at < n) × IsLogged c at l
-
--- the parents in a record of the log stand before it
-abbrev pub AreWithin : Known → Type 0
-AreWithin k = (at : ℕ) (l : LogRecord) → get nat_cmp k.log at ≡ Some l → IsLogWithin at l
