@@ -80,7 +80,7 @@ module _ (log : List Revision) (grown : IsGrown log) where
   sane r n e h = grown.sane r (within r n e h)
 
   -- a scalar that is decided is there on a side, and a decided value is one side's
-  on_a_side : (a b : ℕ) (s : Scalar) (v : Verdict) → IsDecided log a b s v → ((w : Value) × (value_at log s a ≡ Some w)) ⊎ ((w : Value) × (value_at log s b ≡ Some w))
+  pub on_a_side : (a b : ℕ) (s : Scalar) (v : Verdict) → IsDecided log a b s v → ((w : Value) × (value_at log s a ≡ Some w)) ⊎ ((w : Value) × (value_at log s b ≡ Some w))
   on_a_side a b s _ (common {v = v} e f) = inl (v, e)
   on_a_side a b s _ (left_alone {v = v} e f) = inl (v, e)
   on_a_side a b s _ (right_alone {w = w} e f) = inr (w, f)
@@ -88,7 +88,7 @@ module _ (log : List Revision) (grown : IsGrown log) where
   on_a_side a b s _ (right_wins {w = w} e f n m k) = inr (w, f)
   on_a_side a b s _ (clash {v = v} e f n m k) = inl (v, e)
 
-  settled : (a b : ℕ) (s : Scalar) (d : Verdict) (v : Value) → d ≡ Settled v → IsDecided log a b s d → (value_at log s a ≡ Some v) ⊎ (value_at log s b ≡ Some v)
+  pub settled : (a b : ℕ) (s : Scalar) (d : Verdict) (v : Value) → d ≡ Settled v → IsDecided log a b s d → (value_at log s a ≡ Some v) ⊎ (value_at log s b ≡ Some v)
   settled a b s _ v e (common {v = u} f g) = inl (f ∙ ap Some (let d : u ≡ v = cc in d))
   settled a b s _ v e (left_alone {v = u} f g) = inl (f ∙ ap Some (let d : u ≡ v = cc in d))
   settled a b s _ v e (right_alone {w = u} f g) = inr (g ∙ ap Some (let d : u ≡ v = cc in d))
@@ -97,7 +97,7 @@ module _ (log : List Revision) (grown : IsGrown log) where
   settled a b s _ v e (clash f g n m k) = absurd cc
 
   -- the node behind the value of a slot, and behind that of a content
-  slot_node : (r : ℕ) (n : NodeName) (s : Slot) → value_at log (SlotOf n) r ≡ Some (SlotValue s) → (e : Entry) × (entry_at log r n ≡ Some e) × (e.slot ≡ s)
+  pub slot_node : (r : ℕ) (n : NodeName) (s : Slot) → value_at log (SlotOf n) r ≡ Some (SlotValue s) → (e : Entry) × (entry_at log r n ≡ Some e) × (e.slot ≡ s)
   slot_node r n s h = go (entry_at log r n) refl h
     where
       go : (o : Option Entry) → entry_at log r n ≡ o → option_and_then (value_of (SlotOf n)) o ≡ Some (SlotValue s) → (e : Entry) × (entry_at log r n ≡ Some e) × (e.slot ≡ s)
@@ -121,7 +121,7 @@ module _ (log : List Revision) (grown : IsGrown log) where
         ((is.scalars s v).0 (ap (option_and_then (verdict_of s)) (ap (decision_of m.nodes) e ∙ h) ∙ k)).1
 
     -- a node that is a directory somewhere is decided to be one
-    dir_by : (r : ℕ) (n : NodeName) (e : Entry) (d : Decision) → entry_at log r n ≡ Some e → is_dir e ≡ true → decision_of m.nodes n ≡ Some d → d.is_dir ≡ true
+    pub dir_by : (r : ℕ) (n : NodeName) (e : Entry) (d : Decision) → entry_at log r n ≡ Some e → is_dir e ≡ true → decision_of m.nodes n ≡ Some d → d.is_dir ≡ true
     dir_by r n e d h dir k = sym (same_test (λ (d : Decision). is_absent d.content) (λ (d : Decision). d.is_dir) m.nodes order.kinds d (found_at m.nodes n d k)) ∙ go d.content refl
       where
         no_content : (v : Verdict) → content_verdict d.content ≡ Some v → ⊥

@@ -1,0 +1,5 @@
+pub mod Made
+pub mod Merged
+pub mod Twinned
+pub mod Decided
+pub mod Clear
