@@ -1,8 +1,8 @@
 -- Rosters by the ids of their revisions, and the ids of positions.
-use Rattle.std.specs.Prelude.{IfSome, IfErr, MatchBool}
+use Rattle.std.specs.Prelude.{IfSome, IfErr, IfOk, MatchBool, is_some, option_map}
 use Rattle.std.specs.Int.{w64, to_be_bytes}
 use Rattle.std.specs.List.{AllZip}
-use Rattle.std.proofs.Common.{◌≡◌, ◌≢◌, ◌≤◌, ◌<◌, ◌+◌, ◌^◌, ℕ, zero, suc, Bool, true, false, List, [], ◌∷◌, ◌++◌, length, get_or, take, Option, Some, None, Result, Err, refl, sym, ap, ◌∙◌, subst, inl, inr, arith}
+use Rattle.std.proofs.Common.{◌≡◌, ◌≢◌, ◌≤◌, ◌<◌, ◌+◌, ◌^◌, ℕ, zero, suc, Bool, true, false, List, [], ◌∷◌, ◌++◌, length, get_or, take, Option, Some, None, Result, Ok, Err, refl, sym, ap, ◌∙◌, subst, inl, inr, arith}
 use Rattle.std.proofs.lemmas.List.{take_more}
 use Rattle.mtn_base.specs.declared.id.Id.{Id}
 use Rattle.mtn_roster_deltas.specs.Chain.{Entries}
@@ -13,24 +13,34 @@ use Rattle.mtn_replay.proofs.Histories.{log_is_short}
 use Rattle.mtn_marking.specs.Graph.{IsMarkedAt}
 use Rattle.mtn_marking.specs.Marking.{MarkedTree}
 use Rattle.mtn_model.specs.State.{State}
-use Rattle.mtn_model.specs.Table.{Contents}
+use Rattle.mtn_model.specs.Table.{Contents, body_at}
 use Rattle.mtn_ports.specs.Kept.{Same, with_all}
 use Rattle.mtn_records.specs.declared.record.LogRecord.{LogRecord}
+use Rattle.mtn_ancestry.specs.declared.pos.LogEntry.{LogEntry}
+use Rattle.mtn_replay.specs.Graphs.{Tells}
+use Rattle.mtn_records.specs.Fields.{number_text}
+use Rattle.mtn_history.specs.declared.errors.Damage.{Damage}
+use Rattle.mtn_history.specs.declared.errors.Damage.TheVariants.{Bad, Missing}
+use Rattle.mtn_replay.specs.Texts.{text_under}
 use Rattle.mtn_history.specs.declared.errors.StoreError.{StoreError}
 use Rattle.mtn_history.specs.declared.errors.StoreError.TheVariants.{Failed, Damaged, NoMemory}
 use Rattle.mtn_history.specs.declared.errors.HistoryError.{HistoryError}
 use Rattle.mtn_history.specs.declared.errors.HistoryError.TheVariants.{Store}
 use Rattle.mtn_history.specs.declared.pending.Pending.{Pending}
-use Rattle.mtn_history.specs.Damage.{IsDamage}
+use Rattle.mtn_history.specs.Damage.{IsBad, IsDamage}
 use Rattle.mtn_history.specs.Errors.{IfDamage, IfStoreDamage}
-use Rattle.mtn_history.specs.Logs.{IsLogged, UnloggedAt}
+use Rattle.mtn_history.specs.Logs.{IsHeldAt, IsLogged, IsLogOf, IsReadTo, UnloggedAt}
 use Rattle.mtn_history.specs.Marked.{AreHeld, IsCounted}
 use Rattle.mtn_history.specs.Meta.{Counted, IsMetaOf, count_key}
-use Rattle.mtn_history.specs.Places.{IsPlaced, UnplacedBelow}
-use Rattle.mtn_history.specs.Rosters.{IsRebuilt, IsRosterHeld, UnmadeBelow}
+use Rattle.mtn_history.specs.Places.{IsFoundAt, IsPlaced, UnplacedBelow}
+use Rattle.mtn_history.specs.Rosters.{IsChainDown, IsRebuilt, IsRosterHeld, IsRosterThere, Rebuilds, UnmadeBelow}
+use Rattle.mtn_records.specs.declared.record.RosterRecord.{RosterRecord}
+use Rattle.mtn_records.specs.declared.record.RosterRecord.TheVariants.{Whole, Delta}
+use Rattle.mtn_history.specs.declared.rosters.Rebuilt.{Rebuilt}
 use Rattle.mtn_history.specs.Stands.{Stands, StandsFor, IsNew, IsDraft, IsFounded}
 use Rattle.mtn_history.proofs.Founding.{founded, told_of, own, counted, grown, texts_of, log_of, rosters_of}
-use Rattle.mtn_history.proofs.LogLemmas.{there, read_is}
+use Rattle.mtn_history.proofs.LogLemmas.{there, there_kept, read_is, read_tells}
+use Rattle.mtn_history.proofs.TextLemmas.{behind, text_found, text_missing}
 use Rattle.mtn_history.proofs.MetaLemmas.{held_count, held_version, none_held, told_back, opened_by}
 use Rattle.mtn_history.proofs.PlaceLemmas.{placed_is}
 use Rattle.mtn_history.proofs.RosterLemmas.{rebuilt_is}
@@ -61,6 +71,49 @@ module _ (f : List ℕ → List ℕ) (told : Option Contents) (p : Pending) (s :
       let is = read_is (own f told p s d) d.stands.history d.stands.kept (grown f told p s d) d.stands.revisions.long (log_of f told p s d) r log
       (told_of told d.records (λ c. IsLogged (with_all c p.batch) r log) d.tells found) low in
       (t.0, t.3, sym is.0)
+
+  pub graph_is : (entries : List LogEntry) → IfSome told (λ c. IsReadTo (with_all c p.batch) p.count entries) → Tells d.stands.history entries
+  graph_is entries read =
+      read_tells (own f told p s d) d.stands.history d.stands.kept (grown f told p s d) d.stands.revisions.long (log_of f told p s d) entries
+      (subst (λ n. IsReadTo (own f told p s d) n entries) (counted f told p s d) (told_of told d.records (λ c. IsReadTo (with_all c p.batch) p.count entries) d.tells read))
+
+  pub log_is : (r : ℕ) (log : LogRecord) → IfSome told (λ c. IsLogged (with_all c p.batch) r log) → r < p.count → IsLogOf d.stands.history d.stands.kept r log
+  log_is r log found lt =
+      let low : r < length d.stands.history = subst (λ n. r < n) (counted f told p s d) lt in
+      let t = there (own f told p s d) d.stands.history d.stands.kept (grown f told p s d) d.stands.revisions.long (log_of f told p s d) r low in
+      let is = read_is (own f told p s d) d.stands.history d.stands.kept (grown f told p s d) d.stands.revisions.long (log_of f told p s d) r log
+      (told_of told d.records (λ c. IsLogged (with_all c p.batch) r log) d.tells found) low in
+      record {
+        revision = t.0;
+        stands = t.3;
+        kept = t.1;
+        beside = there_kept (own f told p s d) d.stands.history d.stands.kept (grown f told p s d) d.stands.revisions.long (log_of f told p s d) r low;
+        id = is.0;
+        next = is.2;
+        parents = is.1;
+      }
+
+  pub found_text : (id : Id) (at : Option ℕ) (text : List ℕ) → IfSome told (λ c. IsPlaced (with_all c p.batch) p.count id at text) → text_under s.log id.0 ≡ option_map (λ _. text) at
+  found_text id None text found = text_missing s.log (own f told p s d 3) id.0 (texts_of f told p s d) (told_of told d.records (λ c. IsPlaced (with_all c p.batch) p.count id None text) d.tells found)
+  found_text id (Some r) text found =
+      let is = told_of told d.records (λ c. IsPlaced (with_all c p.batch) p.count id (Some r) text) d.tells found in
+      (text_found s.log (own f told p s d 3) id.0 (number_text r ++ text) (texts_of f told p s d) is.0).1 ∙ ap Some (behind r text)
+
+  fits : p.count < 2 ^ 64
+  fits = omega (arith, d.count, log_is_short f s.files s.log d.stands.history d.stands.spelled)
+
+  -- the same of what a call answers
+  pub placed_found : (id : Id) (r : Result (Option ℕ) StoreError) (text : List ℕ) → IfSome told (λ c. IfOk r (λ at. IsPlaced (with_all c p.batch) p.count id at text)) → IfOk r (λ at. IsFoundAt s d.stands.history id at text)
+  placed_found id (Err e) text read = tt
+  placed_found id (Ok at) text read = (place_is id at text fits read, found_text id at text read)
+
+  pub log_found : (at : ℕ) (r : Result LogRecord StoreError) → IfSome told (λ c. IfOk r (IsLogged (with_all c p.batch) at)) → at < p.count → IfOk r (IsLogOf d.stands.history d.stands.kept at)
+  log_found at (Err e) read lt = tt
+  log_found at (Ok log) read lt = log_is at log read lt
+
+  pub roster_found : {X : Type 0} (at : ℕ) (r : Result X StoreError) (value : X → Rebuilt) → IfSome told (λ c. IfOk r (λ x. Rebuilds (with_all c p.batch) at (value x))) → at < p.count → IfOk r (λ x. IsMarkedAt d.stands.history at (value x).roster)
+  roster_found at (Err e) value read lt = tt
+  roster_found at (Ok x) value read lt = marked_is at (value x).entries (value x).roster (value x).depth lt read
 
 -- the place of a revision is below the count
 pub below_count : (told : Option Contents) (f : List ℕ → List ℕ) (p : Pending) (s : State) (d : IsFounded f told p s) (id : Id) (r : ℕ) (text : List ℕ) →
@@ -116,17 +169,40 @@ founded_stands f told c p s tells counts stands =
     let o = opened_by p.is_new p.count f (with_all c p.batch) s counts stands in
     founded f told c p s tells (record { count = o.0; stands = o.1 })
 
+-- a record that is there is shown
+pub roster_bad : (c : Contents) (r : ℕ) (d : Damage) → IsRosterThere c r → IsRosterHeld c r d → IsBad d
+roster_bad c r (Bad table key body) there held = tt
+roster_bad c r (Missing table key) there held = absurd (let none : is_some (body_at c 5 (number_text r)) ≡ false = ap is_some (ap (body_at c 5) (sym held.1) ∙ held.2) in cc)
+
+pub log_bad : (c : Contents) (r : ℕ) (log : LogRecord) (d : Damage) → IsLogged c r log → IsHeldAt c r d → IsBad d
+log_bad c r log (Bad table key body) read held = tt
+log_bad c r log (Missing table key) read held = absurd (let both : None ≡ Some read.body = sym held.2 ∙ ap (body_at c 4) held.1 ∙ read.held in cc)
+
+-- a roster that was rebuilt has its record
+pub is_there : (told : Option Contents) (p : Pending) (r : ℕ) (x : Rebuilt) → IfSome told (λ c. Rebuilds (with_all c p.batch) r x) → IfSome told (λ c. IsRosterThere (with_all c p.batch) r)
+is_there None p r x is = tt
+is_there (Some c) p r x is = by is.chain is.down
+  where
+    by : (chain : List RosterRecord) → IsChainDown (with_all c p.batch) r chain → IsRosterThere (with_all c p.batch) r
+    by [] down = absurd down
+    by (Whole es ∷ rest) down = ap is_some down.0.held
+    by (Delta base depth gone changed ∷ rest) down = ap is_some down.0.held
+
 -- a position that no state's log has
-pub past_damage : (told : Option Contents) (p : Pending) (r at : ℕ) (e : StoreError) → p.count ≤ at → IfSome told (λ c. IfDamage e (IsRosterHeld (with_all c p.batch) r)) →
-    IfSome told (λ c. IsCounted p c → AreHeld told p (at ∷ []) → IfDamage e (IsDamage (with_all c p.batch)))
-past_damage None p r at e far held = tt
-past_damage (Some c) p r at Failed far held = λ counts known. tt
-past_damage (Some c) p r at NoMemory far held = λ counts known. tt
-past_damage (Some c) p r at (Damaged d) far held = λ counts known.
+pub past_damage : (told : Option Contents) (p : Pending) (r at : ℕ) (e : StoreError) → r < p.count → IfSome told (λ c. IsRosterThere (with_all c p.batch) r) → p.count ≤ at →
+    IfSome told (λ c. IfDamage e (IsRosterHeld (with_all c p.batch) r)) → IfSome told (λ c. IsCounted p c → AreHeld told p (at ∷ []) → IfDamage e (IsDamage (with_all c p.batch)))
+past_damage None p r at e low there far held = tt
+past_damage (Some c) p r at Failed low there far held = λ counts known. tt
+past_damage (Some c) p r at NoMemory low there far held = λ counts known. tt
+past_damage (Some c) p r at (Damaged d) low there far held = λ counts known.
     inr (inr (inr (inr (inr (record {
+      count = p.count;
+      counted = counted_some p.is_new (with_all c p.batch) p.count counts (not_none p.count r low);
       place = r;
+      below = low;
+      bad = roster_bad (with_all c p.batch) r d there held;
       held = inr held;
-      unfit = λ f s stands. let low : at < p.count = known f s (founded_stands f (Some c) c p s refl counts stands) at (0, omega arith, refl) in omega (arith, low, far);
+      unfit = λ f s stands. let lt : at < p.count = known f s (founded_stands f (Some c) c p s refl counts stands) at (0, omega arith, refl) in omega (arith, lt, far);
     })))))
 
 -- the count of a draft is what its records say

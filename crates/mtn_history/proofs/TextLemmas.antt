@@ -57,7 +57,7 @@ none_of [] id never = refl
 none_of (m ∷ log) id never = none_by m log id (same_bytes m.id id) refl (never 0 m refl) (none_of log id (λ r l at same. never (suc r) l at same))
 
 -- behind the eight bytes of a position stands the text
-behind : (r : ℕ) (text : List ℕ) → drop 8 (number_text r ++ text) ≡ text
+pub behind : (r : ℕ) (text : List ℕ) → drop 8 (number_text r ++ text) ≡ text
 behind r text = search rules
 
 long : (r : ℕ) (text : List ℕ) → 8 ≤ length (number_text r ++ text)

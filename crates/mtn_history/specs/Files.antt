@@ -1,7 +1,7 @@
 -- Files: what the calls answer.
-use Rattle.std.specs.Prelude.{◌≡◌, ℕ, List, Some, None, Result, Ok, Err}
+use Rattle.std.specs.Prelude.{◌≡◌, ℕ, List, Some, None, Result, Ok, Err, Bool, MatchBool, IsSome}
 use Rattle.std.specs.FinMap.{get}
-use Rattle.mtn_model.specs.Table.{Contents}
+use Rattle.mtn_model.specs.Table.{Contents, body_at}
 use Rattle.mtn_model.specs.State.{State}
 use Rattle.mtn_base.specs.declared.id.Id.{Id}
 use Rattle.mtn_base.specs.declared.refusal.Cause.TheVariants.{UnknownFile}
@@ -23,3 +23,7 @@ abbrev pub FindsFile : State → Id → Result (Unit {0}) HistoryError → List 
 FindsFile s id (Ok done) out = get s.files id.0 ≡ Some out
 FindsFile s id (Err (Refused cause)) out = (cause ≡ UnknownFile id) × (get s.files id.0 ≡ None)
 FindsFile s id (Err (Store e)) out = IfDamage e (λ _. ⊥)
+
+-- whether a file is held under an id
+abbrev pub IsFileHeld : Contents → Id → Bool → Type 0
+IsFileHeld c id held = MatchBool held (IsSome (body_at c 2 id.0)) (body_at c 2 id.0 ≡ None)

@@ -1,3 +1,4 @@
+pub mod Asking
 pub mod Cache
 pub mod Damage
 pub mod Drafts

@@ -1,5 +1,7 @@
 -- The log: what is read of table 4, what it tells, and what is damage.
 use Rattle.std.specs.Prelude.{◌≡◌, ◌<◌, ◌⊎◌, ℕ, List, length, Some, None, slice_get}
+use Rattle.mtn_ancestry.specs.Log.{list_of}
+use Rattle.mtn_history_laws.specs.History.{Revision}
 use Rattle.mtn_ancestry.specs.declared.pos.LogEntry.{LogEntry}
 use Rattle.mtn_model.specs.Table.{Contents, body_at}
 use Rattle.mtn_records.specs.Bounds.{IsLogAt}
@@ -8,12 +10,23 @@ use Rattle.mtn_records.specs.declared.record.LogRecord.{LogRecord}
 use Rattle.mtn_history.specs.declared.errors.Damage.{Damage}
 use Rattle.mtn_history.specs.declared.errors.Damage.TheVariants.{Bad, Missing}
 use Rattle.mtn_history.specs.Meta.{Counted}
+use Rattle.mtn_history.specs.Revisions.{Kept}
 
 -- the record of table 4 at a position
 pub record IsLogged (c : Contents) (r : ℕ) (log : LogRecord) : Type 0 where
   pub body : List ℕ
   pub held : body_at c 4 (number_text r) ≡ Some body
   pub text : IsLogAt r body log
+
+-- the record is what is kept of the revision at a position
+pub record IsLogOf (h : List Revision) (ks : List Kept) (r : ℕ) (log : LogRecord) : Type 0 where
+  pub revision : Revision
+  pub stands : slice_get h r ≡ Some revision
+  pub kept : Kept
+  pub beside : slice_get ks r ≡ Some kept
+  pub id : log.id ≡ revision.id
+  pub next : log.next_node ≡ kept.next
+  pub parents : list_of log.parents ≡ revision.parents
 
 -- what stands at a position is no record of the log, or nothing does
 abbrev pub UnloggedAt : Contents → ℕ → Damage → Type 0

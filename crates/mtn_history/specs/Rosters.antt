@@ -1,5 +1,5 @@
 -- Rosters: what is read of table 5, and what is damage.
-use Rattle.std.specs.Prelude.{◌≡◌, ◌<◌, ◌+◌, ◌⊎◌, length, ℕ, List, [], ◌∷◌, reverse, Option, Some, None}
+use Rattle.std.specs.Prelude.{◌≡◌, ◌<◌, ◌+◌, ◌⊎◌, length, ℕ, List, [], ◌∷◌, reverse, Option, Some, None, IsSome}
 use Rattle.mtn_roster_deltas.specs.Chain.{Entries, rebuilt}
 use Rattle.mtn_roster_deltas.specs.Spelled.{Spells}
 use Rattle.mtn_marking.specs.Marking.{MarkedTree}
@@ -40,6 +40,10 @@ UnrosteredAt c r (Missing table key) = (table ≡ 5) × (key ≡ number_text r) 
 abbrev pub IsRosterHeld : Contents → ℕ → Damage → Type 0
 IsRosterHeld c r (Bad table key body) = (table ≡ 5) × (key ≡ number_text r) × (body_at c 5 key ≡ Some body)
 IsRosterHeld c r (Missing table key) = (table ≡ 5) × (key ≡ number_text r) × (body_at c 5 key ≡ None)
+
+-- there is a record at a position
+abbrev pub IsRosterThere : Contents → ℕ → Type 0
+IsRosterThere c r = IsSome (body_at c 5 (number_text r))
 
 -- the record at a position and those below it give no tree with marks
 abbrev pub UnrebuiltAt : Contents → ℕ → Damage → Type 0

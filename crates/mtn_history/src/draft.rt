@@ -1,8 +1,9 @@
 // A keeper with pending records.
-ghost use Rattle.std.specs.Prelude.{◌≡◌, ◌<◌, ◌≤◌, ◌+◌, ◌^◌, ◌++◌, false, Err, IfOk, IfErr, IfSome, OnOk, OnErr};
-ghost use Rattle.mtn_model.specs.Table.{body_at};
+ghost use Rattle.std.specs.Prelude.{◌≡◌, ◌<◌, ◌≤◌, ◌+◌, ◌^◌, ◌++◌, false, Err, IfOk, IfErr, IfSome, IsSome, IsTrue, OnOk, OnErr};
+ghost use Rattle.mtn_model.specs.Table.{Contents, body_at};
 ghost use Rattle.mtn_ports.specs.Causes.{Rose};
-ghost use Rattle.mtn_ports.specs.Kept.{Stays, IsBody, with_all};
+ghost use Rattle.mtn_ports.specs.Kept.{IsBody, with_all};
+ghost use Rattle.mtn_history.specs.Asking.{OnlyAsks};
 ghost use Rattle.mtn_history.specs.Errors.{IfDamage};
 ghost use Rattle.mtn_history.specs.Marked.{IsCounted};
 ghost use Rattle.mtn_history.specs.Memory.{Knows};
@@ -91,13 +92,11 @@ impl<'a, K: Keeper> Draft<'a, K> {
     /// Replaces `out` by the body under a key, of the pending records or else of the keeper's. After
     /// `false` or an error `out` may hold anything.
     pub fn get(&mut self, table: u8, key: &[u8], out: &mut Vec<u8>) -> Result<bool, StoreError>
-        ensures same_reference { self.new.keeper.ghost_name ≡ self.old.keeper.ghost_name }
-        ensures stays { Stays K.contents K.leaves K.faults self.old.keeper.now self.new.keeper.now }
-        ensures pending { self.new.pending ≡ self.old.pending }
+        ensures asks { OnlyAsks K.contents K.leaves K.faults K.reads 1 self.old self.new }
+
         ensures found { IfSome (K.contents self.new.keeper.now) (λ c. IfOk result (λ found. IsBody (body_at (with_all c self.old.pending.batch) table key.now) found out.new.items)) }
         ensures failed { result ≡ Err StoreError.Failed → Rose (K.faults self.old.keeper.now) (K.faults self.new.keeper.now) }
         ensures damaged { IfErr result (λ e. IfDamage e (λ _. ⊥)) }
-        ensures reads { K.reads self.new.keeper.now ≤ K.reads self.old.keeper.now + 1 }
     {
         if let Some(body) = self.pending.batch.find(table, key) {
             out.clear();
@@ -105,6 +104,28 @@ impl<'a, K: Keeper> Draft<'a, K> {
             return Ok(true);
         }
         Ok(self.keeper.get(table, key, out)?)
+    }
+
+    /// Whether a record is pending under a key.
+    pub(crate) fn is_pending(&self, table: u8, key: &[u8]) -> bool
+        ensures there { (c : Contents) → IsTrue result → IsSome (body_at (with_all c self.now.pending.batch) table key.now) }
+        ensures not_there { (c : Contents) → result ≡ false → body_at (with_all c self.now.pending.batch) table key.now ≡ body_at c table key.now }
+    {
+        self.pending.batch.find(table, key).is_some()
+    }
+
+    /// Whether the record that follows in a table just below a key of twenty bytes is that of the key. Its body is not read.
+    pub(crate) fn follows(&mut self, table: u8, key: &[u8; 20]) -> Result<bool, StoreError>
+        ensures asks { OnlyAsks K.contents K.leaves K.faults K.reads 1 self.old self.new }
+
+        ensures found { IfSome (K.contents self.new.keeper.now) (λ c. IfOk result (λ found. IsTrue found → IsSome (body_at c table key.now))) }
+        ensures failed { result ≡ Err StoreError.Failed → Rose (K.faults self.old.keeper.now) (K.faults self.new.keeper.now) }
+        ensures damaged { IfErr result (λ e. IfDamage e (λ _. ⊥)) }
+    {
+        let (below, len) = just_below(key);
+        let mut next = Vec::new(self.alloc());
+        let found = self.keeper.next(table, &below[..len], &mut next)?;
+        Ok(found && next.as_slice() == key.as_slice())
     }
 
     /// Puts a file's record, behind both records of table 1 where there are none. An error leaves all as it was.
@@ -182,4 +203,16 @@ impl<'a, K: Keeper> Draft<'a, K> {
     {
         self.pending.count
     }
+}
+
+// What stands just below a key of twenty bytes among keys of twenty, and how many of these bytes it has.
+fn just_below(key: &[u8; 20]) -> ([u8; 20], usize)
+    ensures { result.1 ≤ 20 }
+{
+    let mut below = *key;
+    if below[19] == 0 {
+        return (below, 19);
+    }
+    below[19] -= 1;
+    (below, 20)
 }

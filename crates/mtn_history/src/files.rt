@@ -1,11 +1,12 @@
 // Files, kept and found.
-ghost use Rattle.std.specs.Prelude.{◌≡◌, List, ℕ, Some, Err, IfErr, OnErr};
+ghost use Rattle.std.specs.Prelude.{◌≡◌, ◌≤◌, ◌+◌, List, ℕ, Some, Err, IfOk, IfErr, IfSome, OnErr};
 ghost use Rattle.mtn_model.specs.Table.{Contents};
 ghost use Rattle.mtn_model.specs.State.{State};
 ghost use Rattle.mtn_ports.specs.Causes.{Rose};
-ghost use Rattle.mtn_ports.specs.Kept.{Stays};
-ghost use Rattle.mtn_history.specs.Errors.{IfStoreDamage};
-ghost use Rattle.mtn_history.specs.Files.{AcceptsFile, FindsFile};
+ghost use Rattle.mtn_ports.specs.Kept.{Stays, with_all};
+ghost use Rattle.mtn_history.specs.Asking.{OnlyAsks};
+ghost use Rattle.mtn_history.specs.Errors.{IfDamage, IfStoreDamage};
+ghost use Rattle.mtn_history.specs.Files.{AcceptsFile, FindsFile, IsFileHeld};
 ghost use Rattle.mtn_history.specs.Stands.{IsDraft};
 
 use crate::{Draft, FILES, HistoryError, StoreError};
@@ -24,6 +25,7 @@ impl<'a, K: Keeper> Draft<'a, K> {
         ensures err { OnErr result (self.new.pending ≡ self.old.pending) }
         ensures sound { IfErr result (λ e. IfStoreDamage e (λ _. ⊥)) }
         ensures failed { result ≡ Err (HistoryError.Store StoreError.Failed) → Rose (K.faults self.old.keeper.now) (K.faults self.new.keeper.now) }
+        ensures reads { K.reads self.new.keeper.now ≤ K.reads self.old.keeper.now + 1 }
     {
         if bytes.len() > MAX_TEXT {
             return Err(HistoryError::Refused(Cause::TextTooLong {
@@ -43,14 +45,33 @@ impl<'a, K: Keeper> Draft<'a, K> {
         Ok(id)
     }
 
+    /// Whether a file is held under an id. Its bytes are not read: where it is held it asks for one record, and else for two.
+    pub fn has_file(&mut self, id: Id) -> Result<bool, StoreError>
+        ensures asks { OnlyAsks K.contents K.leaves K.faults K.reads 2 self.old self.new }
+
+        ensures found { IfSome (K.contents self.new.keeper.now) (λ c. IfOk result (IsFileHeld (with_all c self.old.pending.batch) id)) }
+        ensures failed { result ≡ Err StoreError.Failed → Rose (K.faults self.old.keeper.now) (K.faults self.new.keeper.now) }
+        ensures sound { IfErr result (λ e. IfDamage e (λ _. ⊥)) }
+    {
+        if self.is_pending(FILES, id.0.as_slice()) {
+            return Ok(true);
+        }
+        if self.follows(FILES, &id.0)? {
+            return Ok(true);
+        }
+        let mut body = Vec::new(self.alloc());
+        self.get(FILES, id.0.as_slice(), &mut body)
+    }
+
     /// Replaces `out` by the bytes of a file; UnknownFile where none is held under the id. After an
     /// error `out` may hold anything. What is pending stays.
     pub fn file(&mut self, id: Id, out: &mut Vec<u8>) -> Result<(), HistoryError>
         ensures same_reference { self.new.keeper.ghost_name ≡ self.old.keeper.ghost_name }
         ensures stays { Stays K.contents K.leaves K.faults self.old.keeper.now self.new.keeper.now }
+        ensures pending { self.new.pending ≡ self.old.pending }
+        ensures reads { K.reads self.new.keeper.now ≤ K.reads self.old.keeper.now + 1 }
         ensures finds { (f : List ℕ → List ℕ) (c : Contents) (s : State) → K.contents self.new.keeper.now ≡ Some c → IsDraft f c self.old.pending s
             → FindsFile s id result out.new.items }
-        ensures pending { self.new.pending ≡ self.old.pending }
         ensures sound { IfErr result (λ e. IfStoreDamage e (λ _. ⊥)) }
         ensures failed { result ≡ Err (HistoryError.Store StoreError.Failed) → Rose (K.faults self.old.keeper.now) (K.faults self.new.keeper.now) }
     {

@@ -1,10 +1,14 @@
 // The log, and the graph that it tells.
-ghost use Rattle.std.specs.Prelude.{◌≡◌, ◌≤◌, ◌+◌, Err, IfOk, IfErr, IfSome};
+ghost use Rattle.std.specs.Prelude.{◌≡◌, ◌<◌, ◌≤◌, ◌+◌, List, ℕ, Err, IfOk, IfErr, IfSome};
+ghost use Rattle.mtn_replay.specs.Graphs.{Tells};
+ghost use Rattle.mtn_model.specs.State.{State};
 ghost use Rattle.mtn_ports.specs.Causes.{Rose};
 ghost use Rattle.mtn_ports.specs.Kept.{Stays, with_all};
 ghost use Rattle.mtn_records.specs.Bounds.{IsLogWithin};
+ghost use Rattle.mtn_history.specs.Asking.{OnlyAsks};
 ghost use Rattle.mtn_history.specs.Errors.{IfDamage};
-ghost use Rattle.mtn_history.specs.Logs.{IsHeldAt, IsLogged, UnloggedAt, WrongBelow, IsReadTo};
+ghost use Rattle.mtn_history.specs.Logs.{IsHeldAt, IsLogged, IsLogOf, UnloggedAt, WrongBelow, IsReadTo};
+ghost use Rattle.mtn_history.specs.Stands.{IsFounded};
 
 use crate::damaged::{bad, missing};
 use crate::{Draft, LOG, StoreError};
@@ -15,14 +19,12 @@ use mtn_records::{LogRecord, read_log};
 impl<'a, K: Keeper> Draft<'a, K> {
     /// The log's record at a position. It asks for one record.
     pub fn logged(&mut self, at: Pos) -> Result<LogRecord, StoreError>
-        ensures same_reference { self.new.keeper.ghost_name ≡ self.old.keeper.ghost_name }
-        ensures stays { Stays K.contents K.leaves K.faults self.old.keeper.now self.new.keeper.now }
-        ensures pending { self.new.pending ≡ self.old.pending }
+        ensures asks { OnlyAsks K.contents K.leaves K.faults K.reads 1 self.old self.new }
+
         ensures read { IfSome (K.contents self.new.keeper.now) (λ c. IfOk result (IsLogged (with_all c self.old.pending.batch) at)) }
         ensures below { IfOk result (IsLogWithin at) }
         ensures damaged { IfSome (K.contents self.new.keeper.now) (λ c. IfErr result (λ e. IfDamage e (UnloggedAt (with_all c self.old.pending.batch) at))) }
         ensures failed { result ≡ Err StoreError.Failed → Rose (K.faults self.old.keeper.now) (K.faults self.new.keeper.now) }
-        ensures reads { K.reads self.new.keeper.now ≤ K.reads self.old.keeper.now + 1 }
     {
         let key = at.0.to_be_bytes();
         let mut body = Vec::new(self.alloc());
@@ -37,14 +39,12 @@ impl<'a, K: Keeper> Draft<'a, K> {
 
     // The log's record at a position, read and remembered.
     fn read_log_at(&mut self, at: Pos) -> Result<LogRecord, StoreError>
-        ensures same_reference { self.new.keeper.ghost_name ≡ self.old.keeper.ghost_name }
-        ensures stays { Stays K.contents K.leaves K.faults self.old.keeper.now self.new.keeper.now }
-        ensures pending { self.new.pending ≡ self.old.pending }
+        ensures asks { OnlyAsks K.contents K.leaves K.faults K.reads 1 self.old self.new }
+
         ensures read { IfSome (K.contents self.new.keeper.now) (λ c. IfOk result (IsLogged (with_all c self.old.pending.batch) at)) }
         ensures below { IfOk result (IsLogWithin at) }
         ensures damaged { IfSome (K.contents self.new.keeper.now) (λ c. IfErr result (λ e. IfDamage e (UnloggedAt (with_all c self.old.pending.batch) at))) }
         ensures failed { result ≡ Err StoreError.Failed → Rose (K.faults self.old.keeper.now) (K.faults self.new.keeper.now) }
-        ensures reads { K.reads self.new.keeper.now ≤ K.reads self.old.keeper.now + 1 }
     {
         let log = self.logged(at)?;
         if at.0 < self.count() {
@@ -53,16 +53,16 @@ impl<'a, K: Keeper> Draft<'a, K> {
         Ok(log)
     }
 
-    /// The log's record at a position, which is remembered: it asks for one record where this was not called before.
+    /// The log's record at a position, which is remembered: it asks for one record where this was not called before. Over
+    /// records that stand for a state it is that of the revision there.
     pub fn log_at(&mut self, at: Pos) -> Result<LogRecord, StoreError>
-        ensures same_reference { self.new.keeper.ghost_name ≡ self.old.keeper.ghost_name }
-        ensures stays { Stays K.contents K.leaves K.faults self.old.keeper.now self.new.keeper.now }
-        ensures pending { self.new.pending ≡ self.old.pending }
+        ensures asks { OnlyAsks K.contents K.leaves K.faults K.reads 1 self.old self.new }
+
         ensures read { IfSome (K.contents self.new.keeper.now) (λ c. IfOk result (IsLogged (with_all c self.old.pending.batch) at)) }
+        ensures found { (f : List ℕ → List ℕ) (s : State) (d : IsFounded f (K.contents self.new.keeper.now) self.old.pending s) → at < self.old.pending.count → IfOk result (IsLogOf d.stands.history d.stands.kept at) }
         ensures below { IfOk result (IsLogWithin at) }
         ensures damaged { IfSome (K.contents self.new.keeper.now) (λ c. IfErr result (λ e. IfDamage e (UnloggedAt (with_all c self.old.pending.batch) at))) }
         ensures failed { result ≡ Err StoreError.Failed → Rose (K.faults self.old.keeper.now) (K.faults self.new.keeper.now) }
-        ensures reads { K.reads self.new.keeper.now ≤ K.reads self.old.keeper.now + 1 }
     {
         match self.recall_log(at) {
             Some(log) => Ok(log),
@@ -72,9 +72,8 @@ impl<'a, K: Keeper> Draft<'a, K> {
 
     /// The log's record at a position, shown as it is: it has the id of an earlier one, or a number that no history has.
     pub fn log_held(&mut self, at: Pos) -> StoreError
-        ensures same_reference { self.new.keeper.ghost_name ≡ self.old.keeper.ghost_name }
-        ensures stays { Stays K.contents K.leaves K.faults self.old.keeper.now self.new.keeper.now }
-        ensures pending { self.new.pending ≡ self.old.pending }
+        ensures asks { OnlyAsks K.contents K.leaves K.faults K.reads 1 self.old self.new }
+
         ensures damaged { IfSome (K.contents self.new.keeper.now) (λ c. IfDamage result (IsHeldAt (with_all c self.old.pending.batch) at)) }
         ensures failed { result ≡ StoreError.Failed → Rose (K.faults self.old.keeper.now) (K.faults self.new.keeper.now) }
     {
@@ -87,12 +86,15 @@ impl<'a, K: Keeper> Draft<'a, K> {
         }
     }
 
-    /// The graph that the log tells. It asks for each record of the log once.
+    /// The graph that the log tells. It asks for each record of the log once. Over records that stand for a state it is that
+    /// of the history.
     pub fn graph(&mut self) -> Result<Graph, StoreError>
         ensures same_reference { self.new.keeper.ghost_name ≡ self.old.keeper.ghost_name }
         ensures stays { Stays K.contents K.leaves K.faults self.old.keeper.now self.new.keeper.now }
         ensures pending { self.new.pending ≡ self.old.pending }
+        ensures reads { K.reads self.new.keeper.now ≤ K.reads self.old.keeper.now + (self.old.pending.count + 1) }
         ensures read { IfSome (K.contents self.new.keeper.now) (λ c. IfOk result (IsReadTo (with_all c self.old.pending.batch) self.old.pending.count)) }
+        ensures found { (f : List ℕ → List ℕ) (s : State) (d : IsFounded f (K.contents self.new.keeper.now) self.old.pending s) → IfOk result (Tells d.stands.history) }
         ensures damaged { IfSome (K.contents self.new.keeper.now) (λ c. IfErr result (λ e. IfDamage e (WrongBelow self.old.pending.count (with_all c self.old.pending.batch)))) }
         ensures failed { result ≡ Err StoreError.Failed → Rose (K.faults self.old.keeper.now) (K.faults self.new.keeper.now) }
     {

@@ -1,13 +1,15 @@
 // Rosters by the ids of their revisions, and the ids of what marks name.
-ghost use Rattle.std.specs.Prelude.{◌≡◌, ◌∷◌, [], List, ℕ, Err, IfOk, IfErr, IfSome};
+ghost use Rattle.std.specs.Prelude.{◌≡◌, ◌<◌, ◌≤◌, ◌+◌, ◌∷◌, [], List, ℕ, length, Err, IfOk, IfErr, IfSome, OnOk};
 ghost use Rattle.std.specs.List.{AllZip};
 ghost use Rattle.mtn_history_laws.specs.History.{IsPlaceOf};
 ghost use Rattle.mtn_model.specs.State.{State};
 ghost use Rattle.mtn_ports.specs.Causes.{Rose};
-ghost use Rattle.mtn_ports.specs.Kept.{Stays, with_all};
+ghost use Rattle.mtn_ports.specs.Kept.{with_all};
 ghost use Rattle.mtn_history.specs.Damage.{IsDamage};
+ghost use Rattle.mtn_history.specs.Asking.{OnlyAsks};
 ghost use Rattle.mtn_history.specs.Errors.{IfDamage, IfStoreDamage};
 ghost use Rattle.mtn_history.specs.Marked.{AreHeld, FindsRoster, IsCounted};
+ghost use Rattle.mtn_history.specs.Rosters.{IsRosterThere};
 ghost use Rattle.mtn_history.specs.Stands.{IsFounded};
 
 use crate::rosters::Rebuilt;
@@ -52,10 +54,12 @@ impl<'a, K: Keeper> Draft<'a, K> {
     /// Where a revision stands, and its roster with the marks; UnknownRevision where the log has no such id. It asks for the
     /// record of its text and, where the roster is not remembered, at most sixteen of rosters.
     pub fn roster_of(&mut self, id: Id) -> Result<(Pos, SharedRoster), HistoryError>
-        ensures same_reference { self.new.keeper.ghost_name ≡ self.old.keeper.ghost_name }
-        ensures stays { Stays K.contents K.leaves K.faults self.old.keeper.now self.new.keeper.now }
-        ensures pending { self.new.pending ≡ self.old.pending }
+        ensures asks { OnlyAsks K.contents K.leaves K.faults K.reads 18 self.old self.new }
+
         ensures found { (f : List ℕ → List ℕ) (s : State) (d : IsFounded f (K.contents self.new.keeper.now) self.old.pending s) → FindsRoster d.stands.history id result }
+        ensures below { IfOk result (λ r. r.0 < self.old.pending.count) }
+        ensures there { IfSome (K.contents self.new.keeper.now) (λ c. IfOk result (λ r. IsRosterThere (with_all c self.old.pending.batch) r.0)) }
+        ensures few { OnOk result (K.reads self.new.keeper.now ≤ K.reads self.old.keeper.now + 17) }
         ensures damaged { IfSome (K.contents self.new.keeper.now) (λ c. IsCounted self.old.pending c → IfErr result (λ e. IfStoreDamage e (IsDamage (with_all c self.old.pending.batch)))) }
         ensures failed { result ≡ Err (HistoryError.Store StoreError.Failed) → Rose (K.faults self.old.keeper.now) (K.faults self.new.keeper.now) }
     {
@@ -73,9 +77,10 @@ impl<'a, K: Keeper> Draft<'a, K> {
     // The id of the revision at a position that the roster at another names; a position that the log does not have is
     // damage of that roster.
     fn id_at(&mut self, roster: Pos, at: Pos) -> Result<Id, StoreError>
-        ensures same_reference { self.new.keeper.ghost_name ≡ self.old.keeper.ghost_name }
-        ensures stays { Stays K.contents K.leaves K.faults self.old.keeper.now self.new.keeper.now }
-        ensures pending { self.new.pending ≡ self.old.pending }
+        requires below { roster < self.old.pending.count }
+        requires there { IfSome (K.contents self.old.keeper.now) (λ c. IsRosterThere (with_all c self.old.pending.batch) roster) }
+        ensures asks { OnlyAsks K.contents K.leaves K.faults K.reads 1 self.old self.new }
+
         ensures found { (f : List ℕ → List ℕ) (s : State) (d : IsFounded f (K.contents self.new.keeper.now) self.old.pending s) → IfOk result (λ id. IsPlaceOf d.stands.history id at) }
         ensures damaged { IfSome (K.contents self.new.keeper.now) (λ c. IsCounted self.old.pending c → AreHeld (K.contents self.new.keeper.now) self.old.pending (at ∷ [])
             → IfErr result (λ e. IfDamage e (IsDamage (with_all c self.old.pending.batch)))) }
@@ -89,9 +94,10 @@ impl<'a, K: Keeper> Draft<'a, K> {
 
     /// The ids of the revisions at positions that the roster at another names, in their order. It asks for a record for each.
     pub fn ids_at(&mut self, roster: Pos, places: &[Pos]) -> Result<Vec<Id>, StoreError>
-        ensures same_reference { self.new.keeper.ghost_name ≡ self.old.keeper.ghost_name }
-        ensures stays { Stays K.contents K.leaves K.faults self.old.keeper.now self.new.keeper.now }
-        ensures pending { self.new.pending ≡ self.old.pending }
+        requires below { roster < self.old.pending.count }
+        requires there { IfSome (K.contents self.old.keeper.now) (λ c. IsRosterThere (with_all c self.old.pending.batch) roster) }
+        ensures asks { OnlyAsks K.contents K.leaves K.faults K.reads (length places.now) self.old self.new }
+
         ensures found { (f : List ℕ → List ℕ) (s : State) (d : IsFounded f (K.contents self.new.keeper.now) self.old.pending s) → IfOk result (λ ids. AllZip (λ at id. IsPlaceOf d.stands.history id at) places.now ids.items) }
         ensures damaged { IfSome (K.contents self.new.keeper.now) (λ c. IsCounted self.old.pending c → AreHeld (K.contents self.new.keeper.now) self.old.pending places.now
             → IfErr result (λ e. IfDamage e (IsDamage (with_all c self.old.pending.batch)))) }

@@ -1,10 +1,14 @@
 // The rosters that records give.
-ghost use Rattle.std.specs.Prelude.{◌≡◌, ◌+◌, option_map, Err, IfOk, IfErr, IfSome};
+ghost use Rattle.std.specs.Prelude.{◌≡◌, ◌<◌, ◌≤◌, ◌+◌, List, ℕ, option_map, Err, IfOk, IfErr, IfSome, OnOk};
+ghost use Rattle.mtn_marking.specs.Graph.{IsMarkedAt};
+ghost use Rattle.mtn_model.specs.State.{State};
 ghost use Rattle.mtn_ports.specs.Causes.{Rose};
-ghost use Rattle.mtn_ports.specs.Kept.{Stays, with_all};
+ghost use Rattle.mtn_ports.specs.Kept.{with_all};
 ghost use Rattle.mtn_records.specs.Bounds.{IsWithin};
+ghost use Rattle.mtn_history.specs.Asking.{OnlyAsks};
 ghost use Rattle.mtn_history.specs.Errors.{IfDamage};
 ghost use Rattle.mtn_history.specs.Rosters.{IsRostered, IsChainOf, IsRosterHeld, UnrosteredAt, UnmadeBelow, Rebuilds, base_of as base_in};
+ghost use Rattle.mtn_history.specs.Stands.{IsFounded};
 
 use crate::damaged::{bad, missing};
 use crate::{Draft, ROSTERS, StoreError};
@@ -34,9 +38,8 @@ struct Chain {
 impl<'a, K: Keeper> Draft<'a, K> {
     // The roster's record at a position.
     fn rostered(&mut self, at: Pos) -> Result<RosterRecord, StoreError>
-        ensures same_reference { self.new.keeper.ghost_name ≡ self.old.keeper.ghost_name }
-        ensures stays { Stays K.contents K.leaves K.faults self.old.keeper.now self.new.keeper.now }
-        ensures pending { self.new.pending ≡ self.old.pending }
+        ensures asks { OnlyAsks K.contents K.leaves K.faults K.reads 1 self.old self.new }
+
         ensures read { IfSome (K.contents self.new.keeper.now) (λ c. IfOk result (IsRostered (with_all c self.old.pending.batch) at)) }
         ensures below { IfOk result (IsWithin at) }
         ensures damaged { IfSome (K.contents self.new.keeper.now) (λ c. IfErr result (λ e. IfDamage e (UnrosteredAt (with_all c self.old.pending.batch) at))) }
@@ -56,9 +59,8 @@ impl<'a, K: Keeper> Draft<'a, K> {
 
     /// The roster's record at a position, shown as it is: with what it says no history goes on.
     pub fn roster_held(&mut self, at: Pos) -> StoreError
-        ensures same_reference { self.new.keeper.ghost_name ≡ self.old.keeper.ghost_name }
-        ensures stays { Stays K.contents K.leaves K.faults self.old.keeper.now self.new.keeper.now }
-        ensures pending { self.new.pending ≡ self.old.pending }
+        ensures asks { OnlyAsks K.contents K.leaves K.faults K.reads 1 self.old self.new }
+
         ensures damaged { IfSome (K.contents self.new.keeper.now) (λ c. IfDamage result (IsRosterHeld (with_all c self.old.pending.batch) at)) }
         ensures failed { result ≡ StoreError.Failed → Rose (K.faults self.old.keeper.now) (K.faults self.new.keeper.now) }
     {
@@ -73,9 +75,8 @@ impl<'a, K: Keeper> Draft<'a, K> {
 
     // The records from a position down to a whole one. None where there are more than a chain may have.
     fn chain(&mut self, at: Pos) -> Result<Option<Chain>, StoreError>
-        ensures same_reference { self.new.keeper.ghost_name ≡ self.old.keeper.ghost_name }
-        ensures stays { Stays K.contents K.leaves K.faults self.old.keeper.now self.new.keeper.now }
-        ensures pending { self.new.pending ≡ self.old.pending }
+        ensures asks { OnlyAsks K.contents K.leaves K.faults K.reads 16 self.old self.new }
+
         ensures read { IfSome (K.contents self.new.keeper.now) (λ c. IfOk result (λ chain. IsChainOf (with_all c self.old.pending.batch) at (option_map (λ x. (x.records.items, x.depth)) chain))) }
         ensures damaged { IfSome (K.contents self.new.keeper.now) (λ c. IfErr result (λ e. IfDamage e (UnmadeBelow (at + 1) (with_all c self.old.pending.batch)))) }
         ensures failed { result ≡ Err StoreError.Failed → Rose (K.faults self.old.keeper.now) (K.faults self.new.keeper.now) }
@@ -102,10 +103,10 @@ impl<'a, K: Keeper> Draft<'a, K> {
 
     // A revision's roster, rebuilt from its records.
     fn rebuilt_at(&mut self, at: Pos) -> Result<Rebuilt, StoreError>
-        ensures same_reference { self.new.keeper.ghost_name ≡ self.old.keeper.ghost_name }
-        ensures stays { Stays K.contents K.leaves K.faults self.old.keeper.now self.new.keeper.now }
-        ensures pending { self.new.pending ≡ self.old.pending }
+        ensures asks { OnlyAsks K.contents K.leaves K.faults K.reads 17 self.old self.new }
+
         ensures rebuilt { IfSome (K.contents self.new.keeper.now) (λ c. IfOk result (Rebuilds (with_all c self.old.pending.batch) at)) }
+        ensures few { OnOk result (K.reads self.new.keeper.now ≤ K.reads self.old.keeper.now + 16) }
         ensures damaged { IfSome (K.contents self.new.keeper.now) (λ c. IfErr result (λ e. IfDamage e (UnmadeBelow (at + 1) (with_all c self.old.pending.batch)))) }
         ensures failed { result ≡ Err StoreError.Failed → Rose (K.faults self.old.keeper.now) (K.faults self.new.keeper.now) }
     {
@@ -125,10 +126,10 @@ impl<'a, K: Keeper> Draft<'a, K> {
 
     // The same, and it is remembered.
     fn read_roster_at(&mut self, at: Pos) -> Result<Rc<Rebuilt>, StoreError>
-        ensures same_reference { self.new.keeper.ghost_name ≡ self.old.keeper.ghost_name }
-        ensures stays { Stays K.contents K.leaves K.faults self.old.keeper.now self.new.keeper.now }
-        ensures pending { self.new.pending ≡ self.old.pending }
+        ensures asks { OnlyAsks K.contents K.leaves K.faults K.reads 17 self.old self.new }
+
         ensures rebuilt { IfSome (K.contents self.new.keeper.now) (λ c. IfOk result (λ r. Rebuilds (with_all c self.old.pending.batch) at r.value)) }
+        ensures few { OnOk result (K.reads self.new.keeper.now ≤ K.reads self.old.keeper.now + 16) }
         ensures damaged { IfSome (K.contents self.new.keeper.now) (λ c. IfErr result (λ e. IfDamage e (UnmadeBelow (at + 1) (with_all c self.old.pending.batch)))) }
         ensures failed { result ≡ Err StoreError.Failed → Rose (K.faults self.old.keeper.now) (K.faults self.new.keeper.now) }
     {
@@ -140,12 +141,13 @@ impl<'a, K: Keeper> Draft<'a, K> {
     }
 
     /// A revision's roster. One of those that were read or accepted last is remembered; else it asks for at most sixteen
-    /// records.
+    /// records. Over records that stand for a state it is that of the history.
     pub fn roster_at(&mut self, at: Pos) -> Result<Rc<Rebuilt>, StoreError>
-        ensures same_reference { self.new.keeper.ghost_name ≡ self.old.keeper.ghost_name }
-        ensures stays { Stays K.contents K.leaves K.faults self.old.keeper.now self.new.keeper.now }
-        ensures pending { self.new.pending ≡ self.old.pending }
+        ensures asks { OnlyAsks K.contents K.leaves K.faults K.reads 17 self.old self.new }
+
+        ensures found { (f : List ℕ → List ℕ) (s : State) (d : IsFounded f (K.contents self.new.keeper.now) self.old.pending s) → at < self.old.pending.count → IfOk result (λ r. IsMarkedAt d.stands.history at r.value.roster) }
         ensures rebuilt { IfSome (K.contents self.new.keeper.now) (λ c. IfOk result (λ r. Rebuilds (with_all c self.old.pending.batch) at r.value)) }
+        ensures few { OnOk result (K.reads self.new.keeper.now ≤ K.reads self.old.keeper.now + 16) }
         ensures damaged { IfSome (K.contents self.new.keeper.now) (λ c. IfErr result (λ e. IfDamage e (UnmadeBelow (at + 1) (with_all c self.old.pending.batch)))) }
         ensures failed { result ≡ Err StoreError.Failed → Rose (K.faults self.old.keeper.now) (K.faults self.new.keeper.now) }
     {

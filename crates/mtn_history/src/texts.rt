@@ -1,5 +1,5 @@
 // Texts of revisions, found.
-ghost use Rattle.std.specs.Prelude.{◌≡◌, ◌++◌, ◌≤◌, List, ℕ, Some, Err, drop, length, IfErr, IfSome, OnErr};
+ghost use Rattle.std.specs.Prelude.{◌≡◌, ◌+◌, ◌++◌, ◌≤◌, List, ℕ, Some, Err, drop, length, IfErr, IfSome, OnErr};
 ghost use Rattle.mtn_model.specs.Table.{Contents};
 ghost use Rattle.mtn_model.specs.State.{State};
 ghost use Rattle.mtn_ports.specs.Causes.{Rose};
@@ -22,9 +22,10 @@ impl<'a, K: Keeper> Draft<'a, K> {
     pub fn text_of(&mut self, id: Id, out: &mut Vec<u8>) -> Result<(), HistoryError>
         ensures same_reference { self.new.keeper.ghost_name ≡ self.old.keeper.ghost_name }
         ensures stays { Stays K.contents K.leaves K.faults self.old.keeper.now self.new.keeper.now }
+        ensures pending { self.new.pending ≡ self.old.pending }
+        ensures reads { K.reads self.new.keeper.now ≤ K.reads self.old.keeper.now + 1 }
         ensures finds { (f : List ℕ → List ℕ) (c : Contents) (s : State) → K.contents self.new.keeper.now ≡ Some c → IsDraft f c self.old.pending s
             → FindsText s id result out.new.items }
-        ensures pending { self.new.pending ≡ self.old.pending }
         ensures damaged { IfSome (K.contents self.new.keeper.now) (λ c. IfErr result (λ e. IfStoreDamage e (TextDamage (with_all c self.old.pending.batch)))) }
         ensures failed { result ≡ Err (HistoryError.Store StoreError.Failed) → Rose (K.faults self.old.keeper.now) (K.faults self.new.keeper.now) }
     {

@@ -19,7 +19,7 @@ use Rattle.mtn_make_roster.specs.declared.basis.Uncommon.{Uncommon}
 use Rattle.mtn_marking.specs.Graph.{IsMarkedAt}
 use Rattle.mtn_marking.specs.Marking.{MarkedTree}
 use Rattle.mtn_put_revision.specs.Keeping.{AreKeptAt, AreOn, AreParents, IsFirstDepth}
-use Rattle.mtn_put_revision.specs.declared.over.Fresh.{Fresh}
+use Rattle.mtn_put_revision.specs.declared.over.NewRevision.{NewRevision}
 
 place : List Revision → Edge → Option ℕ
 place h e = option_and_then (place_of h) e.parent
@@ -122,7 +122,7 @@ pub record HasKept (h : List Revision) (ks : List Kept) (at : ℕ) (es : Entries
   pub marked : IsMarkedAt h at t
   pub deep : depth ≡ kept.depth
 
-pub one_basis : (h : List Revision) (ks : List Kept) (fresh : Fresh) (places : List ℕ) (at : ℕ) (es : Entries) (t : MarkedTree) (depth : ℕ) → AreEdges fresh.read.now.edges → AreOn h fresh places → places ≡ at ∷ [] →
+pub one_basis : (h : List Revision) (ks : List Kept) (fresh : NewRevision) (places : List ℕ) (at : ℕ) (es : Entries) (t : MarkedTree) (depth : ℕ) → AreEdges fresh.read.now.edges → AreOn h fresh places → places ≡ at ∷ [] →
     HasKept h ks at es t depth → (e : Edge) × (fresh.read.now.edges ≡ e ∷ []) × IsParentAt h e at t × AreParents h ks fresh.read.now.edges places (es ∷ []) depth
 one_basis h ks fresh places at es t depth lawful on one has =
     let shape = one_shape h fresh.read.now.edges at lawful on.known (sym one ∙ on.stand) in (
@@ -136,7 +136,7 @@ one_basis h ks fresh places at es t depth lawful on one has =
       },
     )
 
-pub two_basis : (h : List Revision) (ks : List Kept) (fresh : Fresh) (places : List ℕ) (left right : ℕ) (es gs : Entries) (t u : MarkedTree) (depth below : ℕ) (only_left only_right : Uncommon) →
+pub two_basis : (h : List Revision) (ks : List Kept) (fresh : NewRevision) (places : List ℕ) (left right : ℕ) (es gs : Entries) (t u : MarkedTree) (depth below : ℕ) (only_left only_right : Uncommon) →
     AreEdges fresh.read.now.edges → AreOn h fresh places → places ≡ left ∷ right ∷ [] → HasKept h ks left es t depth → HasKept h ks right gs u below → AreUncommonIn h left right only_left → AreUncommonIn h right left only_right →
     (e : Edge) × (g : Edge) × (fresh.read.now.edges ≡ e ∷ g ∷ []) × AreTwoParents h e g t u only_left only_right × AreParents h ks fresh.read.now.edges places (es ∷ gs ∷ []) depth
 two_basis h ks fresh places left right es gs t u depth below only_left only_right lawful on two first second lefts rights =
@@ -152,7 +152,7 @@ two_basis h ks fresh places left right es gs t u depth below only_left only_righ
       },
     )
 
-pub root_basis : (h : List Revision) (ks : List Kept) (fresh : Fresh) (places : List ℕ) → AreEdges fresh.read.now.edges → AreOn h fresh places → places ≡ [] →
+pub root_basis : (h : List Revision) (ks : List Kept) (fresh : NewRevision) (places : List ℕ) → AreEdges fresh.read.now.edges → AreOn h fresh places → places ≡ [] →
     (e : Edge) × (fresh.read.now.edges ≡ e ∷ []) × (e.parent ≡ None) × AreParents h ks fresh.read.now.edges places [] 0
 root_basis h ks fresh places lawful on none =
     let shape = root_shape h fresh.read.now.edges lawful on.known (sym none ∙ on.stand) in (

@@ -12,7 +12,7 @@ use Rattle.mtn_changeset_laws.specs.Changes.{or_else}
 use Rattle.mtn_history_laws.specs.History.{Revision}
 use Rattle.mtn_replay.specs.Lawful.{IsHistory, Spells}
 use Rattle.mtn_replay.specs.Making.{place_of, log_full, unknown_parent, refusal_of}
-use Rattle.mtn_replay.proofs.Places.{place_has, place_within, within}
+use Rattle.mtn_replay.proofs.Places.{inside, place_has, place_within, within}
 use Rattle.mtn_model.specs.State.{Logged, State}
 use Rattle.mtn_model.specs.Table.{Table, Contents, body_at}
 use Rattle.mtn_ports.specs.Kept.{with_all}
@@ -32,11 +32,11 @@ use Rattle.mtn_history.specs.declared.errors.StoreError.TheVariants.{Failed, Dam
 use Rattle.mtn_history.specs.declared.pending.Pending.{Pending}
 use Rattle.mtn_history.proofs.Founding.{founded, told_of}
 use Rattle.mtn_history.proofs.MetaLemmas.{opened_by}
-use Rattle.mtn_put_revision.specs.Accepting.{AcceptsRevision, IsHeld}
+use Rattle.mtn_put_revision.specs.Accepting.{AcceptsRevision, IsCollided, IsHeld}
 use Rattle.mtn_replay.specs.Accepting.{Decides, refusal_beside, logged_beside}
 use Rattle.mtn_put_revision.specs.Finding.{IsFound, IsRefusal, made_refusal_of}
 use Rattle.mtn_put_revision.specs.Keeping.{Accepts, AcceptsNew, IsSpelled, with_text}
-use Rattle.mtn_put_revision.specs.declared.over.Fresh.{Fresh}
+use Rattle.mtn_put_revision.specs.declared.over.NewRevision.{NewRevision}
 use Rattle.mtn_put_revision.proofs.Grounds.{never_found}
 
 -- a log with room
@@ -60,7 +60,7 @@ refused_made f files h new r room known =
 pub err_refused : {T : Type 0} (result : Result T HistoryError) (a b : Option Cause) → a ≡ b → IfErr result (IsRefusal a) → IfErr result (IsRefusal b)
 err_refused result a b is h = subst (λ o. IfErr result (IsRefusal o)) is h
 
-pub accepted_new : {T : Type 0} (result : Result T HistoryError) (f : List ℕ → List ℕ) (c : Contents) (s : State) (h : List Revision) (fresh : Fresh) (p : Pending) → log_full h ≡ None → unknown_parent h fresh.read.now.edges ≡ None →
+pub accepted_new : {T : Type 0} (result : Result T HistoryError) (f : List ℕ → List ℕ) (c : Contents) (s : State) (h : List Revision) (fresh : NewRevision) (p : Pending) → log_full h ≡ None → unknown_parent h fresh.read.now.edges ≡ None →
     OnOk result (Accepts f c s h fresh p) → OnOk result (AcceptsNew f c s h fresh p)
 accepted_new (Ok x) f c s h fresh p room known a = record { fine = refused_made f s.files h fresh.id fresh.read.now room known ∙ a.fine; draft = a.draft }
 accepted_new (Err e) f c s h fresh p room known a = tt
@@ -107,11 +107,43 @@ decided f s text r h held refusal short spells is under answer = inr (inr (recor
   after = ap (λ o. logged_beside o f s text) (sym under);
 }))
 
-pub unheld_text : (s : State) (id : Id) (text : List ℕ) (b : Bool) → IsHeld s id text (Ok b) → b ≡ false → text_under s.log id.0 ≡ None
-unheld_text s id text true is e = absurd cc
-unheld_text s id text false is e = is
+-- what was looked for under the id
+pub none_under : (s : State) (id : Id) (text : List ℕ) (o : Option Bool) → IsHeld s id text (Ok o) → o ≡ None → text_under s.log id.0 ≡ None
+none_under s id text None is e = is
+none_under s id text (Some b) is e = absurd cc
 
-module _ (f : List ℕ → List ℕ) (told : Option Contents) (c : Contents) (p : Pending) (s : State) (tells : told ≡ Some c) (draft : IsDraft f c p s) (text : List ℕ) (short : length text ≤ 67108864) (r : Spelled) (spells : Spells text r) (id : Id) (named : id.0 ≡ f text) where
+pub same_under : (s : State) (id : Id) (text : List ℕ) (o : Option Bool) (b : Bool) → IsHeld s id text (Ok o) → o ≡ Some b → b ≡ true → text_under s.log id.0 ≡ Some text
+same_under s id text None b is e t = absurd cc
+same_under s id text (Some true) b is e t = is
+same_under s id text (Some false) b is e t = absurd cc
+
+pub other_under : (s : State) (id : Id) (text : List ℕ) (o : Option Bool) (b : Bool) → IsHeld s id text (Ok o) → o ≡ Some b → b ≡ false → IsHeld s id text (Ok (Some false))
+other_under s id text None b is e t = absurd cc
+other_under s id text (Some true) b is e t = absurd cc
+other_under s id text (Some false) b is e t = is
+
+-- a text that the log has spells a revision
+find_at_by : {X : Type 0} (test : X → Bool) (y x : X) (ys : List X) (b : Bool) → cond b (Some y) (find test ys) ≡ Some x → (find test ys ≡ Some x → (k : ℕ) × (slice_get ys k ≡ Some x)) → (k : ℕ) × (slice_get (y ∷ ys) k ≡ Some x)
+find_at_by test y x ys true e rest = (0, e)
+find_at_by test y x ys false e rest = let o = rest e in (suc o.0, o.1)
+
+find_at : {X : Type 0} (test : X → Bool) (xs : List X) (x : X) → find test xs ≡ Some x → (k : ℕ) × (slice_get xs k ≡ Some x)
+find_at test [] x found = absurd cc
+find_at test (y ∷ ys) x found = find_at_by test y x ys (test y) found (find_at test ys x)
+
+held_spells : (f : List ℕ → List ℕ) (files : Table) (log : List Logged) (h : List Revision) (id text : List ℕ) → IsHistory f files log h → text_under log id ≡ Some text → (r : Spelled) × Spells text r
+held_spells f files log h id text is under = by (find (λ (l : Logged). same_bytes l.id id) log) refl under
+  where
+    by : (o : Option Logged) → find (λ (l : Logged). same_bytes l.id id) log ≡ o → option_map (λ (l : Logged). l.text) o ≡ Some text → (r : Spelled) × Spells text r
+    by None found e = absurd cc
+    by (Some l) found e =
+        let at = find_at (λ (x : Logged). same_bytes x.id id) log l found in
+        let v = within h at.0 (subst (λ n. at.0 < n) (sym is.long) (inside log at.0 l at.1)) in
+        let next = is.each at.0 l v.0 at.1 v.1 in
+        let same : l.text ≡ text = cc in
+        (next.read, subst (λ (t : List ℕ). Spells t next.read) same next.spells)
+
+module _ (f : List ℕ → List ℕ) (told : Option Contents) (c : Contents) (p : Pending) (s : State) (tells : told ≡ Some c) (draft : IsDraft f c p s) (text : List ℕ) (short : length text ≤ 67108864) (id : Id) (named : id.0 ≡ f text) where
   abbrev d : IsFounded f told p s
   d = founded f told c p s tells draft
 
@@ -119,46 +151,49 @@ module _ (f : List ℕ → List ℕ) (told : Option Contents) (c : Contents) (p 
   under o e = ap (text_under s.log) (sym named) ∙ e
 
   -- another text is held
-  pub held_other : (e : HistoryError) (q : Pending) → IsHeld s id text (Err e) → AcceptsRevision f c s text (Err e) q
-  held_other (Store x) q is = is
-  held_other (Refused cause) q is = (
+  pub held_other : (e : HistoryError) (q : Pending) → IsHeld s id text (Ok (Some false)) → IsCollided id text e → AcceptsRevision f c s text (Err e) q
+  held_other (Store Failed) q is why = tt
+  held_other (Store NoMemory) q is why = tt
+  held_other (Store (Damaged x)) q is why = absurd cc
+  held_other (Refused cause) q is (inl w) = (s, inr (inl (record { short = short; fault = w.0; faulty = w.1; cause = cause; named = w.2; is = refl })))
+  held_other (Refused cause) q is (inr w) = (
     s,
-    decided f s text r d.stands.history (Some is.0) (Some cause) short spells d.stands.spelled (under (Some is.0) is.1)
-        (ap Some is.3 ∙ ap (λ (i : Id). Some (Collision i)) (ap id_of named) ∙ sym (ap (λ b. cond b None (Some (Collision (id_of (f text))))) is.2)),
+    decided f s text w.0 d.stands.history (Some is.0) (Some cause) short w.1 d.stands.spelled (under (Some is.0) is.1)
+        (ap Some w.2 ∙ ap (λ (i : Id). Some (Collision i)) (ap id_of named) ∙ sym (ap (λ b. cond b None (Some (Collision (id_of (f text))))) is.2)),
   )
 
   -- the same text is held
-  pub held_same : (b : Bool) (q : Pending) → IsHeld s id text (Ok b) → b ≡ true → q ≡ p → AcceptsRevision f c s text (Ok id) q
-  held_same false q is e same = absurd cc
-  held_same true q is e same = (
-    named,
-    (
-      s,
-      decided f s text r d.stands.history (Some text) None short spells d.stands.spelled (under (Some text) is)
-          (sym (ap (λ b. cond b None (Some (Collision (id_of (f text))))) ((bytes_eq-Decides text text).1 refl))),
-      subst (λ (x : Pending). IsDraft f c x s) (sym same) draft,
-    ),
-  )
+  pub held_same : (q : Pending) → text_under s.log id.0 ≡ Some text → q ≡ p → AcceptsRevision f c s text (Ok id) q
+  held_same q is same =
+      let r = held_spells f s.files s.log d.stands.history id.0 text d.stands.spelled is in (
+        named,
+        (
+          s,
+          decided f s text r.0 d.stands.history (Some text) None short r.1 d.stands.spelled (under (Some text) is)
+              (sym (ap (λ b. cond b None (Some (Collision (id_of (f text))))) ((bytes_eq-Decides text text).1 refl))),
+          subst (λ (x : Pending). IsDraft f c x s) (sym same) draft,
+        ),
+      )
 
   -- it is new, and refused
-  pub new_refused : (b : Bool) (e : HistoryError) (q : Pending) → IsHeld s id text (Ok b) → b ≡ false → IsRefusal (refusal_of f s.files d.stands.history id r) e → IfSome told (λ x. IfStoreDamage e (IsFound told p (with_all x p.batch))) →
+  pub new_refused : (r : Spelled) → Spells text r → (e : HistoryError) (q : Pending) → text_under s.log id.0 ≡ None → IsRefusal (refusal_of f s.files d.stands.history id r) e → IfSome told (λ x. IfStoreDamage e (IsFound told p (with_all x p.batch))) →
       AcceptsRevision f c s text (Err e) q
-  new_refused b (Store Failed) q is unheld refusal found = tt
-  new_refused b (Store NoMemory) q is unheld refusal found = tt
-  new_refused b (Store (Damaged x)) q is unheld refusal found = never_found f told p s d x (told_of told c (λ y. IsFound told p (with_all y p.batch) x) tells found)
-  new_refused b (Refused cause) q is unheld refusal found = (
+  new_refused r spells (Store Failed) q unheld refusal found = tt
+  new_refused r spells (Store NoMemory) q unheld refusal found = tt
+  new_refused r spells (Store (Damaged x)) q unheld refusal found = never_found f told p s d x (told_of told c (λ y. IsFound told p (with_all y p.batch) x) tells found)
+  new_refused r spells (Refused cause) q unheld refusal found = (
     record s { log = s.log ++ record { id = f text; text = text } ∷ [] },
-    decided f s text r d.stands.history None (Some cause) short spells d.stands.spelled (under None (unheld_text s id text b is unheld))
+    decided f s text r d.stands.history None (Some cause) short spells d.stands.spelled (under None unheld)
         (sym refusal ∙ ap (λ (i : Id). refusal_of f s.files d.stands.history i r) (ap id_of named)),
   )
 
   -- it is new, and accepted
-  pub new_accepted : (b : Bool) (q : Pending) → IsHeld s id text (Ok b) → b ≡ false → refusal_of f s.files d.stands.history id r ≡ None → IsDraft f c q (with_text s (record { id = id.0; text = text })) → AcceptsRevision f c s text (Ok id) q
-  new_accepted b q is unheld fine kept = (
+  pub new_accepted : (r : Spelled) → Spells text r → (q : Pending) → text_under s.log id.0 ≡ None → refusal_of f s.files d.stands.history id r ≡ None → IsDraft f c q (with_text s (record { id = id.0; text = text })) → AcceptsRevision f c s text (Ok id) q
+  new_accepted r spells q unheld fine kept = (
     named,
     (
       record s { log = s.log ++ record { id = f text; text = text } ∷ [] },
-      decided f s text r d.stands.history None None short spells d.stands.spelled (under None (unheld_text s id text b is unheld))
+      decided f s text r d.stands.history None None short spells d.stands.spelled (under None unheld)
           (sym fine ∙ ap (λ (i : Id). refusal_of f s.files d.stands.history i r) (ap id_of named)),
       subst (λ (i : List ℕ). IsDraft f c q (with_text s (record { id = i; text = text }))) named kept,
     ),
@@ -176,7 +211,11 @@ found_damage told c p x tells meta (inr (inr (inl w))) = inr (inr (inr (inl (rec
 found_damage told c p x tells meta (inr (inr (inr u))) =
     let same : u.records ≡ c = one told u.records c u.tells tells in
     inr (inr (inr (inr (inr (record {
+      count = p.count;
+      counted = below_counted (with_all c p.batch) p.is_new p.count u.place meta u.below;
       place = u.place;
+      below = u.below;
+      bad = u.bad;
       held = subst (λ (y : Contents). IsHeldAt (with_all y p.batch) u.place x ⊎ IsRosterHeld (with_all y p.batch) u.place x) same u.held;
       unfit = λ f s stands. let o = opened_by p.is_new p.count f (with_all c p.batch) s meta stands in u.unfit f s (founded f told c p s tells (record { count = o.0; stands = o.1 }));
     })))))
@@ -193,8 +232,8 @@ error_damage (Some c) p (Store NoMemory) h = λ meta. tt
 error_damage (Some c) p (Store (Damaged x)) h = λ meta. found_damage (Some c) c p x refl meta h
 
 -- a new text accepted over a draft, under an equal name of what was pending
-abbrev pub NewAccepted : (List ℕ → List ℕ) → Option Contents → Pending → Fresh → Pending → Type 0
+abbrev pub NewAccepted : (List ℕ → List ℕ) → Option Contents → Pending → NewRevision → Pending → Type 0
 NewAccepted f told q fresh after = (s : State) → (d : IsFounded f told q s) → IsSpelled f fresh → AcceptsNew f d.records s d.stands.history fresh after
 
-pub moved_new : (f : List ℕ → List ℕ) (told : Option Contents) (p q : Pending) → p ≡ q → (fresh : Fresh) (after : Pending) → NewAccepted f told p fresh after → NewAccepted f told q fresh after
+pub moved_new : (f : List ℕ → List ℕ) (told : Option Contents) (p q : Pending) → p ≡ q → (fresh : NewRevision) (after : Pending) → NewAccepted f told p fresh after → NewAccepted f told q fresh after
 moved_new f told p q is fresh after h = subst (λ (x : Pending). NewAccepted f told x fresh after) is h

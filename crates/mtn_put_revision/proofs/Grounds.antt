@@ -12,10 +12,12 @@ use Rattle.mtn_model.specs.Table.{Contents}
 use Rattle.mtn_ports.specs.Kept.{Same, with_all}
 use Rattle.mtn_records.specs.declared.record.LogRecord.{LogRecord}
 use Rattle.mtn_history.specs.Errors.{IfDamage}
-use Rattle.mtn_history.specs.Logs.{IsLogged, IsHeldAt}
+use Rattle.mtn_history.specs.Logs.{IsLogged, IsHeldAt, UnloggedAt}
 use Rattle.mtn_history.specs.Places.{IsPlaced}
 use Rattle.mtn_history.specs.Revisions.{Kept, next_from, next_of}
-use Rattle.mtn_history.specs.Rosters.{IsRebuilt, IsRosterHeld, UnmadeBelow}
+use Rattle.mtn_history.specs.Rosters.{IsRebuilt, IsRosterHeld, IsRosterThere, UnmadeBelow}
+use Rattle.mtn_history.specs.Damage.{IsBad}
+use Rattle.mtn_history.proofs.MarkedLemmas.{log_bad, roster_bad}
 use Rattle.mtn_history.specs.Stands.{IsFounded}
 use Rattle.mtn_history.specs.declared.errors.Damage.{Damage}
 use Rattle.mtn_history.specs.declared.errors.StoreError.{StoreError}
@@ -100,14 +102,11 @@ unmade_found (Some c) p at NoMemory lt h = tt
 unmade_found (Some c) p at (Damaged x) lt h = inr (inr (inl (record { place = h.place; below = omega (arith, h.below, lt); wrong = h.wrong })))
 
 -- a record that is held, of records that stand for no state
-unfit_of : (told : Option Contents) (c : Contents) (p : Pending) (r : ℕ) (x : Damage) → told ≡ Some c → IsHeldAt (with_all c p.batch) r x ⊎ IsRosterHeld (with_all c p.batch) r x → IsUnfounded told p → IsFound told p (with_all c p.batch) x
-unfit_of told c p r x tells held unfit = inr (inr (inr (record { place = r; records = c; tells = tells; held = held; unfit = unfit })))
-
-unfit_error : (told : Option Contents) (c : Contents) (p : Pending) (r : ℕ) (e : StoreError) (Held : Damage → Type 0) → told ≡ Some c → ((x : Damage) → Held x → IsHeldAt (with_all c p.batch) r x ⊎ IsRosterHeld (with_all c p.batch) r x) →
-    IsUnfounded told p → IfDamage e Held → IfDamage e (IsFound told p (with_all c p.batch))
-unfit_error told c p r Failed Held tells by unfit h = tt
-unfit_error told c p r NoMemory Held tells by unfit h = tt
-unfit_error told c p r (Damaged x) Held tells by unfit h = unfit_of told c p r x tells (by x h) unfit
+unfit_error : (told : Option Contents) (c : Contents) (p : Pending) (r : ℕ) (e : StoreError) (Held : Damage → Type 0) → told ≡ Some c → r < p.count → ((x : Damage) → Held x → IsBad x) →
+    ((x : Damage) → Held x → IsHeldAt (with_all c p.batch) r x ⊎ IsRosterHeld (with_all c p.batch) r x) → IsUnfounded told p → IfDamage e Held → IfDamage e (IsFound told p (with_all c p.batch))
+unfit_error told c p r Failed Held tells low bad by unfit h = tt
+unfit_error told c p r NoMemory Held tells low bad by unfit h = tt
+unfit_error told c p r (Damaged x) Held tells low bad by unfit h = inr (inr (inr (record { place = r; below = low; bad = bad x h; records = c; tells = tells; held = by x h; unfit = unfit })))
 
 -- a fact of what was pending, of what is pending under an equal name
 pub moved : (P : Pending → Type 0) (p q : Pending) → p ≡ q → P p → P q
@@ -121,10 +120,21 @@ back_plain f old new p q s is same d = back f old new p s same d
 pub unfounded_on : (old new : Option Contents) (p : Pending) → Same old new → IsUnfounded old p → IsUnfounded new p
 unfounded_on old new p same unfit f s d = unfit f s (back f old new p s same d)
 
-pub unfit_log : (told : Option Contents) (p : Pending) (r : ℕ) (e : StoreError) → IsUnfounded told p → IfSome told (λ c. IfDamage e (IsHeldAt (with_all c p.batch) r)) → IfSome told (λ c. IfDamage e (IsFound told p (with_all c p.batch)))
-unfit_log None p r e unfit h = tt
-unfit_log (Some c) p r e unfit h = unfit_error (Some c) c p r e (IsHeldAt (with_all c p.batch) r) refl (λ x held. inl held) unfit h
+pub unfit_log : (told : Option Contents) (p : Pending) (r : ℕ) (log : LogRecord) (e : StoreError) → r < p.count → IfSome told (λ c. IsLogged (with_all c p.batch) r log) → IsUnfounded told p →
+    IfSome told (λ c. IfDamage e (IsHeldAt (with_all c p.batch) r)) → IfSome told (λ c. IfDamage e (IsFound told p (with_all c p.batch)))
+unfit_log None p r log e low read unfit h = tt
+unfit_log (Some c) p r log e low read unfit h =
+    unfit_error (Some c) c p r e (IsHeldAt (with_all c p.batch) r) refl low (λ x held. log_bad (with_all c p.batch) r log x read held) (λ x held. inl held) unfit h
 
-pub unfit_roster : (told : Option Contents) (p : Pending) (r : ℕ) (e : StoreError) → IsUnfounded told p → IfSome told (λ c. IfDamage e (IsRosterHeld (with_all c p.batch) r)) → IfSome told (λ c. IfDamage e (IsFound told p (with_all c p.batch)))
-unfit_roster None p r e unfit h = tt
-unfit_roster (Some c) p r e unfit h = unfit_error (Some c) c p r e (IsRosterHeld (with_all c p.batch) r) refl (λ x held. inr held) unfit h
+pub unfit_roster : (told : Option Contents) (p : Pending) (r : ℕ) (e : StoreError) → r < p.count → IfSome told (λ c. IsRosterThere (with_all c p.batch) r) → IsUnfounded told p →
+    IfSome told (λ c. IfDamage e (IsRosterHeld (with_all c p.batch) r)) → IfSome told (λ c. IfDamage e (IsFound told p (with_all c p.batch)))
+unfit_roster None p r e low there unfit h = tt
+unfit_roster (Some c) p r e low there unfit h =
+    unfit_error (Some c) c p r e (IsRosterHeld (with_all c p.batch) r) refl low (λ x held. roster_bad (with_all c p.batch) r x there held) (λ x held. inr held) unfit h
+
+-- a record of the log that is none is one that was found
+pub unlogged_found : (told : Option Contents) (p : Pending) (at : ℕ) (e : StoreError) → at < p.count → IfSome told (λ c. IfDamage e (UnloggedAt (with_all c p.batch) at)) → IfSome told (λ c. IfDamage e (IsFound told p (with_all c p.batch)))
+unlogged_found None p at e lt h = tt
+unlogged_found (Some c) p at Failed lt h = tt
+unlogged_found (Some c) p at NoMemory lt h = tt
+unlogged_found (Some c) p at (Damaged x) lt h = inr (inl (record { place = at; below = lt; wrong = inl h }))

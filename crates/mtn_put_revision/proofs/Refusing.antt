@@ -19,7 +19,7 @@ use Rattle.mtn_model.specs.Table.{Table}
 use Rattle.mtn_roster.specs.Tree.{Tree}
 use Rattle.mtn_put_revision.specs.Finding.{made_refusal_of}
 use Rattle.mtn_put_revision.specs.Keeping.{IsNew}
-use Rattle.mtn_put_revision.specs.declared.over.Fresh.{Fresh}
+use Rattle.mtn_put_revision.specs.declared.over.NewRevision.{NewRevision}
 
 six : {X : Type 0} (a b c d rest : Option X) → or_else (or_else a b) (or_else c d) ≡ None → or_else a (or_else b (or_else c (or_else d rest))) ≡ rest
 six None None None None rest e = refl
@@ -85,7 +85,7 @@ not_same a b test told is e = by (bytes_eq a.0 b.0) told (sym is ∙ e)
     by false false h = absurd cc
 
 -- a new text that nothing refuses is the next of the log
-pub next_of_new : (f : List ℕ → List ℕ) (files : Table) (h : List Revision) (fresh : Fresh) → IsNew f h fresh → made_refusal_of f files h fresh.id fresh.read.now ≡ None →
+pub next_of_new : (f : List ℕ → List ℕ) (files : Table) (h : List Revision) (fresh : NewRevision) → IsNew f h fresh → made_refusal_of f files h fresh.id fresh.read.now ≡ None →
     IsNext f files h (record { id = fresh.id.0; text = fresh.text.now }) (made h fresh.id fresh.read.now.edges)
 next_of_new f files h fresh new fine = record {
   short = new.short;

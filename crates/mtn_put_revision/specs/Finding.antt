@@ -1,5 +1,5 @@
 -- What the calls behind `put_revision` find: the parents, what each has alone, and the damages on the way.
-use Rattle.std.specs.Prelude.{◌≡◌, ◌⊎◌, ◌↔◌, IsTrue, Contains, ℕ, List, Option, Some, None, is_none, find, filter_map, option_and_then, if◌then◌else◌}
+use Rattle.std.specs.Prelude.{◌≡◌, ◌<◌, ◌⊎◌, ◌↔◌, IsTrue, Contains, ℕ, List, Option, Some, None, is_none, find, filter_map, option_and_then, if◌then◌else◌}
 use Rattle.std.specs.FinMap.{get}
 use Rattle.std.specs.BTreeSet.{BTreeSet, contains}
 use Rattle.mtn_base.specs.declared.id.Id.{Id}
@@ -14,6 +14,7 @@ use Rattle.mtn_replay.specs.Making.{place_of, bad_change, bad_join, made_tree, n
 use Rattle.mtn_model.specs.State.{State}
 use Rattle.mtn_model.specs.Table.{Table, Contents}
 use Rattle.mtn_ports.specs.Kept.{with_all}
+use Rattle.mtn_history.specs.Damage.{IsBad}
 use Rattle.mtn_history.specs.Logs.{WrongBelow, IsHeldAt}
 use Rattle.mtn_history.specs.Places.{UnplacedBelow}
 use Rattle.mtn_history.specs.Rosters.{UnmadeBelow, IsRosterHeld}
@@ -28,9 +29,11 @@ use Rattle.mtn_history.specs.declared.pending.Pending.{Pending}
 abbrev pub IsUnfounded : Option Contents → Pending → Type 0
 IsUnfounded told p = (f : List ℕ → List ℕ) (s : State) → IsFounded f told p s → ⊥
 
--- a record of the log or of a roster, where the draft's records stand for no state
+-- a record of the log or of a roster at a position of the log, where the draft's records stand for no state
 pub record IsUnfit (told : Option Contents) (p : Pending) (d : Damage) : Type 0 where
   pub place : ℕ
+  pub below : place < p.count
+  pub bad : IsBad d
   pub records : Contents
   pub tells : told ≡ Some records
   pub held : IsHeldAt (with_all records p.batch) place d ⊎ IsRosterHeld (with_all records p.batch) place d

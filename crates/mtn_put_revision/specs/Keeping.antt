@@ -21,7 +21,7 @@ use Rattle.mtn_records.specs.Bounds.{IsLogAt, IsRosterAt}
 use Rattle.mtn_records.specs.declared.record.RosterRecord.{RosterRecord}
 use Rattle.mtn_records.specs.declared.record.RosterRecord.TheVariants.{Whole, Delta}
 use Rattle.mtn_put_revision.specs.Finding.{made_refusal_of}
-use Rattle.mtn_put_revision.specs.declared.over.Fresh.{Fresh}
+use Rattle.mtn_put_revision.specs.declared.over.NewRevision.{NewRevision}
 use Rattle.mtn_put_revision.specs.declared.records.Written.{Written}
 
 -- a record with all entries
@@ -83,13 +83,13 @@ abbrev pub with_text : State → Logged → State
 with_text s l = record s { log = s.log ++ l ∷ [] }
 
 -- the id is new to the history, and its parents stand at these places
-pub record AreOn (h : List Revision) (fresh : Fresh) (places : List ℕ) : Type 0 where
+pub record AreOn (h : List Revision) (fresh : NewRevision) (places : List ℕ) : Type 0 where
   pub new : place_of h fresh.id ≡ None
   pub known : unknown_parent h fresh.read.now.edges ≡ None
   pub stand : places ≡ parents_of h fresh.read.now.edges
 
 -- a text within its limit, whose id is the ident's, that spells the revision; the log has room for it, and holds its parents
-pub record IsNew (f : List ℕ → List ℕ) (h : List Revision) (fresh : Fresh) : Type 0 where
+pub record IsNew (f : List ℕ → List ℕ) (h : List Revision) (fresh : NewRevision) : Type 0 where
   pub short : length fresh.text.now ≤ 67108864
   pub id : f fresh.text.now ≡ fresh.id.0
   pub spells : Spells fresh.text.now fresh.read.now
@@ -98,17 +98,17 @@ pub record IsNew (f : List ℕ → List ℕ) (h : List Revision) (fresh : Fresh)
   pub known : unknown_parent h fresh.read.now.edges ≡ None
 
 -- nothing is refused, and the draft stands for the state with the text
-pub record Accepts (f : List ℕ → List ℕ) (c : Contents) (s : State) (h : List Revision) (fresh : Fresh) (p : Pending) : Type 0 where
+pub record Accepts (f : List ℕ → List ℕ) (c : Contents) (s : State) (h : List Revision) (fresh : NewRevision) (p : Pending) : Type 0 where
   pub fine : made_refusal_of f s.files h fresh.id fresh.read.now ≡ None
   pub draft : IsDraft f c p (with_text s (record { id = fresh.id.0; text = fresh.text.now }))
 
 -- the text within its limit, the ident's id of it, and the revision that it spells
-pub record IsSpelled (f : List ℕ → List ℕ) (fresh : Fresh) : Type 0 where
+pub record IsSpelled (f : List ℕ → List ℕ) (fresh : NewRevision) : Type 0 where
   pub short : length fresh.text.now ≤ 67108864
   pub id : f fresh.text.now ≡ fresh.id.0
   pub spells : Spells fresh.text.now fresh.read.now
 
 -- nothing is refused of a new text, and the draft stands for the state with it
-pub record AcceptsNew (f : List ℕ → List ℕ) (c : Contents) (s : State) (h : List Revision) (fresh : Fresh) (p : Pending) : Type 0 where
+pub record AcceptsNew (f : List ℕ → List ℕ) (c : Contents) (s : State) (h : List Revision) (fresh : NewRevision) (p : Pending) : Type 0 where
   pub fine : refusal_of f s.files h fresh.id fresh.read.now ≡ None
   pub draft : IsDraft f c p (with_text s (record { id = fresh.id.0; text = fresh.text.now }))

@@ -12,16 +12,14 @@ ghost use Rattle.mtn_put_revision.specs.Finding.{unknown_in, first_unknown};
 
 use mtn_base::Id;
 use mtn_changes::{Change, Edge};
-use mtn_history::{Draft, FILES, StoreError};
+use mtn_history::{Draft, StoreError};
 use mtn_make_roster::new_content;
 use mtn_ports::Keeper;
-use std::alloc::Global;
 
-// The content that a change brings, where it is not held. `body` is room to read into.
+// The content that a change brings, where it is not held.
 fn unknown_of<K: Keeper>(
     draft: &mut Draft<'_, K>,
     change: &Change,
-    body: &mut Vec<u8>,
 ) -> Result<Option<Id>, StoreError>
     ensures same_reference { draft.new.keeper.ghost_name ≡ draft.old.keeper.ghost_name }
     ensures stays { Stays K.contents K.leaves K.faults draft.old.keeper.now draft.new.keeper.now }
@@ -34,7 +32,7 @@ fn unknown_of<K: Keeper>(
     match new_content(change) {
         None => Ok(None),
         Some(id) => {
-            if draft.get(FILES, id.as_slice(), body)? {
+            if draft.has_file(id)? {
                 Ok(None)
             } else {
                 Ok(Some(id))
@@ -47,7 +45,6 @@ fn unknown_of<K: Keeper>(
 fn unknown_among<K: Keeper>(
     draft: &mut Draft<'_, K>,
     changes: &[Change],
-    body: &mut Vec<u8>,
 ) -> Result<Option<Id>, StoreError>
     ensures same_reference { draft.new.keeper.ghost_name ≡ draft.old.keeper.ghost_name }
     ensures stays { Stays K.contents K.leaves K.faults draft.old.keeper.now draft.new.keeper.now }
@@ -58,16 +55,15 @@ fn unknown_among<K: Keeper>(
     ensures failed { result ≡ Err StoreError.Failed → Rose (K.faults draft.old.keeper.now) (K.faults draft.new.keeper.now) }
 {
     for change in changes {
-        if let Some(id) = unknown_of(draft, change, body)? {
+        if let Some(id) = unknown_of(draft, change)? {
             return Ok(Some(id));
         }
     }
     Ok(None)
 }
 
-/// The first content in the order of the text that is not held. It asks for one record for each.
+/// The first content in the order of the text that is not held. No content is read.
 pub fn unknown_content<K: Keeper>(
-    alloc: Global,
     draft: &mut Draft<'_, K>,
     edges: &[Edge],
 ) -> Result<Option<Id>, StoreError>
@@ -79,9 +75,8 @@ pub fn unknown_content<K: Keeper>(
     ensures sound { IfErr result (λ e. IfDamage e (λ _. ⊥)) }
     ensures failed { result ≡ Err StoreError.Failed → Rose (K.faults draft.old.keeper.now) (K.faults draft.new.keeper.now) }
 {
-    let mut body = Vec::new(alloc);
     for edge in edges {
-        if let Some(id) = unknown_among(draft, edge.changes.changes.as_slice(), &mut body)? {
+        if let Some(id) = unknown_among(draft, edge.changes.changes.as_slice())? {
             return Ok(Some(id));
         }
     }

@@ -12,7 +12,7 @@ ghost use Rattle.mtn_history.specs.Stands.{IsDraft, IsFounded};
 ghost use Rattle.mtn_put_revision.specs.Finding.{IsFound};
 ghost use Rattle.mtn_put_revision.specs.Keeping.{AreKeptAt, AreParents, IsFirstRebuilt, IsMade, with_text};
 
-use crate::records::{Known, Written, log_body, next_number, numbered, write_record};
+use crate::records::{KeptParents, Written, log_body, next_number, numbered, write_record};
 use crate::unfit::unfit;
 use mtn_ancestry::Pos;
 use mtn_base::Id;
@@ -30,7 +30,7 @@ pub fn keep<K: Keeper>(
     id: Id,
     text: &[u8],
     roster: MarkedRoster,
-    known: &Known<'_>,
+    known: &KeptParents<'_>,
 ) -> Result<(), StoreError>
     requires room { draft.old.pending.count < 2147483648 }
     requires few { length known.now.places.now ≤ 2 }

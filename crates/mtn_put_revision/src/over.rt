@@ -12,7 +12,7 @@ ghost use Rattle.mtn_put_revision.specs.Finding.{IsFound, IsRefusal, made_refusa
 ghost use Rattle.mtn_put_revision.specs.Keeping.{Accepts, AreParents, IsFirstRebuilt, IsNew, AreOn};
 
 use crate::keep::keep;
-use crate::records::Known;
+use crate::records::KeptParents;
 use crate::tree::tree_of;
 use crate::uncommon::uncommon_of;
 use mtn_ancestry::Pos;
@@ -25,7 +25,7 @@ use std::alloc::Global;
 
 /// A text that is new to the log, the revision that it spells, and its id.
 #[derive(Clone, Copy)]
-pub struct Fresh<'a> {
+pub struct NewRevision<'a> {
     pub text: &'a [u8],
     pub read: &'a Revision,
     pub id: Id,
@@ -36,9 +36,9 @@ fn over<I: Ident, K: Keeper>(
     alloc: Global,
     ident: &I,
     draft: &mut Draft<'_, K>,
-    fresh: &Fresh<'_>,
+    fresh: &NewRevision<'_>,
     basis: &Basis,
-    known: &Known<'_>,
+    known: &KeptParents<'_>,
 ) -> Result<(), HistoryError>
     requires edges { AreEdges fresh.now.read.now.edges }
     requires room { draft.old.pending.count < 2147483648 }
@@ -71,7 +71,7 @@ fn over_one<I: Ident, K: Keeper>(
     alloc: Global,
     ident: &I,
     draft: &mut Draft<'_, K>,
-    fresh: &Fresh<'_>,
+    fresh: &NewRevision<'_>,
     places: &[Pos],
     at: Pos,
 ) -> Result<(), HistoryError>
@@ -95,7 +95,7 @@ fn over_one<I: Ident, K: Keeper>(
     let held = draft.roster_at(at)?;
     let parent = held.as_ref();
     let entries = [&parent.entries];
-    let known = Known {
+    let known = KeptParents {
         places,
         entries: entries.as_slice(),
         depth: parent.depth,
@@ -115,7 +115,7 @@ fn over_two<I: Ident, K: Keeper>(
     alloc: Global,
     ident: &I,
     draft: &mut Draft<'_, K>,
-    fresh: &Fresh<'_>,
+    fresh: &NewRevision<'_>,
     places: &[Pos],
     left: Pos,
     right: Pos,
@@ -149,7 +149,7 @@ fn over_two<I: Ident, K: Keeper>(
         only_left: &only_left,
         only_right: &only_right,
     };
-    let known = Known {
+    let known = KeptParents {
         places,
         entries: entries.as_slice(),
         depth: first.depth,
@@ -162,7 +162,7 @@ pub fn over_places<I: Ident, K: Keeper>(
     alloc: Global,
     ident: &I,
     draft: &mut Draft<'_, K>,
-    fresh: &Fresh<'_>,
+    fresh: &NewRevision<'_>,
     places: &[Pos],
 ) -> Result<(), HistoryError>
     requires edges { AreEdges fresh.now.read.now.edges }
@@ -184,7 +184,7 @@ pub fn over_places<I: Ident, K: Keeper>(
 {
     match places {
         [] => {
-            let known = Known {
+            let known = KeptParents {
                 places,
                 entries: &[],
                 depth: 0,

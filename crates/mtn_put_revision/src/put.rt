@@ -1,21 +1,22 @@
 // The call `put_revision`.
-ghost use Rattle.std.specs.Prelude.{◌≡◌, List, ℕ, Some, None, Err, IfErr, IfSome, OnOk, OnErr};
+ghost use Rattle.std.specs.Prelude.{◌≡◌, ◌≤◌, List, ℕ, length, Some, None, Err, IfErr, IfSome, OnOk, OnErr};
 ghost use Rattle.mtn_changes.specs.RevisionText.{AreEdges};
 ghost use Rattle.mtn_replay.specs.Making.{place_of, refusal_of};
+ghost use Rattle.mtn_replay.specs.Texts.{text_under};
 ghost use Rattle.mtn_model.specs.State.{State};
 ghost use Rattle.mtn_model.specs.Table.{Contents};
 ghost use Rattle.mtn_ports.specs.Causes.{Rose};
 ghost use Rattle.mtn_ports.specs.Kept.{Stays, with_all};
 ghost use Rattle.mtn_history.specs.Damage.{IsDamage};
 ghost use Rattle.mtn_history.specs.Meta.{IsMetaOf};
-ghost use Rattle.mtn_history.specs.Errors.{IfStoreDamage};
+ghost use Rattle.mtn_history.specs.Errors.{IfDamage, IfStoreDamage};
 ghost use Rattle.mtn_history.specs.Stands.{IsDraft, IsFounded};
 ghost use Rattle.mtn_put_revision.specs.Finding.{IsFound, IsRefusal};
 ghost use Rattle.mtn_put_revision.specs.Keeping.{AcceptsNew, IsSpelled};
 ghost use Rattle.mtn_history.specs.Texts.{TextDamage};
-ghost use Rattle.mtn_put_revision.specs.Accepting.{AcceptsRevision, IsHeld, IsUnreadAs};
+ghost use Rattle.mtn_put_revision.specs.Accepting.{AcceptsRevision, IsCollided, IsHeld, IsUnreadAs};
 
-use crate::over::{Fresh, over_places};
+use crate::over::{NewRevision, over_places};
 use crate::places::places_of;
 use mtn_base::{Cause, Id, MAX_TEXT};
 use mtn_changes::{ChangeTextError, Revision, read_revision};
@@ -40,32 +41,36 @@ fn unread(error: ChangeTextError) -> HistoryError
     })
 }
 
-// Whether the log has this text under its id; a Collision where it has another there.
-fn is_held<K: Keeper>(
+// Whether the log has a text under the id, and whether it is this one.
+fn held_text<K: Keeper>(
     alloc: Global,
     draft: &mut Draft<'_, K>,
     id: Id,
     text: &[u8],
-) -> Result<bool, HistoryError>
+) -> Result<Option<bool>, StoreError>
     ensures same_reference { draft.new.keeper.ghost_name ≡ draft.old.keeper.ghost_name }
     ensures stays { Stays K.contents K.leaves K.faults draft.old.keeper.now draft.new.keeper.now }
     ensures pending { draft.new.pending ≡ draft.old.pending }
     ensures held { (f : List ℕ → List ℕ) (c : Contents) (s : State) → K.contents draft.new.keeper.now ≡ Some c → IsDraft f c draft.old.pending s →
         IsHeld s id text.now result }
-    ensures damaged { IfSome (K.contents draft.new.keeper.now) (λ c. IfErr result (λ e. IfStoreDamage e (TextDamage (with_all c draft.old.pending.batch)))) }
-    ensures failed { result ≡ Err (HistoryError.Store StoreError.Failed) → Rose (K.faults draft.old.keeper.now) (K.faults draft.new.keeper.now) }
+    ensures damaged { IfSome (K.contents draft.new.keeper.now) (λ c. IfErr result (λ e. IfDamage e (TextDamage (with_all c draft.old.pending.batch)))) }
+    ensures failed { result ≡ Err StoreError.Failed → Rose (K.faults draft.old.keeper.now) (K.faults draft.new.keeper.now) }
 {
     let mut held = Vec::new(alloc);
     match draft.text_of(id, &mut held) {
-        Ok(()) => {
-            if held.as_slice() == text {
-                Ok(true)
-            } else {
-                Err(HistoryError::Refused(Cause::Collision { id }))
-            }
-        }
-        Err(HistoryError::Refused(_)) => Ok(false),
-        Err(HistoryError::Store(error)) => Err(HistoryError::Store(error)),
+        Ok(()) => Ok(Some(held.as_slice() == text)),
+        Err(HistoryError::Refused(_)) => Ok(None),
+        Err(HistoryError::Store(error)) => Err(error),
+    }
+}
+
+// Why a text is refused under whose id the log has another: its own fault, or a Collision.
+fn collided(alloc: Global, id: Id, text: &[u8]) -> HistoryError
+    ensures { IsCollided id text.now result }
+{
+    match read_revision(alloc, text) {
+        Ok(_) => HistoryError::Refused(Cause::Collision { id }),
+        Err(error) => unread(error),
     }
 }
 
@@ -95,15 +100,41 @@ pub fn put_revision<I: Ident, K: Keeper>(
             length: text.len() as u64,
         }));
     }
+    let id = ident.id(text);
+    let Some(same) = held_text(alloc, draft, id, text)? else {
+        return put_new(alloc, ident, draft, id, text);
+    };
+    if same {
+        return Ok(id);
+    }
+    Err(collided(alloc, id, text))
+}
+
+// The same of a text whose id the log does not have.
+fn put_new<I: Ident, K: Keeper>(
+    alloc: Global,
+    ident: &I,
+    draft: &mut Draft<'_, K>,
+    id: Id,
+    text: &[u8],
+) -> Result<Id, HistoryError>
+    requires short { length text.now ≤ 67108864 }
+    requires id { id.0 ≡ I.meaning ident.now text.now }
+    requires new { (f : List ℕ → List ℕ) (c : Contents) (s : State) → K.contents draft.old.keeper.now ≡ Some c → IsDraft f c draft.old.pending s → text_under s.log id.0 ≡ None }
+    ensures same_reference { draft.new.keeper.ghost_name ≡ draft.old.keeper.ghost_name }
+    ensures stays { Stays K.contents K.leaves K.faults draft.old.keeper.now draft.new.keeper.now }
+    ensures accepts { (c : Contents) (s : State) → K.contents draft.new.keeper.now ≡ Some c → IsDraft (I.meaning ident.now) c draft.old.pending s →
+        AcceptsRevision (I.meaning ident.now) c s text.now result draft.new.pending }
+    ensures err { OnErr result (draft.new.pending ≡ draft.old.pending) }
+    ensures damaged { IfSome (K.contents draft.new.keeper.now) (λ c. IsMetaOf (with_all c draft.old.pending.batch) (record { count = draft.old.pending.count; is_new = draft.old.pending.is_new }) →
+        IfErr result (λ e. IfStoreDamage e (IsDamage (with_all c draft.old.pending.batch)))) }
+    ensures failed { result ≡ Err (HistoryError.Store StoreError.Failed) → Rose (K.faults draft.old.keeper.now) (K.faults draft.new.keeper.now) }
+{
     let read = match read_revision(alloc, text) {
         Ok(read) => read,
         Err(error) => return Err(unread(error)),
     };
-    let id = ident.id(text);
-    if is_held(alloc, draft, id, text)? {
-        return Ok(id);
-    }
-    let fresh = Fresh {
+    let fresh = NewRevision {
         text,
         read: &read,
         id,
@@ -117,7 +148,7 @@ fn accept<I: Ident, K: Keeper>(
     alloc: Global,
     ident: &I,
     draft: &mut Draft<'_, K>,
-    fresh: &Fresh<'_>,
+    fresh: &NewRevision<'_>,
 ) -> Result<(), HistoryError>
     requires edges { AreEdges fresh.now.read.now.edges }
     requires new { (f : List ℕ → List ℕ) (s : State) → (d : IsFounded f (K.contents draft.old.keeper.now) draft.old.pending s) → place_of d.stands.history fresh.now.id ≡ None }

@@ -29,7 +29,7 @@ const LAST_NUMBER: u64 = 214_748_364_800_001;
 /// The parents of a new revision: their positions in the order of the edges, the entries of each, and how deep the record of
 /// the first stands.
 #[derive(Clone, Copy)]
-pub struct Known<'a> {
+pub struct KeptParents<'a> {
     pub places: &'a [Pos],
     pub entries: &'a [&'a Numbered],
     pub depth: u8,
@@ -146,7 +146,7 @@ fn differing(
 /// The record of a roster: what differs from the first parent's, or whole where there is none or a chain would get too deep.
 pub fn write_record(
     alloc: Global,
-    known: &Known<'_>,
+    known: &KeptParents<'_>,
     entries: Numbered,
     at: Pos,
 ) -> Result<Written, NoMemory>

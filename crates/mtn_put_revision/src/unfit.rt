@@ -1,5 +1,5 @@
 // The record from which no history goes on.
-ghost use Rattle.std.specs.Prelude.{◌≡◌, IfSome};
+ghost use Rattle.std.specs.Prelude.{◌≡◌, ◌<◌, IfSome};
 ghost use Rattle.mtn_ports.specs.Causes.{Rose};
 ghost use Rattle.mtn_ports.specs.Kept.{Stays, with_all};
 ghost use Rattle.mtn_history.specs.Errors.{IfDamage};
@@ -22,12 +22,33 @@ fn last_held<K: Keeper>(draft: &mut Draft<'_, K>) -> StoreError
     if count == 0 {
         return StoreError::NoMemory;
     }
-    draft.log_held(Pos(count - 1))
+    let at = Pos(count - 1);
+    match draft.logged(at) {
+        Ok(_) => draft.log_held(at),
+        Err(error) => error,
+    }
+}
+
+// The roster's record at a position.
+fn roster_held<K: Keeper>(draft: &mut Draft<'_, K>, at: Pos) -> StoreError
+    requires below { at < draft.old.pending.count }
+    ensures same_reference { draft.new.keeper.ghost_name ≡ draft.old.keeper.ghost_name }
+    ensures stays { Stays K.contents K.leaves K.faults draft.old.keeper.now draft.new.keeper.now }
+    ensures pending { draft.new.pending ≡ draft.old.pending }
+    ensures damaged { IsUnfounded (K.contents draft.old.keeper.now) draft.old.pending → IfSome (K.contents draft.new.keeper.now) (λ c. IfDamage result
+        (IsFound (K.contents draft.new.keeper.now) draft.old.pending (with_all c draft.old.pending.batch))) }
+    ensures failed { result ≡ StoreError.Failed → Rose (K.faults draft.old.keeper.now) (K.faults draft.new.keeper.now) }
+{
+    match draft.roster_at(at) {
+        Ok(_) => draft.roster_held(at),
+        Err(error) => error,
+    }
 }
 
 /// The roster's record of a new revision's first parent, or without one the last record of the log: those of a store that
 /// stands for no state, as the caller found.
 pub fn unfit<K: Keeper>(draft: &mut Draft<'_, K>, parent: Option<Pos>) -> StoreError
+    requires below { IfSome parent (λ at. at < draft.old.pending.count) }
     ensures same_reference { draft.new.keeper.ghost_name ≡ draft.old.keeper.ghost_name }
     ensures stays { Stays K.contents K.leaves K.faults draft.old.keeper.now draft.new.keeper.now }
     ensures pending { draft.new.pending ≡ draft.old.pending }
@@ -36,7 +57,7 @@ pub fn unfit<K: Keeper>(draft: &mut Draft<'_, K>, parent: Option<Pos>) -> StoreE
     ensures failed { result ≡ StoreError.Failed → Rose (K.faults draft.old.keeper.now) (K.faults draft.new.keeper.now) }
 {
     match parent {
-        Some(at) => draft.roster_held(at),
+        Some(at) => roster_held(draft, at),
         None => last_held(draft),
     }
 }

@@ -25,16 +25,16 @@ over-requires-clause-first g c κs within =
     let depth = c.as_ref-parent.result.now.depth in
     subst (λ ps. IfSome told (λ y. IsFirstRebuilt (with_all y c.roster_at.new.self.pending.batch) ps (shown c.as_slice.result.now) depth)) (sym c.requires.one)
     (subst (λ es. IfSome told (λ y. IsFirstRebuilt (with_all y c.roster_at.new.self.pending.batch) (c.args.at ∷ []) es depth)) (sym (ap shown c.as_slice.ensures))
-    (moved (λ (x : Pending). IfSome told (λ y. IsFirstRebuilt (with_all y x.batch) (c.args.at ∷ []) (c.as_ref-parent.result.now.entries ∷ []) depth)) p c.roster_at.new.self.pending (sym c.roster_at.ensures.pending)
+    (moved (λ (x : Pending). IfSome told (λ y. IsFirstRebuilt (with_all y x.batch) (c.args.at ∷ []) (c.as_ref-parent.result.now.entries ∷ []) depth)) p c.roster_at.new.self.pending (sym c.roster_at.ensures.asks.pending)
     (mapped told (λ y. IsRebuilt (with_all y p.batch) c.args.at c.as_ref-parent.result.now.entries c.as_ref-parent.result.now.roster depth) _ (λ y h. (c.as_ref-parent.result.now.roster, h)) (subst (λ (x : Rebuilt). IfSome (g.K.Keeper.contents c.roster_at.new.self.keeper.now) (λ y. Rebuilds (with_all y c.args.draft.now.pending.batch) c.args.at x)) (sym c.as_ref-parent.ensures) c.in_ok-held.ensures.rebuilt))))
 
 pub over-requires-clause-based : goal.over-requires-clause-based
 over-requires-clause-based g c κs within =
     let told = g.K.Keeper.contents c.roster_at.new.self.keeper.now in
     let p = c.args.draft.now.pending in
-    moved_based told p c.roster_at.new.self.pending (sym c.roster_at.ensures.pending) c.args.fresh.now.read.now.edges _ c.args.fresh.now.id c.args.places.now (shown c.as_slice.result.now) c.as_ref-parent.result.now.depth
+    moved_based told p c.roster_at.new.self.pending (sym c.roster_at.ensures.asks.pending) c.args.fresh.now.read.now.edges _ c.args.fresh.now.id c.args.places.now (shown c.as_slice.result.now) c.as_ref-parent.result.now.depth
     (λ f s d.
-    let on = c.requires.parents f s (back f (g.K.Keeper.contents c.args.draft.now.keeper.now) told p s c.roster_at.ensures.stays.same d) in
+    let on = c.requires.parents f s (back f (g.K.Keeper.contents c.args.draft.now.keeper.now) told p s c.roster_at.ensures.asks.stays.same d) in
     let has = rebuilt_at f told p s d c.args.at c.as_ref-parent.result.now.entries c.as_ref-parent.result.now.roster c.as_ref-parent.result.now.depth c.requires.below (subst (λ (x : Rebuilt). IfSome (g.K.Keeper.contents c.roster_at.new.self.keeper.now) (λ y. Rebuilds (with_all y c.args.draft.now.pending.batch) c.args.at x)) (sym c.as_ref-parent.ensures) c.in_ok-held.ensures.rebuilt) in
     let b = one_basis d.stands.history d.stands.kept c.args.fresh.now c.args.places.now c.args.at c.as_ref-parent.result.now.entries c.as_ref-parent.result.now.roster c.as_ref-parent.result.now.depth c.requires.edges on c.requires.one has in (
       under d.stands.history c.args.fresh.now.read.now.edges _ c.args.fresh.now.id (b.0 ∷ []) (grown f told p s d) on.new b.1 (c.args.at, b.2),
@@ -42,10 +42,10 @@ over-requires-clause-based g c κs within =
     ))
 
 pub returns-clause-stays : goal.returns-clause-stays
-returns-clause-stays g c = stays_trans g.K.Keeper.contents g.K.Keeper.leaves g.K.Keeper.faults _ _ _ c.roster_at.ensures.stays c.over.ensures.stays
+returns-clause-stays g c = stays_trans g.K.Keeper.contents g.K.Keeper.leaves g.K.Keeper.faults _ _ _ c.roster_at.ensures.asks.stays c.over.ensures.stays
 
 pub returns-clause-accepts : goal.returns-clause-accepts
-returns-clause-accepts g c = moved (λ (q : Pending). (s : State) → (d : IsFounded (g.I.Ident.meaning c.args.ident.now) (g.K.Keeper.contents c.over.new.draft.keeper.now) q s) → IsNew (g.I.Ident.meaning c.args.ident.now) d.stands.history c.args.fresh.now → OnOk c.over.result (Accepts (g.I.Ident.meaning c.args.ident.now) d.records s d.stands.history c.args.fresh.now c.over.new.draft.pending)) c.roster_at.new.self.pending c.args.draft.now.pending c.roster_at.ensures.pending c.over.ensures.accepts
+returns-clause-accepts g c = moved (λ (q : Pending). (s : State) → (d : IsFounded (g.I.Ident.meaning c.args.ident.now) (g.K.Keeper.contents c.over.new.draft.keeper.now) q s) → IsNew (g.I.Ident.meaning c.args.ident.now) d.stands.history c.args.fresh.now → OnOk c.over.result (Accepts (g.I.Ident.meaning c.args.ident.now) d.records s d.stands.history c.args.fresh.now c.over.new.draft.pending)) c.roster_at.new.self.pending c.args.draft.now.pending c.roster_at.ensures.asks.pending c.over.ensures.accepts
 
 pub returns-clause-refused : goal.returns-clause-refused
-returns-clause-refused g c = moved (λ (q : Pending). (s : State) → (d : IsFounded (g.I.Ident.meaning c.args.ident.now) (g.K.Keeper.contents c.over.new.draft.keeper.now) q s) → IfErr c.over.result (IsRefusal (made_refusal_of (g.I.Ident.meaning c.args.ident.now) s.files d.stands.history c.args.fresh.now.id c.args.fresh.now.read.now))) c.roster_at.new.self.pending c.args.draft.now.pending c.roster_at.ensures.pending c.over.ensures.refused
+returns-clause-refused g c = moved (λ (q : Pending). (s : State) → (d : IsFounded (g.I.Ident.meaning c.args.ident.now) (g.K.Keeper.contents c.over.new.draft.keeper.now) q s) → IfErr c.over.result (IsRefusal (made_refusal_of (g.I.Ident.meaning c.args.ident.now) s.files d.stands.history c.args.fresh.now.id c.args.fresh.now.read.now))) c.roster_at.new.self.pending c.args.draft.now.pending c.roster_at.ensures.asks.pending c.over.ensures.refused

@@ -22,17 +22,17 @@ use Rattle.mtn_put_revision.proofs.Grounds.{moved, rebuilt_at, unmade_found}
 use Rattle.mtn_put_revision.proofs.over.over_two.Goals as goal
 
 pub returns-in_err-held_right-clause-stays : goal.returns-in_err-held_right-clause-stays
-returns-in_err-held_right-clause-stays g c = stays_trans g.K.Keeper.contents g.K.Keeper.leaves g.K.Keeper.faults _ _ _ c.roster_at.ensures.stays c.roster_at-2.ensures.stays
+returns-in_err-held_right-clause-stays g c = stays_trans g.K.Keeper.contents g.K.Keeper.leaves g.K.Keeper.faults _ _ _ c.roster_at.ensures.asks.stays c.roster_at-2.ensures.asks.stays
 
 pub returns-in_err-held_right-clause-damaged : goal.returns-in_err-held_right-clause-damaged
 returns-in_err-held_right-clause-damaged g c =
     let told = g.K.Keeper.contents c.roster_at-2.new.self.keeper.now in
     let p = err_from_is_err_and c.from_residual-in_err-held_right.result c.from_residual-in_err-held_right.ensures.1 in
     rw (p.1, p.2) (unmade_found told c.args.draft.now.pending c.args.right c.in_err-held_right.field-0.0 c.requires.below.1
-    (moved (λ (q : Pending). IfSome told (λ x. IfDamage c.in_err-held_right.field-0.0 (UnmadeBelow (c.args.right + 1) (with_all x q.batch)))) c.roster_at.new.self.pending c.args.draft.now.pending c.roster_at.ensures.pending c.in_err-held_right.ensures.damaged))
+    (moved (λ (q : Pending). IfSome told (λ x. IfDamage c.in_err-held_right.field-0.0 (UnmadeBelow (c.args.right + 1) (with_all x q.batch)))) c.roster_at.new.self.pending c.args.draft.now.pending c.roster_at.ensures.asks.pending c.in_err-held_right.ensures.damaged))
 
 pub returns-in_err-only_left-clause-stays : goal.returns-in_err-only_left-clause-stays
-returns-in_err-only_left-clause-stays g c = stays_trans g.K.Keeper.contents g.K.Keeper.leaves g.K.Keeper.faults _ _ _ (stays_trans g.K.Keeper.contents g.K.Keeper.leaves g.K.Keeper.faults _ _ _ c.roster_at.ensures.stays c.roster_at-2.ensures.stays) c.uncommon_of.ensures.stays
+returns-in_err-only_left-clause-stays g c = stays_trans g.K.Keeper.contents g.K.Keeper.leaves g.K.Keeper.faults _ _ _ (stays_trans g.K.Keeper.contents g.K.Keeper.leaves g.K.Keeper.faults _ _ _ c.roster_at.ensures.asks.stays c.roster_at-2.ensures.asks.stays) c.uncommon_of.ensures.stays
 
 pub over-requires-clause-first : goal.over-requires-clause-first
 over-requires-clause-first g c κs within =
@@ -43,11 +43,11 @@ over-requires-clause-first g c κs within =
     let q = c.uncommon_of.new.draft.pending in
     let first = c.as_ref-first.result.now in
     let found = told_back told2 told (λ y. IsRebuilt (with_all y p.batch) c.args.left first.entries first.roster first.depth) c.uncommon_of.ensures.stays.same
-    (told_back told1 told2 (λ y. IsRebuilt (with_all y p.batch) c.args.left first.entries first.roster first.depth) c.roster_at-2.ensures.stays.same (subst (λ (x : Rebuilt). IfSome (g.K.Keeper.contents c.roster_at.new.self.keeper.now) (λ y. Rebuilds (with_all y c.args.draft.now.pending.batch) c.args.left x)) (sym c.as_ref-first.ensures) c.in_ok-held_left.ensures.rebuilt)) in
+    (told_back told1 told2 (λ y. IsRebuilt (with_all y p.batch) c.args.left first.entries first.roster first.depth) c.roster_at-2.ensures.asks.stays.same (subst (λ (x : Rebuilt). IfSome (g.K.Keeper.contents c.roster_at.new.self.keeper.now) (λ y. Rebuilds (with_all y c.args.draft.now.pending.batch) c.args.left x)) (sym c.as_ref-first.ensures) c.in_ok-held_left.ensures.rebuilt)) in
     subst (λ ps. IfSome told (λ y. IsFirstRebuilt (with_all y q.batch) ps (shown c.as_slice.result.now) first.depth)) (sym c.requires.two)
     (subst (λ es. IfSome told (λ y. IsFirstRebuilt (with_all y q.batch) (c.args.left ∷ c.args.right ∷ []) es first.depth)) (sym (ap shown c.as_slice.ensures))
     (moved (λ (x : Pending). IfSome told (λ y. IsFirstRebuilt (with_all y x.batch) (c.args.left ∷ c.args.right ∷ []) (first.entries ∷ c.as_ref-second.result.now.entries ∷ []) first.depth)) p q
-    (sym (c.uncommon_of.ensures.pending ∙ c.roster_at-2.ensures.pending ∙ c.roster_at.ensures.pending))
+    (sym (c.uncommon_of.ensures.pending ∙ c.roster_at-2.ensures.asks.pending ∙ c.roster_at.ensures.asks.pending))
     (mapped told (λ y. IsRebuilt (with_all y p.batch) c.args.left first.entries first.roster first.depth) _ (λ y h. (first.roster, h)) found)))
 
 pub over-requires-clause-based : goal.over-requires-clause-based
@@ -56,15 +56,15 @@ over-requires-clause-based g c κs within =
     let told2 = g.K.Keeper.contents c.roster_at-2.new.self.keeper.now in
     let told = g.K.Keeper.contents c.uncommon_of.new.draft.keeper.now in
     let p = c.args.draft.now.pending in
-    let pending2 = c.roster_at-2.ensures.pending ∙ c.roster_at.ensures.pending in
+    let pending2 = c.roster_at-2.ensures.asks.pending ∙ c.roster_at.ensures.asks.pending in
     moved_based told p c.uncommon_of.new.draft.pending (sym (c.uncommon_of.ensures.pending ∙ pending2)) c.args.fresh.now.read.now.edges _ c.args.fresh.now.id c.args.places.now (shown c.as_slice.result.now) c.as_ref-first.result.now.depth
     (λ f s d.
     let d2 = back f told2 told p s c.uncommon_of.ensures.stays.same d in
-    let d1 = back f told1 told2 p s c.roster_at-2.ensures.stays.same d2 in
-    let on = c.requires.parents f s (back f (g.K.Keeper.contents c.args.draft.now.keeper.now) told1 p s c.roster_at.ensures.stays.same d1) in
+    let d1 = back f told1 told2 p s c.roster_at-2.ensures.asks.stays.same d2 in
+    let on = c.requires.parents f s (back f (g.K.Keeper.contents c.args.draft.now.keeper.now) told1 p s c.roster_at.ensures.asks.stays.same d1) in
     let first = rebuilt_at f told1 p s d1 c.args.left c.as_ref-first.result.now.entries c.as_ref-first.result.now.roster c.as_ref-first.result.now.depth c.requires.below.0 (subst (λ (x : Rebuilt). IfSome (g.K.Keeper.contents c.roster_at.new.self.keeper.now) (λ y. Rebuilds (with_all y c.args.draft.now.pending.batch) c.args.left x)) (sym c.as_ref-first.ensures) c.in_ok-held_left.ensures.rebuilt) in
     let second = rebuilt_at f told2 p s d2 c.args.right c.as_ref-second.result.now.entries c.as_ref-second.result.now.roster c.as_ref-second.result.now.depth c.requires.below.1
-    (moved (λ (q : Pending). IfSome told2 (λ x. IsRebuilt (with_all x q.batch) c.args.right c.as_ref-second.result.now.entries c.as_ref-second.result.now.roster c.as_ref-second.result.now.depth)) c.roster_at.new.self.pending p c.roster_at.ensures.pending (subst (λ (x : Rebuilt). IfSome (g.K.Keeper.contents c.roster_at-2.new.self.keeper.now) (λ y. Rebuilds (with_all y c.roster_at.new.self.pending.batch) c.args.right x)) (sym c.as_ref-second.ensures) c.in_ok-held_right.ensures.rebuilt)) in
+    (moved (λ (q : Pending). IfSome told2 (λ x. IsRebuilt (with_all x q.batch) c.args.right c.as_ref-second.result.now.entries c.as_ref-second.result.now.roster c.as_ref-second.result.now.depth)) c.roster_at.new.self.pending p c.roster_at.ensures.asks.pending (subst (λ (x : Rebuilt). IfSome (g.K.Keeper.contents c.roster_at-2.new.self.keeper.now) (λ y. Rebuilds (with_all y c.roster_at.new.self.pending.batch) c.args.right x)) (sym c.as_ref-second.ensures) c.in_ok-held_right.ensures.rebuilt)) in
     let lefts = moved (λ (q : Pending). (f : List ℕ → List ℕ) (s : State) → (d : IsFounded f told q s) → AreUncommonIn d.stands.history c.args.left c.args.right c.in_ok-only_left.only_left) c.roster_at-2.new.self.pending p pending2 c.in_ok-only_left.ensures.lefts f s d in
     let rights = moved (λ (q : Pending). (f : List ℕ → List ℕ) (s : State) → (d : IsFounded f told q s) → AreUncommonIn d.stands.history c.args.right c.args.left c.in_ok-only_left.only_right) c.roster_at-2.new.self.pending p pending2 c.in_ok-only_left.ensures.rights f s d in
     let b = two_basis d.stands.history d.stands.kept c.args.fresh.now c.args.places.now c.args.left c.args.right c.as_ref-first.result.now.entries c.as_ref-second.result.now.entries c.as_ref-first.result.now.roster c.as_ref-second.result.now.roster
@@ -74,10 +74,10 @@ over-requires-clause-based g c κs within =
     ))
 
 pub returns-clause-stays : goal.returns-clause-stays
-returns-clause-stays g c = stays_trans g.K.Keeper.contents g.K.Keeper.leaves g.K.Keeper.faults _ _ _ (stays_trans g.K.Keeper.contents g.K.Keeper.leaves g.K.Keeper.faults _ _ _ (stays_trans g.K.Keeper.contents g.K.Keeper.leaves g.K.Keeper.faults _ _ _ c.roster_at.ensures.stays c.roster_at-2.ensures.stays) c.uncommon_of.ensures.stays) c.over.ensures.stays
+returns-clause-stays g c = stays_trans g.K.Keeper.contents g.K.Keeper.leaves g.K.Keeper.faults _ _ _ (stays_trans g.K.Keeper.contents g.K.Keeper.leaves g.K.Keeper.faults _ _ _ (stays_trans g.K.Keeper.contents g.K.Keeper.leaves g.K.Keeper.faults _ _ _ c.roster_at.ensures.asks.stays c.roster_at-2.ensures.asks.stays) c.uncommon_of.ensures.stays) c.over.ensures.stays
 
 pub returns-clause-accepts : goal.returns-clause-accepts
-returns-clause-accepts g c = moved (λ (q : Pending). (s : State) → (d : IsFounded (g.I.Ident.meaning c.args.ident.now) (g.K.Keeper.contents c.over.new.draft.keeper.now) q s) → IsNew (g.I.Ident.meaning c.args.ident.now) d.stands.history c.args.fresh.now → OnOk c.over.result (Accepts (g.I.Ident.meaning c.args.ident.now) d.records s d.stands.history c.args.fresh.now c.over.new.draft.pending)) c.uncommon_of.new.draft.pending c.args.draft.now.pending (c.uncommon_of.ensures.pending ∙ c.roster_at-2.ensures.pending ∙ c.roster_at.ensures.pending) c.over.ensures.accepts
+returns-clause-accepts g c = moved (λ (q : Pending). (s : State) → (d : IsFounded (g.I.Ident.meaning c.args.ident.now) (g.K.Keeper.contents c.over.new.draft.keeper.now) q s) → IsNew (g.I.Ident.meaning c.args.ident.now) d.stands.history c.args.fresh.now → OnOk c.over.result (Accepts (g.I.Ident.meaning c.args.ident.now) d.records s d.stands.history c.args.fresh.now c.over.new.draft.pending)) c.uncommon_of.new.draft.pending c.args.draft.now.pending (c.uncommon_of.ensures.pending ∙ c.roster_at-2.ensures.asks.pending ∙ c.roster_at.ensures.asks.pending) c.over.ensures.accepts
 
 pub returns-clause-refused : goal.returns-clause-refused
-returns-clause-refused g c = moved (λ (q : Pending). (s : State) → (d : IsFounded (g.I.Ident.meaning c.args.ident.now) (g.K.Keeper.contents c.over.new.draft.keeper.now) q s) → IfErr c.over.result (IsRefusal (made_refusal_of (g.I.Ident.meaning c.args.ident.now) s.files d.stands.history c.args.fresh.now.id c.args.fresh.now.read.now))) c.uncommon_of.new.draft.pending c.args.draft.now.pending (c.uncommon_of.ensures.pending ∙ c.roster_at-2.ensures.pending ∙ c.roster_at.ensures.pending) c.over.ensures.refused
+returns-clause-refused g c = moved (λ (q : Pending). (s : State) → (d : IsFounded (g.I.Ident.meaning c.args.ident.now) (g.K.Keeper.contents c.over.new.draft.keeper.now) q s) → IfErr c.over.result (IsRefusal (made_refusal_of (g.I.Ident.meaning c.args.ident.now) s.files d.stands.history c.args.fresh.now.id c.args.fresh.now.read.now))) c.uncommon_of.new.draft.pending c.args.draft.now.pending (c.uncommon_of.ensures.pending ∙ c.roster_at-2.ensures.asks.pending ∙ c.roster_at.ensures.asks.pending) c.over.ensures.refused

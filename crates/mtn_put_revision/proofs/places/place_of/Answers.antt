@@ -11,11 +11,11 @@ returns-in-Some-clause-below g c = subst (λ o. IfSome o (λ p. p < c.args.draft
 pub returns-in-Some-clause-placed : goal.returns-in-Some-clause-placed
 returns-in-Some-clause-placed g c = λ f s d.
     sym (at_place f (g.K.Keeper.contents c.placed.new.self.keeper.now) c.args.draft.now.pending s d c.args.parent _ (drop 8 c.placed.new.body.items)
-    (subst (λ o. IfSome (g.K.Keeper.contents c.placed.new.self.keeper.now) (λ x. IsPlaced (with_all x c.args.draft.now.pending.batch) c.args.draft.now.pending.count c.args.parent o (drop 8 c.placed.new.body.items))) c.in-Some.is c.in_ok-at.ensures.found))
+    (subst (λ o. IfSome (g.K.Keeper.contents c.placed.new.self.keeper.now) (λ x. IsPlaced (with_all x c.args.draft.now.pending.batch) c.args.draft.now.pending.count c.args.parent o (drop 8 c.placed.new.body.items))) c.in-Some.is c.in_ok-at.ensures.read))
 
 pub returns-in-None-clause-refused : goal.returns-in-None-clause-refused
 returns-in-None-clause-refused g c = λ f s d. (
   refl,
   sym (at_place f (g.K.Keeper.contents c.placed.new.self.keeper.now) c.args.draft.now.pending s d c.args.parent _ (drop 8 c.placed.new.body.items)
-      (subst (λ o. IfSome (g.K.Keeper.contents c.placed.new.self.keeper.now) (λ x. IsPlaced (with_all x c.args.draft.now.pending.batch) c.args.draft.now.pending.count c.args.parent o (drop 8 c.placed.new.body.items))) c.in-None.is c.in_ok-at.ensures.found)),
+      (subst (λ o. IfSome (g.K.Keeper.contents c.placed.new.self.keeper.now) (λ x. IsPlaced (with_all x c.args.draft.now.pending.batch) c.args.draft.now.pending.count c.args.parent o (drop 8 c.placed.new.body.items))) c.in-None.is c.in_ok-at.ensures.read)),
 )

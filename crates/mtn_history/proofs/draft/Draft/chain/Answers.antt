@@ -1,48 +1,49 @@
-use Rattle.std.proofs.Common.{sym, ◌∙◌, subst, arith}
+use Rattle.std.proofs.Common.{◌+◌, sym, ◌∙◌, subst, arith}
 use Rattle.std.specs.Prelude.{IfSome}
 use Rattle.std.proofs.lemmas.Result.{err_from_is_err_and}
 use Rattle.mtn_ports.specs.Kept.{with_all}
-use Rattle.mtn_ports.proofs.KeptLemmas.{stays_trans}
 use Rattle.mtn_history.specs.declared.pending.Pending.{Pending}
 use Rattle.mtn_history.specs.Errors.{IfDamage}
 use Rattle.mtn_history.specs.Rosters.{IsRostered, UnrosteredAt}
+use Rattle.mtn_history.proofs.AskingLemmas.{asks_on, asks_within}
 use Rattle.mtn_history.proofs.RosterLemmas.{unmade, path_next, chain_whole, no_chain, one_more_record, stays_low}
 use Rattle.mtn_history.proofs.draft.Draft.chain.Goals as goal
 
-pub returns-in_err-record-clause-stays : goal.returns-in_err-record-clause-stays
-returns-in_err-record-clause-stays g c = stays_trans g.K.Keeper.contents g.K.Keeper.leaves g.K.Keeper.faults _ _ _ c.loop-depth.invariant.stays c.rostered.ensures.stays
+pub returns-in_err-record-clause-asks : goal.returns-in_err-record-clause-asks
+returns-in_err-record-clause-asks g c = asks_within g.K.Keeper.contents g.K.Keeper.leaves g.K.Keeper.faults g.K.Keeper.reads (c.loop-depth.depth + 1) 16 c.args.self.now c.rostered.new.self (omega (arith, c.loop-depth-test.true)) (asks_on g.K.Keeper.contents g.K.Keeper.leaves g.K.Keeper.faults g.K.Keeper.reads c.loop-depth.depth 1 c.args.self.now c.loop-depth.self c.rostered.new.self c.loop-depth.invariant.asks c.rostered.ensures.asks)
 
 pub returns-in_err-record-clause-damaged : goal.returns-in_err-record-clause-damaged
 returns-in_err-record-clause-damaged g c =
     let p = err_from_is_err_and c.from_residual.result c.from_residual.ensures.1 in
     rw (p.1, p.2) (unmade (g.K.Keeper.contents c.rostered.new.self.keeper.now) c.args.self.now.pending.batch c.args.at c.loop-depth.next c.in_err-record.field-0.0 c.loop-depth.invariant.low
-    (subst (λ (p : Pending). IfSome (g.K.Keeper.contents c.rostered.new.self.keeper.now) (λ d. IfDamage c.in_err-record.field-0.0 (UnrosteredAt (with_all d p.batch) c.loop-depth.next))) c.loop-depth.invariant.pending c.in_err-record.ensures.damaged))
+    (subst (λ (p : Pending). IfSome (g.K.Keeper.contents c.rostered.new.self.keeper.now) (λ d. IfDamage c.in_err-record.field-0.0 (UnrosteredAt (with_all d p.batch) c.loop-depth.next))) c.loop-depth.invariant.asks.pending c.in_err-record.ensures.damaged))
 
-pub returns-in_err-push-clause-stays : goal.returns-in_err-push-clause-stays
-returns-in_err-push-clause-stays g c = stays_trans g.K.Keeper.contents g.K.Keeper.leaves g.K.Keeper.faults _ _ _ c.loop-depth.invariant.stays c.rostered.ensures.stays
+pub returns-in_err-push-clause-asks : goal.returns-in_err-push-clause-asks
+returns-in_err-push-clause-asks g c = asks_within g.K.Keeper.contents g.K.Keeper.leaves g.K.Keeper.faults g.K.Keeper.reads (c.loop-depth.depth + 1) 16 c.args.self.now c.rostered.new.self (omega (arith, c.loop-depth-test.true)) (asks_on g.K.Keeper.contents g.K.Keeper.leaves g.K.Keeper.faults g.K.Keeper.reads c.loop-depth.depth 1 c.args.self.now c.loop-depth.self c.rostered.new.self c.loop-depth.invariant.asks c.rostered.ensures.asks)
 
-pub returns-in-None-clause-stays : goal.returns-in-None-clause-stays
-returns-in-None-clause-stays g c = stays_trans g.K.Keeper.contents g.K.Keeper.leaves g.K.Keeper.faults _ _ _ c.loop-depth.invariant.stays c.rostered.ensures.stays
+pub returns-in-None-clause-asks : goal.returns-in-None-clause-asks
+returns-in-None-clause-asks g c = asks_within g.K.Keeper.contents g.K.Keeper.leaves g.K.Keeper.faults g.K.Keeper.reads (c.loop-depth.depth + 1) 16 c.args.self.now c.rostered.new.self (omega (arith, c.loop-depth-test.true)) (asks_on g.K.Keeper.contents g.K.Keeper.leaves g.K.Keeper.faults g.K.Keeper.reads c.loop-depth.depth 1 c.args.self.now c.loop-depth.self c.rostered.new.self c.loop-depth.invariant.asks c.rostered.ensures.asks)
 
 pub returns-in-None-clause-read : goal.returns-in-None-clause-read
 returns-in-None-clause-read g c =
     chain_whole (g.K.Keeper.contents c.loop-depth.self.keeper.now) (g.K.Keeper.contents c.rostered.new.self.keeper.now) c.args.self.now.pending.batch c.args.at c.loop-depth.next c.loop-depth.chain.items c.push.new.self.items c.reverse.new.self.items c.in_ok-record.record c.loop-depth.depth c.loop-depth.invariant.long
-    c.rostered.ensures.stays.same c.loop-depth.invariant.path
-    (subst (λ (p : Pending). IfSome (g.K.Keeper.contents c.rostered.new.self.keeper.now) (λ d. IsRostered (with_all d p.batch) c.loop-depth.next c.in_ok-record.record)) c.loop-depth.invariant.pending c.in_ok-record.ensures.read)
+    c.rostered.ensures.asks.stays.same c.loop-depth.invariant.path
+    (subst (λ (p : Pending). IfSome (g.K.Keeper.contents c.rostered.new.self.keeper.now) (λ d. IsRostered (with_all d p.batch) c.loop-depth.next c.in_ok-record.record)) c.loop-depth.invariant.asks.pending c.in_ok-record.ensures.read)
     (sym c.base_of-base.ensures ∙ c.in-None.is) c.in_ok-push.ensures.items c.reverse.ensures.items
 
 pub loop-depth-preserved : goal.loop-depth-preserved
 loop-depth-preserved g c = record {
-  same_reference = c.rostered.ensures.same_reference ∙ c.loop-depth.invariant.same_reference;
-  stays = stays_trans g.K.Keeper.contents g.K.Keeper.leaves g.K.Keeper.faults _ _ _ c.loop-depth.invariant.stays c.rostered.ensures.stays;
-  pending = c.rostered.ensures.pending ∙ c.loop-depth.invariant.pending;
+  asks = asks_on g.K.Keeper.contents g.K.Keeper.leaves g.K.Keeper.faults g.K.Keeper.reads c.loop-depth.depth 1 c.args.self.now c.loop-depth.self c.rostered.new.self c.loop-depth.invariant.asks c.rostered.ensures.asks;
   long = one_more_record c.loop-depth.chain.items c.push.new.self.items c.in_ok-record.record c.loop-depth.depth c.loop-depth.invariant.long c.in_ok-push.ensures.items;
   low = stays_low c.in_ok-record.record c.args.at c.loop-depth.next c.in-Some.base (sym c.base_of-base.ensures ∙ c.in-Some.is) c.in_ok-record.ensures.below c.loop-depth.invariant.low;
   path = path_next (g.K.Keeper.contents c.loop-depth.self.keeper.now) (g.K.Keeper.contents c.rostered.new.self.keeper.now) c.args.self.now.pending.batch c.args.at c.loop-depth.next c.in-Some.base c.loop-depth.chain.items c.push.new.self.items c.in_ok-record.record
-      c.rostered.ensures.stays.same c.loop-depth.invariant.path
-      (subst (λ (p : Pending). IfSome (g.K.Keeper.contents c.rostered.new.self.keeper.now) (λ d. IsRostered (with_all d p.batch) c.loop-depth.next c.in_ok-record.record)) c.loop-depth.invariant.pending c.in_ok-record.ensures.read)
+      c.rostered.ensures.asks.stays.same c.loop-depth.invariant.path
+      (subst (λ (p : Pending). IfSome (g.K.Keeper.contents c.rostered.new.self.keeper.now) (λ d. IsRostered (with_all d p.batch) c.loop-depth.next c.in_ok-record.record)) c.loop-depth.invariant.asks.pending c.in_ok-record.ensures.read)
       (sym c.base_of-base.ensures ∙ c.in-Some.is) c.in_ok-push.ensures.items;
 }
+
+pub returns-clause-asks : goal.returns-clause-asks
+returns-clause-asks g c = asks_within g.K.Keeper.contents g.K.Keeper.leaves g.K.Keeper.faults g.K.Keeper.reads c.loop-depth.depth 16 c.args.self.now c.loop-depth.self (omega (arith, c.loop-depth.auto)) c.loop-depth.invariant.asks
 
 pub returns-clause-read : goal.returns-clause-read
 returns-clause-read g c =

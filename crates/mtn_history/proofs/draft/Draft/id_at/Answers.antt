@@ -1,11 +1,14 @@
 use Rattle.std.proofs.Common.{[], ◌∷◌, Err, ap, ◌∙◌, arith}
 use Rattle.std.proofs.lemmas.Result.{err_from_is_err_and}
+use Rattle.mtn_ports.specs.Kept.{with_all}
+use Rattle.mtn_history.specs.Rosters.{IsRosterThere}
+use Rattle.mtn_history.proofs.Knowing.{told_back}
 use Rattle.mtn_history.proofs.MarkedLemmas.{named_is, past_damage, unlogged_damage, even_held, held_error}
 use Rattle.mtn_history.proofs.draft.Draft.id_at.Goals as goal
 
 pub returns-then-at-count-clause-damaged : goal.returns-then-at-count-clause-damaged
 returns-then-at-count-clause-damaged g c =
-    past_damage (g.K.Keeper.contents c.roster_held.new.self.keeper.now) c.args.self.now.pending c.args.roster c.args.at c.roster_held.result (omega (arith, c.if-at-count.true, c.count.ensures)) c.roster_held.ensures.damaged
+    past_damage (g.K.Keeper.contents c.roster_held.new.self.keeper.now) c.args.self.now.pending c.args.roster c.args.at c.roster_held.result c.requires.below (told_back (g.K.Keeper.contents c.args.self.now.keeper.now) (g.K.Keeper.contents c.roster_held.new.self.keeper.now) (λ x. IsRosterThere (with_all x c.args.self.now.pending.batch) c.args.roster) c.roster_held.ensures.asks.stays.same c.requires.there) (omega (arith, c.if-at-count.true, c.count.ensures)) c.roster_held.ensures.damaged
 
 pub returns-in_err-log_at-clause-damaged : goal.returns-in_err-log_at-clause-damaged
 returns-in_err-log_at-clause-damaged g c =

@@ -1,8 +1,7 @@
-use Rattle.std.proofs.Common.{subst, ◌<◌, ◌^◌, refl}
-use Rattle.mtn_history.proofs.PlaceLemmas.{unplaced}
+use Rattle.std.specs.Prelude.{drop}
+use Rattle.mtn_history.proofs.MarkedLemmas.{placed_found}
 use Rattle.mtn_history.proofs.draft.Draft.placed.Goals as goal
 
-pub returns-in-Err-Bad-clause-damaged : goal.returns-in-Err-Bad-clause-damaged
-returns-in-Err-Bad-clause-damaged g c =
-    unplaced (g.K.Keeper.contents c.get.new.self.keeper.now) c.args.self.now.pending.batch c.args.self.now.pending.count c.in_ok-get.field-0 c.get.new.out.items c.as_slice-key.result.now c.deref.result.now c.deref-in-Err-Bad.result.now c.bad.result
-    c.in_ok-get.ensures.found c.if-not-branch.false c.deref.ensures.value c.deref-in-Err-Bad.ensures.value (subst (λ n. n < 2 ^ 64) c.count-count.ensures c.count-count.type_inv) ((rw c.in-Err-Bad.field-0-is at c.in-Err-Bad.ensures.bad) refl) c.bad.ensures.damaged
+pub returns-clause-found : goal.returns-clause-found
+returns-clause-found g c f s d =
+    placed_found f (g.K.Keeper.contents c.read_placed.new.self.keeper.now) c.args.self.now.pending s d c.args.id c.read_placed.result (drop 8 c.read_placed.new.body.items) c.read_placed.ensures.read

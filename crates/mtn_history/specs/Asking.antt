@@ -1,0 +1,12 @@
+-- What a call on a draft that only asks its keeper leaves as it was.
+use Rattle.std.specs.Prelude.{◌≡◌, ◌≤◌, ◌+◌, ℕ, Option}
+use Rattle.mtn_model.specs.Table.{Contents}
+use Rattle.mtn_ports.specs.Kept.{Stays}
+use Rattle.mtn_history.specs.Drafts.{DraftValue}
+
+-- The keeper is the same and only asked, at most so often, and what is pending stays
+pub record OnlyAsks {K : Type 0} (contents : K → Option Contents) (leaves : K → Contents → Type 0) (faults asked : K → ℕ) (most : ℕ) (old new : DraftValue K) : Type 0 where
+  pub same_reference : new.keeper.ghost_name ≡ old.keeper.ghost_name
+  pub stays : Stays contents leaves faults old.keeper.now new.keeper.now
+  pub pending : new.pending ≡ old.pending
+  pub reads : asked new.keeper.now ≤ asked old.keeper.now + most
