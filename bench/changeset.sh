@@ -1,17 +1,12 @@
 #!/bin/sh
-# Applies 1 and 10,000 changes to a tree of 100,000 nodes, 20 to a directory, and prints the times as
-# multiples of building that tree's roster once, in the same run. The program's own clock takes the times:
-# `build` begins with the entries in memory, shuffled; `apply` with the old roster and the changes. It drives
-# the built program mtn_bench_apply: give its path, or have it built by `rt run` in crates/mtn_bench_apply.
+# Applies 1 and 10,000 changes to a tree of 100,000 nodes, 20 to a directory, shuffled, and prints the times as multiples of
+# building that tree's roster, in the same run.
 set -eu
-top=$(cd "$(dirname "$0")/.." && pwd)
-program=${1:-$(ls "$top/crates/mtn_bench_apply/out/mtn_bench_apply" 2>/dev/null || true)}
-[ -n "$program" ] || { echo "build crates/mtn_bench_apply first" >&2; exit 2; }
-PYTHONDONTWRITEBYTECODE=1 PYTHONPATH="$top/bench" python3 - "$program" <<'PYTHON'
-import random, subprocess, sys
+cd "$(dirname "$0")/.."
+PYTHONDONTWRITEBYTECODE=1 PYTHONPATH="$PWD/bench:$PWD/tests" python3 - <<'PYTHON'
+import random
+from measure import least, steps
 from tree import tree
-program = sys.argv[1]
-ROUNDS = 5
 
 OLD, NEW = '02' * 20, '04' * 20
 
@@ -32,12 +27,7 @@ def changes(lines):
     yield from ('  set "%s"\n attr "key"\nvalue "value"\n' % path for path in kinds[4])
 
 def measure(count, lines, text):
-    whole = ('\n'.join(lines) + '\n=' + text).encode()
-    rounds = []
-    for _ in range(ROUNDS):
-        took = subprocess.run([program, 'times'], input=whole, stdout=subprocess.PIPE, check=True).stdout
-        rounds.append([int(word) / 1e6 for word in took.split()])
-    build, apply = min(took[0] for took in rounds), min(took[1] for took in rounds)
+    build, apply = least(steps('changeset', ('\n'.join(lines) + '\n=' + text).encode()) for _ in range(5))
     print('%s: build %.3f s, apply %.3f s: %.2f times' % (count, build, apply, apply / build))
 
 lines = tree()

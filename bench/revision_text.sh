@@ -1,17 +1,12 @@
 #!/bin/sh
-# Reads and writes the text of a revision of 100,000 changes, of all seven kinds, and prints both times as
-# multiples of the time in which mtn_basic_io reads the text's stanzas alone, all in this run (less the time
-# of taking the text in): of the text as it is written, and then of the same changes in no order within a
-# kind, a text that may be read and is never written. It drives the built program mtn_bench_changes: give its path, or have it built by `rt run` in
-# crates/mtn_bench_changes.
+# Reads and writes the text of a revision of 100,000 changes, of all seven kinds, and prints both times as multiples of the
+# time in which mtn_basic_io reads the text's stanzas alone, in the same run: of the text as it is written, and then of the
+# same changes in no order within a kind, a text that may be read and is never written.
 set -eu
-top=$(cd "$(dirname "$0")/.." && pwd)
-program=${1:-$(ls "$top/crates/mtn_bench_changes/out/mtn_bench_changes" 2>/dev/null || true)}
-[ -n "$program" ] || { echo "build crates/mtn_bench_changes first" >&2; exit 2; }
-work=$(mktemp -d)
-trap 'rm -rf "$work"' EXIT
-python3 - "$work/mixed" "$work/sorted" <<'PYTHON'
-import hashlib, random, sys
+cd "$(dirname "$0")/.."
+PYTHONDONTWRITEBYTECODE=1 PYTHONPATH="$PWD/bench:$PWD/tests" python3 - <<'PYTHON'
+import hashlib, random
+from measure import answer, least, steps
 random.seed(7)
 
 def sha(*words):
@@ -49,30 +44,11 @@ for kind, share in enumerate(shares):
     mixed += [stanza(kind, k, path) for path, k in changes]
     changes.sort(key=lambda change: change[0].encode().split(b'/'))
     ordered += [stanza(kind, k, path) for path, k in changes]
-open(sys.argv[1], 'w').write('\n'.join(mixed))
-open(sys.argv[2], 'w').write('\n'.join(ordered))
+texts = {'sorted': '\n'.join(ordered).encode(), 'mixed': '\n'.join(mixed).encode()}
+for name, text in texts.items():
+    assert answer('revision', text) == texts['sorted']
+    stanzas, read, write = least(steps('revision', text) for _ in range(5))
+    most = ' (at most 2.5)' if name == 'sorted' else ''
+    print('%s: its stanzas %.3f s, the revision %.3f s, written %.3f s' % (name, stanzas, read, write))
+    print('%s: read to stanzas %.2f%s, write to stanzas %.2f%s' % (name, read / stanzas, most, write / stanzas, most))
 PYTHON
-seconds() {
-    best=
-    for _ in 1 2 3 4 5; do
-        start=$(date +%s%N)
-        "$@" >"$work/out" <"$text"
-        end=$(date +%s%N)
-        took=$((end - start))
-        if [ -z "$best" ] || [ "$took" -lt "$best" ]; then best=$took; fi
-    done
-    echo "$best"
-}
-for name in sorted mixed; do
-    text=$work/$name
-    load=$(seconds "$program" load)
-    stanzas=$(seconds "$program" stanzas)
-    reading=$(seconds "$program" read)
-    both=$(seconds "$program")
-    cmp "$work/sorted" "$work/out"
-    awk -v n="$name" -v l="$load" -v s="$stanzas" -v r="$reading" -v b="$both" 'BEGIN {
-        printf "%s: taking the text %.3f s, which is taken off; its stanzas %.3f s, the revision %.3f s, written too %.3f s\n", n, l / 1e9, (s - l) / 1e9, (r - l) / 1e9, (b - l) / 1e9
-        most = n == "sorted" ? " (at most 2.5)" : ""
-        printf "%s: read / stanzas %.2f%s, write / stanzas %.2f%s\n", n, (r - l) / (s - l), most, (b - r) / (s - l), most
-    }'
-done

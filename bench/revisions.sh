@@ -1,21 +1,23 @@
 #!/bin/sh
 # Makes a history of 2,000 revisions in a line over a tree of 200 files, 20 to a directory, each of which patches one file.
 # Puts the files and the revisions, each by its own `run` over one keeper in memory in one process, and gives the same
-# history to `git fast-import`, all in this run. Prints the time as a multiple of git's, and how much longer twice the
-# revisions take. The program's own clock takes its time, with the texts in memory; git's is that of its process. It drives
-# the built program mtn_bench_revisions: give its path, or have it built by `rt run` in crates/mtn_bench_revisions.
+# history to git fast-import, in the same run. Prints the time as a multiple of git's, and how much longer twice the
+# revisions take. The program's own clock takes its time, with the texts in memory; git's is that of its process.
+# Then puts a root of 100,000 nodes, two children and their merge, and a root over 1,000 contents of 1 MiB, which are not
+# to be read for it: what the last command takes, of time and of memory.
 set -eu
-top=$(cd "$(dirname "$0")/.." && pwd)
-program=${1:-$(ls "$top/crates/mtn_bench_revisions/out/mtn_bench_revisions" 2>/dev/null || true)}
-[ -n "$program" ] || { echo "build crates/mtn_bench_revisions first" >&2; exit 2; }
-work=$(mktemp -d)
-trap 'rm -rf "$work"' EXIT
-PYTHONDONTWRITEBYTECODE=1 PYTHONPATH="$top/tests" python3 - "$program" "$work" <<'PYTHON'
-import os, subprocess, sys, time
-from revisions import add_dir, add_file, patch, revision, sha
-program, work = sys.argv[1:3]
+cd "$(dirname "$0")/.."
+PYTHONDONTWRITEBYTECODE=1 PYTHONPATH="$PWD/bench:$PWD/tests" python3 - <<'PYTHON'
+import subprocess, tempfile
+from measure import PROGRAM, answer, peak, seconds, steps
+from revisions import add_dir, add_file, patch, revision, sha, two
+from tree import tree
 ROUNDS = 3
 FILES = 200
+
+def section(word, payload):
+    """A command for mtn_bench: its word, and its payload behind it."""
+    return b'%s %d\n%s' % (word, len(payload), payload)
 
 def content(file, version):
     return b'file %d, version %d\n' % (file, version)
@@ -24,45 +26,70 @@ def history(count):
     """The commands that put a line of so many revisions, and the same for git."""
     paths = ['d%02d/f%03d' % (file // 20, file) for file in range(FILES)]
     dirs = sorted({path.split('/')[0] for path in paths})
-    tree = {'': None, **{path: None for path in dirs}, **{path: sha(content(file, 0)) for file, path in enumerate(paths)}}
+    nodes = {'': None, **{path: None for path in dirs}, **{path: sha(content(file, 0)) for file, path in enumerate(paths)}}
     ours, git = [], []
     def put(word, payload):
-        ours.append(b'%s %d\n%s' % (word, len(payload), payload))
+        ours.append(section(word, payload))
     def commit(number, changed):
         git.append(b'commit refs/heads/main\ncommitter a <a> %d +0000\ndata 1\nx\n' % number)
         for file, version in changed:
             git.append(b'M 100644 inline %s\ndata %d\n%s\n' % (paths[file].encode(), len(content(file, version)), content(file, version)))
     for file in range(FILES):
         put(b'put_file', content(file, 0))
-    text = revision(tree, ('', [add_dir('')] + [add_dir(path) for path in dirs] + [add_file(path, tree[path]) for path in paths]))
+    text = revision(nodes, ('', [add_dir('')] + [add_dir(path) for path in dirs] + [add_file(path, nodes[path]) for path in paths]))
     put(b'put_revision', text)
     commit(0, [(file, 0) for file in range(FILES)])
     for number in range(1, count):
         file = number * 7 % FILES
         put(b'put_file', content(file, number))
-        old, new = tree[paths[file]], sha(content(file, number))
-        tree[paths[file]] = new
-        text = revision(tree, (sha(text), [patch(paths[file], old, new)]))
+        old, new = nodes[paths[file]], sha(content(file, number))
+        nodes[paths[file]] = new
+        text = revision(nodes, (sha(text), [patch(paths[file], old, new)]))
         put(b'put_revision', text)
         commit(number, [(file, number)])
-    return b''.join(ours), b''.join(git), len(ours)
+    return b''.join(ours), b''.join(git)
 
-def ours(given, count):
-    told = subprocess.run([program, 'time'], input=given, stdout=subprocess.PIPE, check=True).stdout.decode().split('\n')
-    assert told[0] == 'commands %d' % count, told[0]
-    return int(told[1].split()[1]) / 1e6
+def ours(given):
+    return min(sum(steps('commands', given)) for _ in range(ROUNDS))
 
-def gits(given, name):
-    folder = os.path.join(work, name)
-    subprocess.run(['git', 'init', '-q', '--bare', folder], check=True)
-    start = time.time()
-    subprocess.run(['git', '-C', folder, 'fast-import', '--quiet'], input=given, check=True)
-    return time.time() - start
+def once(given):
+    with tempfile.TemporaryDirectory() as folder:
+        subprocess.run(['git', 'init', '-q', '--bare', folder], check=True)
+        return seconds(['git', 'fast-import', '--quiet'], given, cwd=folder)
 
-one, one_git, one_count = history(2000)
-two, two_git, two_count = history(4000)
-rounds = [(ours(one, one_count), gits(one_git, 'one%d' % k), ours(two, two_count)) for k in range(ROUNDS)]
-once, git, twice = map(min, zip(*rounds))
-print('2,000 revisions %.3f s, git fast-import %.3f s: %.2f times (at most 8)' % (once, git, once / git))
-print('4,000 revisions %.3f s: %.2f times as long (at most 2.2)' % (twice, twice / once))
+one, one_git = history(2000)
+two, _ = history(4000)
+assert answer('commands', one) == b'4199\n', answer('commands', one)
+once_ours, git, twice = ours(one), min(once(one_git) for _ in range(ROUNDS)), ours(two)
+print('2,000 revisions %.3f s, git fast-import %.3f s: %.2f times (at most 8)' % (once_ours, git, once_ours / git))
+print('4,000 revisions %.3f s: %.2f times as long (at most 2.2)' % (twice, twice / once_ours))
+
+def root(paths, contents):
+    """A root with these paths, in which each file has its content; its tree, and its text."""
+    order = lambda path: path.encode().split(b'/') if path else []
+    dirs = sorted((path for path in paths if path not in contents), key=order)
+    nodes = {**{path: None for path in dirs}, **contents}
+    return nodes, revision(nodes, ('', [add_dir(path) for path in dirs] + [add_file(path, contents[path]) for path in sorted(contents, key=order)]))
+
+def last(commands):
+    return min(steps('commands', b''.join(commands))[1] for _ in range(ROUNDS))
+
+first, second = sha(b'abc'), sha(b'a')
+files = [line for line in tree() if not line.endswith('/')]
+nodes, text = root([line.rstrip('/') for line in tree()], {path: first for path in files})
+left = revision({**nodes, files[0]: second}, (sha(text), [patch(files[0], first, second)]))
+right = revision({**nodes, files[-1]: second}, (sha(text), [patch(files[-1], first, second)]))
+merge = revision({**nodes, files[0]: second, files[-1]: second},
+                 *two((sha(left), [patch(files[-1], first, second)]), (sha(right), [patch(files[0], first, second)])))
+commands = [section(b'put_file', b'abc'), section(b'put_file', b'a')] + [section(b'put_revision', of) for of in (text, left, right, merge)]
+rooted, merged = last(commands[:3]), last(commands)
+print('a root of 100,000 nodes %.3f s, a merge of two children %.3f s: %.2f times, peak %.2f GiB'
+      % (rooted, merged, merged / rooted, peak([PROGRAM, 'commands'], b''.join(commands)) / 2**30))
+
+bodies = [(b'%d ' % number).ljust(1 << 20, b'x') for number in range(1000)]
+nodes, text = root(['d', ''] + ['d/f%d' % number for number in range(1000)], {'d/f%d' % number: sha(body) for number, body in enumerate(bodies)})
+puts = [section(b'put_file', body) for body in bodies]
+held = peak([PROGRAM, 'commands'], b''.join(puts))
+more = peak([PROGRAM, 'commands'], b''.join(puts + [section(b'put_revision', text)])) - held
+print('a root over 1,000 contents of 1 MiB %.3f s, %.2f MiB more than without it' % (last(puts + [section(b'put_revision', text)]), more / 2**20))
 PYTHON

@@ -1,0 +1,48 @@
+"""What the scripts share: the program mtn_bench with its own clock, and the clock of other programs."""
+import os, subprocess, sys, tempfile, time
+
+TOP = os.path.dirname(os.path.dirname(os.path.abspath(__file__)))
+PROGRAM = os.environ.get('MTN_BENCH', TOP + '/crates/mtn_bench/out/mtn_bench')
+if not os.path.exists(PROGRAM):
+    sys.exit('build mtn_bench first: `rt run` in crates/mtn_bench, or give its path in MTN_BENCH')
+
+
+def answer(word, given):
+    """What mtn_bench writes for a word over some bytes."""
+    return subprocess.run([PROGRAM, word], input=given, stdout=subprocess.PIPE, check=True).stdout
+
+
+def steps(word, given):
+    """The seconds of the word's steps, by the program's own clock, which begins with what is read in memory."""
+    told = subprocess.run([PROGRAM, word, 'times'], input=given, stdout=subprocess.PIPE, check=True).stdout
+    return [int(step) / 1e6 for step in told.split()]
+
+
+def least(rounds):
+    """The least time of each step over some rounds."""
+    return [min(step) for step in zip(*rounds)]
+
+
+def given_as_file(given):
+    """A file of these bytes, read from its start."""
+    file = tempfile.TemporaryFile()
+    file.write(given)
+    file.seek(0)
+    return file
+
+
+def seconds(words, given=b'', cwd=None):
+    """The seconds of a program from its start to its end over these bytes; its output is not kept."""
+    with given_as_file(given) as file:
+        start = time.monotonic()
+        subprocess.run(words, stdin=file, stdout=subprocess.DEVNULL, check=True, cwd=cwd, env=dict(os.environ, LC_ALL='C'))
+        return time.monotonic() - start
+
+
+def peak(words, given=b''):
+    """The most memory of a program over these bytes, in bytes."""
+    with given_as_file(given) as file:
+        child = subprocess.Popen(words, stdin=file, stdout=subprocess.DEVNULL)
+        _, status, used = os.wait4(child.pid, 0)
+    assert status == 0, status
+    return used.ru_maxrss * 1024

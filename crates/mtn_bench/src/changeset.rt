@@ -1,0 +1,45 @@
+// Changesets (bench/changeset.sh).
+use crate::tree::{BIRTH, entries_of};
+use crate::watch::Watch;
+use mtn_apply::{apply, none_is_born};
+use mtn_base::Id;
+use mtn_changes::read_changes;
+use mtn_roster::Roster;
+use std::alloc::Global;
+
+// The revision that the changes make.
+const NEW: Id = Id([3; 20]);
+
+/// The tree that some changes make of another.
+fn applied(
+    rt: &HostRuntime,
+    watch: &mut Watch,
+    alloc: Global,
+    old: &Roster,
+    text: &[u8],
+) -> Option<Roster> {
+    let Ok(changes) = read_changes(alloc, text) else {
+        return None;
+    };
+    if !none_is_born(Some(old), NEW) {
+        return None;
+    }
+    watch.begin(rt)?;
+    let tree = apply(alloc, Some(old), &changes, NEW).ok()?;
+    watch.lap(rt)?;
+    Some(tree)
+}
+
+/// Applies the changes behind a `=` to the tree before it; writes how many nodes the new tree has.
+/// Steps: building the old tree, applying the changes.
+pub fn changeset(rt: &HostRuntime, watch: &mut Watch, text: &[u8]) -> Option<Vec<u8>> {
+    let alloc = rt.alloc();
+    let mut parts = text.split(|byte| *byte == b'=');
+    let entries = entries_of(alloc, parts.next()?, BIRTH)?;
+    watch.begin(rt)?;
+    let old = Roster::build(alloc, entries).ok()?;
+    watch.lap(rt)?;
+    let tree = applied(rt, watch, alloc, &old, parts.next()?)?;
+    let line = format!(in alloc; "{}\n", tree.len()).ok()?;
+    Some(line.into_bytes())
+}

@@ -1,0 +1,161 @@
+// Records of rosters and their chains (bench/records.sh).
+use crate::sections::number_of;
+use crate::watch::Watch;
+use mtn_ancestry::Pos;
+use mtn_records::{Field, Numbered, RosterRecord};
+use mtn_roster_deltas::{delta, rebuild};
+use std::alloc::Global;
+
+const LINKS: u8 = 15;
+
+/// A node by its line.
+#[derive(Clone, Copy)]
+struct Node<'a> {
+    parent: u64,
+    is_dir: bool,
+    path: &'a [u8],
+}
+
+fn node_of(line: &[u8]) -> Option<Node> {
+    let blank = line.iter().position(|byte| *byte == b' ')?;
+    let parent = number_of(&line[..blank]);
+    match &line[blank + 1..] {
+        [path @ .., b'/'] => Some(Node {
+            parent,
+            is_dir: true,
+            path,
+        }),
+        path => Some(Node {
+            parent,
+            is_dir: false,
+            path,
+        }),
+    }
+}
+
+fn nodes_of<'a>(alloc: Global, text: &'a [u8]) -> Option<Vec<Node<'a>>> {
+    let mut nodes = Vec::new(alloc);
+    for line in text.split(|byte| *byte == b'\n') {
+        if !line.is_empty() {
+            nodes.push(node_of(line)?).ok()?;
+        }
+    }
+    Some(nodes)
+}
+
+fn put_number(text: &mut Vec<u8>, number: u64) -> Option<()> {
+    text.extend_from_slice(&number.to_be_bytes()).ok()
+}
+
+fn put_count(text: &mut Vec<u8>, count: usize) -> Option<()> {
+    let count = u32::try_from(count).ok()?;
+    text.extend_from_slice(&count.to_be_bytes()).ok()
+}
+
+fn put_field(text: &mut Vec<u8>, field: &[u8]) -> Option<()> {
+    put_count(text, field.len())?;
+    text.extend_from_slice(field).ok()
+}
+
+fn put_mark(text: &mut Vec<u8>, at: u64) -> Option<()> {
+    put_count(text, 1)?;
+    put_number(text, at)
+}
+
+/// The entry of a node, as a record has it.
+fn put_entry(text: &mut Vec<u8>, number: u64, node: &Node, mark: u64) -> Option<()> {
+    put_number(text, number)?;
+    put_number(text, 0)?;
+    text.extend_from_slice(&[1; 20]).ok()?;
+    put_field(text, node.path)?;
+    text.push(u8::from(!node.is_dir)).ok()?;
+    put_number(text, node.parent)?;
+    put_field(text, node.path.rsplit(|byte| *byte == b'/').next()?)?;
+    put_mark(text, mark)?;
+    if !node.is_dir {
+        text.extend_from_slice(&[2; 20]).ok()?;
+        put_mark(text, 0)?;
+    }
+    put_number(text, 0)
+}
+
+/// The bytes of all entries after so many links, each of which marks ten of 100,000.
+fn text_of(alloc: Global, nodes: &[Node], links: u8) -> Option<Vec<u8>> {
+    let step = (nodes.len() / 10).max(16) as u64;
+    let mut text = Vec::new(alloc);
+    let mut number: u64 = 0;
+    put_number(&mut text, nodes.len() as u64)?;
+    for node in nodes {
+        number = number.saturating_add(1);
+        let link = number.checked_rem(step)?;
+        let mark = if link <= u64::from(links) { link } else { 0 };
+        put_entry(&mut text, number, node, mark)?;
+    }
+    Some(text)
+}
+
+fn numbered(alloc: Global, nodes: &[Node], links: u8) -> Option<Numbered> {
+    let text = text_of(alloc, nodes, links)?;
+    let (numbered, _) = Numbered::read(alloc, &text).ok()?;
+    Some(numbered)
+}
+
+fn chain_of(alloc: Global, nodes: &[Node]) -> Option<Vec<RosterRecord>> {
+    let mut base = numbered(alloc, nodes, 0)?;
+    let mut chain = Vec::new(alloc);
+    chain
+        .push(RosterRecord::Whole(numbered(alloc, nodes, 0)?))
+        .ok()?;
+    for depth in 1..=LINKS {
+        let new = numbered(alloc, nodes, depth)?;
+        let at = Pos(u64::from(depth - 1));
+        chain.push(delta(alloc, &base, at, depth, &new).ok()?).ok()?;
+        base = new;
+    }
+    Some(chain)
+}
+
+/// Writes a whole record, reads it and rebuilds it.
+fn time_whole(rt: &HostRuntime, watch: &mut Watch, record: &[u8]) -> Option<()> {
+    let alloc = rt.alloc();
+    let (numbered, _) = Numbered::read(alloc, record).ok()?;
+    let mut out = Vec::new(alloc);
+    watch.begin(rt)?;
+    numbered.write(&mut out).ok()?;
+    watch.lap(rt)?;
+    let (numbered, _) = Numbered::read(alloc, &out).ok()?;
+    watch.lap(rt)?;
+    let mut whole = Vec::new(alloc);
+    whole.push(RosterRecord::Whole(numbered)).ok()?;
+    watch.begin(rt)?;
+    let _end = rebuild(alloc, whole).ok()?;
+    watch.lap(rt)
+}
+
+/// How many entries a link marked.
+fn marked(end: &Numbered) -> u64 {
+    let mut count: u64 = 0;
+    for entry in end.entries.as_slice() {
+        if !entry.slot_marks.has(Pos(0)) {
+            count = count.saturating_add(1);
+        }
+    }
+    count
+}
+
+/// Makes the record of the nodes of a text, a line for each: the number of the line of its parent, a blank and its path,
+/// where a directory ends with a slash. Then makes a chain of sixteen, in which each link gives some slots a new mark, and
+/// rebuilds it; writes how many nodes its end has and how many of them a mark of a link.
+/// Steps: writing the whole record, reading it, rebuilding it, rebuilding the chain.
+pub fn records(rt: &HostRuntime, watch: &mut Watch, text: &[u8]) -> Option<Vec<u8>> {
+    let alloc = rt.alloc();
+    let nodes = nodes_of(alloc, text)?;
+    let chain = chain_of(alloc, &nodes)?;
+    time_whole(rt, watch, &text_of(alloc, &nodes, 0)?)?;
+    watch.begin(rt)?;
+    let (end, _tree) = rebuild(alloc, chain).ok()?;
+    watch.lap(rt)?;
+    let count = end.entries.as_slice().len();
+    let line = format!(in alloc; "{count} {}\n", marked(&end)).ok()?;
+    Some(line.into_bytes())
+}
