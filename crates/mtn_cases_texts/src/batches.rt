@@ -1,0 +1,93 @@
+// Batches.
+use crate::fields::{fields, number, put_number};
+use mtn_base::Bytes;
+use mtn_ports::Batch;
+use std::alloc::Global;
+
+/// Puts a record whose key is not empty.
+pub fn put(batch: &mut Batch, table: &[u8], key: &[u8], body: &[u8]) -> Option<()> {
+    if key.is_empty() {
+        return None;
+    }
+    batch
+        .put(u8::try_from(number(table)?).ok()?, key, body)
+        .ok()
+}
+
+fn find(batch: &Batch, table: &[u8], key: &[u8], out: &mut Vec<u8>) -> Option<()> {
+    match batch.find(u8::try_from(number(table)?).ok()?, key) {
+        Some(body) => out.extend_from_slice(body).ok(),
+        None => out.extend_from_slice(b"None").ok(),
+    }
+}
+
+fn least(batch: &Batch, table: &[u8], after: &[u8], out: &mut Vec<u8>) -> Option<()> {
+    match batch
+        .least_above(u8::try_from(number(table)?).ok()?, after)
+        .ok()?
+    {
+        Some(key) => out.extend_from_slice(key).ok(),
+        None => out.extend_from_slice(b"None").ok(),
+    }
+}
+
+fn cut(batch: &mut Batch, text: &[u8]) -> Option<()> {
+    let len = number(text)? as usize;
+    if len > batch.len() {
+        return None;
+    }
+    batch.cut(len);
+    Some(())
+}
+
+// The key at a place.
+fn at(batch: &Batch, text: &[u8], out: &mut Vec<u8>) -> Option<()> {
+    match batch.at(number(text)? as usize) {
+        Some(put) => out.extend_from_slice(put.key.as_slice()).ok(),
+        None => out.extend_from_slice(b"None").ok(),
+    }
+}
+
+fn step(
+    alloc: Global,
+    batch: &mut Batch,
+    other: &mut Batch,
+    step: &[Bytes],
+    out: &mut Vec<u8>,
+) -> Option<()> {
+    let (word, args) = step.split_first()?;
+    match (word.as_slice(), args) {
+        (b"put", [table, key, body]) => put(
+            batch,
+            table.as_slice(),
+            key.as_slice(),
+            body.as_slice(),
+        ),
+        (b"also", [table, key, body]) => put(
+            other,
+            table.as_slice(),
+            key.as_slice(),
+            body.as_slice(),
+        ),
+        (b"extend", []) => batch.extend(other).ok(),
+        (b"cut", [len]) => cut(batch, len.as_slice()),
+        (b"len", []) => put_number(alloc, batch.len() as u64, out).ok(),
+        (b"at", [place]) => at(batch, place.as_slice(), out),
+        (b"find", [table, key]) => find(batch, table.as_slice(), key.as_slice(), out),
+        (b"least", [table, after]) => least(batch, table.as_slice(), after.as_slice(), out),
+        _ => None,
+    }
+}
+
+/// `batch STEP..`, with colons between the words of a step: `put:TABLE:KEY:BODY`, `also:..` into another batch, `extend` with
+/// that one, `cut:LEN`, `len`, `at:PLACE`, `find:TABLE:KEY`, `least:TABLE:AFTER`. A blank stands behind each answer.
+pub fn batch(alloc: Global, args: &[Bytes], out: &mut Vec<u8>) -> Option<()> {
+    let mut batch = Batch::new(alloc);
+    let mut other = Batch::new(alloc);
+    for arg in args {
+        let words = fields(alloc, arg.as_slice(), b':')?;
+        step(alloc, &mut batch, &mut other, &words, out)?;
+        out.push(b' ').ok()?;
+    }
+    Some(())
+}
