@@ -135,7 +135,6 @@ verdict "the text is as it was" cmp -s "$work/text" "$work/text.before"
 sqlite3 "$work/other.db" 'CREATE TABLE note (id INTEGER PRIMARY KEY)'
 row "another database is no store" 6 x '' "$work/other.db" put_file
 verdict "the other database is as it was" asks "$work/other.db" 'SELECT count(*) FROM sqlite_schema' 1
-row "a store in no folder cannot be made" 6 x '' "$work/no/such/folder.mtn" put_file
 : >"$work/empty.mtn"
 row "an empty file becomes a store" 0 abc "$abc\n" "$work/empty.mtn" put_file
 
@@ -196,30 +195,82 @@ killed() {
 }
 for round in $(seq 20); do verdict "killed, round $round" killed; done
 
-# ---- help, version and the walk in docs/USING.md
+# ---- a store that is missing, or may not be written
+
+asked="get_file $abc;get_revision $abc;get_manifest_of $abc;get_roster $abc;get_content_changed $abc a;get_corresponding_path $abc a $abc;parents $abc;children $abc;ancestors $abc;descendents $abc;common_ancestors $abc;erase_ancestors;toposort;ancestry_difference $abc;leaves;roots;graph"
+
+# asks_nothing WORD..: over a missing store a command that only asks answers as over an empty one, and makes no file.
+asks_nothing() {
+    local over_empty over_missing
+    over_empty=$(./mtn - "$@"; echo "status $?")
+    over_missing=$(./mtn "$work/missing.mtn" "$@"; echo "status $?")
+    [ "$over_empty" = "$over_missing" ] && [ ! -e "$work/missing.mtn" ] && [ ! -e "$work/missing.mtn-wal" ]
+}
+while IFS= read -r words; do
+    # shellcheck disable=SC2086
+    verdict "a missing store: $words" asks_nothing $words
+done <<<"${asked//;/$'\n'}"
+row "a missing folder is asked too" 0 '' '' "$work/no/such/folder.mtn" leaves
+row "and nothing is kept there" 6 x '' "$work/no/such/folder.mtn" put_file
+row "a file makes a missing store" 0 abc "$abc\n" "$work/made.mtn" put_file
+row "a refused revision too" 1 '' 'refused BadOrder 1\n' "$work/refused.mtn" put_revision
+verdict "the stores were made" test -e "$work/made.mtn" -a -e "$work/refused.mtn"
+
+# as_nobody WORD..: without the rights of root, whom no mode stops.
+as_nobody() {
+    if [ "$(id -u)" = 0 ]; then setpriv --reuid=65534 --regid=65534 --clear-groups "$@"; else "$@"; fi
+}
+# shut NAME STATUS OUTPUT STORE WORD..: the same as a row, as nobody, over an input of no bytes.
+shut() {
+    local name=$1 status=$2 output=$3 ended
+    shift 3
+    as_nobody "$work/mtn" "$@" </dev/null >"$work/out" 2>"$work/err"
+    ended=$?
+    printf "$output" >"$work/want"
+    verdict "$name: status $ended, output $(head -c 200 "$work/out")" \
+        test "$ended" = "$status" -a ! -s "$work/err" -a "$(cmp "$work/out" "$work/want" 2>&1)" = ""
+}
+cp target/mtn "$work/mtn"
+chmod 755 "$work" "$work/mtn"
+mkdir "$work/open" "$work/shut"
+cp "$work/made.mtn" "$work/open/s.mtn"
+cp "$work/made.mtn" "$work/shut/s.mtn"
+chmod 444 "$work/open/s.mtn"
+chmod 666 "$work/shut/s.mtn"
+chmod 777 "$work/open"
+chmod 555 "$work/shut"
+for words in put_file "get_file $abc" leaves; do
+    # shellcheck disable=SC2086
+    shut "a store that may not be written: $words" 6 '' "$work/open/s.mtn" $words
+    # shellcheck disable=SC2086
+    shut "a store in a folder that may not be written: $words" 6 '' "$work/shut/s.mtn" $words
+done
+shut "a missing store in such a folder is asked" 0 '' "$work/shut/none.mtn" leaves
+shut "and not made" 6 '' "$work/shut/none.mtn" put_file
+verdict "both stores are as they were" test "$(cat "$work/open/s.mtn" "$work/shut/s.mtn" | sha1sum)" = "$(cat "$work/made.mtn" "$work/made.mtn" | sha1sum)"
+
+# ---- help, version and the walks in the documents
 
 ./mtn --help >"$work/help"
-verdict "help has status 0 and names each command" test $? = 0 -a "$(grep -c '^  put_file \|^  get_file \|^  get_revision \|^  get_manifest_of \|^  get_roster \|^  get_content_changed \|^  get_corresponding_path ' "$work/help")" = 7
-verdict "and each query" test "$(grep -c '^  parents \|^  children \|^  ancestors \|^  descendents \|^  common_ancestors \|^  erase_ancestors \|^  toposort \|^  ancestry_difference \|^  leaves \|^  roots \|^  graph ' "$work/help")" = 11
-row "the version" 0 '' 'mtn 0.1.0 (Sonnavil)\n' --version
-row "help with more words is a store of that name" 2 '' 'usage\n' --help heads
+verdict "help has status 0" test $? = 0
+while IFS= read -r words; do
+    name=${words%% *}
+    verdict "help lists $name" grep -q "^  $name " "$work/help"
+    ./mtn --help "$name" >"$work/out"
+    verdict "and says more of it" test $? = 0 -a "$(head -n 1 "$work/out" | cut -d' ' -f1)" = "$name" -a "$(wc -l <"$work/out")" -gt 1
+done <<<"put_file"$'\n'"put_revision"$'\n'"${asked//;/$'\n'}"
+for status in 0 1 2 3 4 5 6 7 8 9; do
+    ./mtn --explain "$status" >"$work/out"
+    verdict "status $status is explained" test $? = 0 -a "$(head -c 2 "$work/out")" = "$status "
+done
+row "no more is" 2 '' 'usage\n' --explain 10
+row "no other command has help" 2 '' 'usage\n' --help heads
+row "help of two is a store of that name" 2 '' 'usage\n' --help heads leaves
+row "the version" 0 '' 'mtn 0.1.0 (Sonnavil), store format 1\n' --version
+verdict "a store's record says the same format" asks "$store" "SELECT CAST(body AS TEXT) FROM kept WHERE kind = 1 AND name = CAST('version' AS BLOB)" 1
 
-# walk: runs each line that begins with '$ ', and compares what is printed with the lines below it.
-walk() {
-    local top=$PWD
-    mkdir "$work/walk" && cp target/mtn "$work/walk/" && cd "$work/walk" || return 1
-    awk '/^```/ { inside = !inside; next } inside' "$top/docs/USING.md" >script
-    grep '^\$ ' script | sed 's/^\$ //' | while IFS= read -r line; do
-        printf '$ %s\n' "$line"
-        PATH=$PWD:$PATH bash -c "$line" 2>&1
-    done >printed
-    cd "$top" || return 1
-    cmp -s "$work/walk/script" "$work/walk/printed" || { diff "$work/walk/script" "$work/walk/printed" >&2; return 1; }
-}
-verdict "the walk in docs/USING.md" walk
-
-# Histories, made and asked for; the rows of each script count here.
-for script in revisions random_histories; do
+# The walks in the documents, and histories, made and asked for; the rows of each script count here.
+for script in walk revisions random_histories; do
     told=$(python3 "tests/$script.py")
     ended=$?
     echo "$script: $told"

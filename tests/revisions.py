@@ -252,7 +252,7 @@ def merges(folder):
     store = Store(folder, 'merges')
     h, ha = store.file(b'abc'), store.file(b'a')
     f = lambda content: {'': None, 'f': content}
-    r0 = store.accepted('R0', revision(f(h), ('', [add_dir(''), add_file('f', h)])))
+    r0 = store.accepted('root', revision(f(h), ('', [add_dir(''), add_file('f', h)])))
     p = store.accepted('P patches', revision(f(ha), (r0, [patch('f', h, ha)])))
     q = store.accepted('Q patches back', revision(f(h), (p, [patch('f', ha, h)])))
     u = store.accepted('U adds', revision({**f(h), 'g': h}, (r0, [add_file('g', h)])))

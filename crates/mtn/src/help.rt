@@ -1,12 +1,13 @@
-// What `--help` and `--version` print.
+// What `--help`, `--explain` and `--version` print.
 
 /// The grammar of words, and what each status leaves.
 pub const HELP: &str = "\
 mtn STORE COMMAND [WORD..]
 
-STORE is the file that holds the store, which is made where there is none, or
-`-` for an empty store in memory. The input of a command is standard input, its
-output standard output. The word `--` ends the options of a command.
+STORE is the file that holds the store, or `-` for an empty store in memory. A
+command that keeps something makes the file where there is none; one that only
+asks answers then as over an empty store. The input of a command is standard
+input, its output standard output. The word `--` ends the options of a command.
 
 Commands:
   put_file             keeps the input as a file; prints its id
@@ -41,25 +42,165 @@ FILE is the id of a file, REV that of a revision: 40 lower-case hexadecimal
 digits, the SHA-1 of its bytes, of its text. PATH is components joined by `/`,
 the root the empty word.
 
-  mtn --help     prints this
-  mtn --version  prints the version
+  mtn --help             prints this
+  mtn --help COMMAND     says what a command takes, prints and refuses
+  mtn --explain STATUS   says what an exit status leaves, and what to do
+  mtn --version          prints the version, and the format of the store
 
-Exit status:
-  0  done; the output is written
-  1  refused; the line of the refusal is written, and the store is as it was
-  2  the words are none of the above; `usage` is written, and nothing is opened
-     or read
-  3  a merge found conflicts; their text is written, and the store is as it was
-  4  the input failed; nothing is written, and the store is as it was
-  5  the output failed; the command was done, and a front of its output is
-     written
-  6  the store failed; nothing is written, and the store is as it was
-  7  memory is wanting; nothing is written, and the store is as it was
-  8  the store is damaged; the record that shows it is written, and the store is
-     as it was
-  9  the input has more than 268435456 bytes; nothing is written, and the store
-     is as it was
-";
+Exit status: 0 done, 1 refused, 2 usage, 3 conflicts, 4 the input failed, 5 the
+output failed, 6 the store failed, 7 memory is wanting, 8 the store is damaged,
+9 the input is too long. But for 0 and 5 the store is as it was.";
 
-/// The program and its version.
-pub const VERSION: &str = "mtn 0.1.0 (Sonnavil)\n";
+/// The program and its version, and what a store's record of its version says.
+pub const VERSION: &str = "mtn 0.1.0 (Sonnavil), store format 1";
+
+/// What each command takes, prints and refuses; a paragraph begins with its name.
+pub const COMMANDS: &str = "\
+put_file <FILE
+  Keeps the bytes of standard input as a file. The same bytes are kept once.
+  Prints its id: the SHA-1 of the bytes.
+  Refused: TextTooLong (more than 67108864 bytes), Collision (other bytes are
+  held under the id).
+
+put_revision <TEXT
+  Accepts standard input as the text of a revision: a root, a change of one
+  parent, or a merge of two. Its parents and the contents that it brings have to
+  be held. A text that is held already is accepted again.
+  Prints its id: the SHA-1 of the text.
+  Refused: the first of TextTooLong, NotText, BadStanza, BadOrder, Repeated,
+  BadEdge, Collision, LogFull, UnknownParent, BadChange, Disagree, Revived,
+  TooManyNodes, PathTooLong, UnknownFile, ManifestDiffers (which tells the id of
+  the manifest that the changes make).
+
+get_file FILE
+  Prints the bytes of the file with this id.
+  Refused: UnknownFile.
+
+get_revision REV
+  Prints the text of the revision with this id.
+  Refused: UnknownRevision.
+
+get_manifest_of REV
+  Prints the manifest of the revision's tree: each node by its path, with the
+  content of files and the live attributes.
+  Refused: UnknownRevision.
+
+get_roster REV
+  Prints the revision's tree with the birth of each node, and with the revisions
+  from which its place, its content and its attributes come.
+  Refused: UnknownRevision.
+
+get_content_changed REV PATH
+  Prints the ids of the revisions from which the content of the file at PATH
+  comes, as stanzas, ascending.
+  Refused: UnknownRevision, NoSuchPath, NotAFile.
+
+get_corresponding_path REV PATH OTHER
+  Prints where the node at PATH of the revision REV stands in the revision OTHER,
+  or nothing where it is not there.
+  Refused: UnknownRevision, NoSuchPath.
+
+parents REV
+  Prints the parents of a revision, ascending.
+  Refused: UnknownRevision.
+
+children REV
+  Prints the revisions that have it as a parent, ascending.
+  Refused: UnknownRevision.
+
+ancestors REV..
+  Prints the revisions that are a proper ancestor of at least one of these,
+  ascending.
+  Refused: UnknownRevision.
+
+descendents REV..
+  Prints the revisions that are a proper descendent of at least one of these,
+  ascending.
+  Refused: UnknownRevision.
+
+common_ancestors REV..
+  Prints the revisions that are each of these or an ancestor of it, ascending.
+  Refused: UnknownRevision.
+
+erase_ancestors [REV..]
+  Prints those of the revisions that are proper ancestors of no other of them,
+  ascending.
+  Refused: UnknownRevision.
+
+toposort [REV..]
+  Prints the revisions in the order in which the store accepted them: parents
+  before children.
+  Refused: UnknownRevision.
+
+ancestry_difference REV [REV..]
+  Prints the first revision and its ancestors, without the others and theirs, in
+  the order in which the store accepted them.
+  Refused: UnknownRevision.
+
+leaves
+  Prints the revisions without children, ascending.
+
+roots
+  Prints the revisions without parents, ascending.
+
+graph
+  Prints a line for each revision, ascending: its id, and its parents' ids.";
+
+/// What each exit status leaves and asks of the user; a paragraph begins with its number.
+pub const STATUSES: &str = "\
+0 done
+  The command was done, and its whole answer is written.
+
+1 refused
+  The line `refused NAME ..` is written, and the store is as it was. It stands
+  on standard output: look at the status before you use what `>` caught. The
+  names are explained in docs/FORMATS.md; `mtn --help COMMAND` lists those of a
+  command.
+
+2 usage
+  `usage` is written; nothing was opened or read. A word is misspelt, an id has
+  not 40 lower-case hexadecimal digits, a path is none, or the store's name is
+  missing in front. `mtn --help` lists the commands.
+
+3 conflicts
+  A merge found conflicts; their text is written, and the store is as it was.
+
+4 the input failed
+  Standard input could not be read. Nothing is written, and the store is as it
+  was.
+
+5 the output failed
+  The command was done, and what it kept is kept; a front of its answer is
+  written. Ask for the answer again.
+
+6 the store failed
+  Nothing is written, and the store is as it was. One of:
+  - another command has the store open: try again;
+  - STORE is a folder;
+  - STORE is a file that is no store (`sqlite3 STORE .schema` shows what it is);
+  - its folder is not there;
+  - you may not read and write the file and its folder;
+  - the disk is full or failed.
+
+7 memory is wanting
+  Nothing is written, and the store is as it was. A command holds its input and
+  its store in memory: give it more.
+
+8 the store is damaged
+  `damaged ..` or `missing ..` shows the record; nothing was changed. Something
+  else changed the store: use a copy that you kept.
+
+9 the input is too long
+  It has more than 268435456 bytes. Nothing is written, and the store is as it
+  was.";
+
+/// The paragraph of a text that begins with a word.
+pub fn paragraph<'a>(text: &'a str, word: &str) -> Option<&'a str> {
+    for part in text.split("\n\n") {
+        let first = part.split(|c| c == ' ' || c == '\n').next();
+        if first == Some(word) {
+            return Some(part);
+        }
+    }
+    None
+}

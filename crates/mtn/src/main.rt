@@ -1,66 +1,39 @@
 //! The program: `mtn STORE WORD..` runs one command over a store.
 //!
-//! STORE is a file, or `-` for an empty store in memory. The payload is standard input, the answer
-//! standard output, the exit status the number of the answer's status. Nothing is printed to standard
-//! error. The proofs here say that the program is safe and ends; what a command does is said by the
-//! clauses of `mtn_cli::run`.
+//! STORE is a file, or `-` for an empty store in memory; where the file is not there, a command that only asks is done
+//! over one too. The payload is standard input, the answer standard output, the exit status the number of the answer's
+//! status. Nothing is printed to standard error. The proofs here say that the program is safe and ends; what a command
+//! does is said by the clauses of `mtn_cli::run`.
 #![tactic(auto)]
 
+mod asking;
 mod help;
+mod line;
 mod store;
 
-use help::{HELP, VERSION};
-use mtn_base::{Bytes, List, NoMemory};
+use asking::only_asks;
+use line::{Line, line_of};
+use mtn_base::{Bytes, NoMemory};
 use mtn_cli::{Status, are_words};
-use std::env;
-use std::io::{ErrorKind, Write};
+use std::fs;
 use std::process::ExitCode;
 use std::thread::Threads;
 use store::{in_file, in_memory};
 
-/// What the command line asks for.
-#[derive(Drop)]
-enum Line {
-    /// A command over a store.
-    Command { store: String, words: List<Bytes> },
-    /// `--help` or `--version` as the only word.
-    Text(&'static str),
-    /// No store, or words that are not UTF-8.
-    Usage,
-}
-
-fn line_of(rt: &HostRuntime) -> Result<Line, NoMemory> {
-    let mut args = match env::args(rt) {
-        Ok(args) => args.skip(1),
-        Err(error) if error.kind() == ErrorKind::InvalidData => return Ok(Line::Usage),
-        Err(_) => return Err(NoMemory),
-    };
-    let Some(store) = args.next() else {
-        return Ok(Line::Usage);
-    };
-    let mut words = List::new(rt.alloc());
-    for arg in args {
-        words.push(List::from_vec(arg.into_bytes()))?;
-    }
-    if words.as_slice().is_empty() {
-        match store.as_str() {
-            "--help" => return Ok(Line::Text(HELP)),
-            "--version" => return Ok(Line::Text(VERSION)),
-            _ => {}
-        }
-    }
-    Ok(Line::Command { store, words })
-}
-
-// Prints a text; no store is opened.
+// Prints a text and a line's end; no store is opened.
 fn print(rt: &HostRuntime, text: &str, status: Status) -> Status {
-    match rt.stdout().write_all(text.as_bytes()) {
+    match println!(rt; "{text}") {
         Ok(()) => status,
         Err(_) => Status::SinkFault,
     }
 }
 
-// A command over the store that is named; words outside the grammar open none.
+// Whether there is certainly no file of this name.
+fn is_missing(rt: &HostRuntime, path: &str) -> bool {
+    matches!(fs::exists(rt, path), Ok(false))
+}
+
+// A command over the store that is named; words outside the grammar open none, and a command that only asks makes none.
 fn command<T: Threads + Sync>(
     threads: &T,
     rt: &HostRuntime,
@@ -69,8 +42,9 @@ fn command<T: Threads + Sync>(
 ) -> Status {
     match are_words(rt.alloc(), words) {
         Ok(true) if store == "-" => in_memory(threads, rt, words),
+        Ok(true) if only_asks(words) && is_missing(rt, store) => in_memory(threads, rt, words),
         Ok(true) => in_file(threads, rt, store, words),
-        Ok(false) => print(rt, "usage\n", Status::Usage),
+        Ok(false) => print(rt, "usage", Status::Usage),
         Err(NoMemory) => Status::NoMemory,
     }
 }
@@ -81,7 +55,7 @@ fn status_of<T: Threads + Sync>(threads: &T, rt: &HostRuntime) -> Status {
     };
     match line {
         Line::Text(text) => print(rt, text, Status::Ok),
-        Line::Usage => print(rt, "usage\n", Status::Usage),
+        Line::Usage => print(rt, "usage", Status::Usage),
         Line::Command { store, words } => command(threads, rt, store.as_str(), words.as_slice()),
     }
 }

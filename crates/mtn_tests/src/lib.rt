@@ -1,27 +1,10 @@
-//! Tests that cross crates: `run` over objects in memory, with worked rows as tables.
+//! What has to be a test: the keeper over SQLite databases in memory, and which values cross threads. All other cases are
+//! lines of data (`mtn_cases_..`).
 #![tactic(auto)]
 
 #[cfg(test)]
-mod doubt;
+mod commands;
 #[cfg(test)]
-mod faults;
+mod keeper;
 #[cfg(test)]
-mod files;
-#[cfg(test)]
-mod given;
-#[cfg(test)]
-mod graphs;
-#[cfg(test)]
-mod limits;
-#[cfg(test)]
-mod lines;
-#[cfg(test)]
-mod paths;
-#[cfg(test)]
-mod remembered;
-#[cfg(test)]
-mod revisions;
-#[cfg(test)]
-mod trees;
-#[cfg(test)]
-mod words;
+mod threads;

@@ -1,0 +1,18 @@
+// Which commands keep nothing in the store.
+use mtn_base::Bytes;
+
+// Their names.
+const ASKING: &str =
+    "get_file get_revision get_manifest_of get_roster get_content_changed get_corresponding_path parents children ancestors descendents common_ancestors erase_ancestors toposort ancestry_difference leaves roots graph";
+
+/// Whether the first word is a command that only asks. A store that is not there is not made for it; for any other word,
+/// one that is not known here too, it is.
+pub fn only_asks(words: &[Bytes]) -> bool {
+    let Some(word) = words.first() else {
+        return false;
+    };
+    ASKING
+        .as_bytes()
+        .split(|byte| *byte == b' ')
+        .any(|name| name == word.as_slice())
+}
