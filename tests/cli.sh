@@ -258,7 +258,7 @@ while IFS= read -r words; do
     verdict "help lists $name" grep -q "^  $name " "$work/help"
     ./mtn --help "$name" >"$work/out"
     verdict "and says more of it" test $? = 0 -a "$(head -n 1 "$work/out" | cut -d' ' -f1)" = "$name" -a "$(wc -l <"$work/out")" -gt 1
-done <<<"put_file"$'\n'"put_revision"$'\n'"${asked//;/$'\n'}"
+done <<<"put_file"$'\n'"put_revision"$'\n'"stdio"$'\n'"${asked//;/$'\n'}"
 for status in 0 1 2 3 4 5 6 7 8 9; do
     ./mtn --explain "$status" >"$work/out"
     verdict "status $status is explained" test $? = 0 -a "$(head -c 2 "$work/out")" = "$status "
@@ -270,7 +270,7 @@ row "the version" 0 '' 'mtn 0.1.0 (Sonnavil), store format 1\n' --version
 verdict "a store's record says the same format" asks "$store" "SELECT CAST(body AS TEXT) FROM kept WHERE kind = 1 AND name = CAST('version' AS BLOB)" 1
 
 # The walks in the documents, and histories, made and asked for; the rows of each script count here.
-for script in walk revisions random_histories; do
+for script in walk revisions random_histories sessions; do
     told=$(python3 "tests/$script.py")
     ended=$?
     echo "$script: $told"

@@ -38,6 +38,14 @@ says log order, which is that of acceptance:
   roots                           the revisions without parents
   graph                           a line for each revision: its id, its parents
 
+Many commands at one opening of the store:
+  stdio                done request by request; the input is requests, each `l`,
+                       its words and `e`, a word its size in decimal, `:` and
+                       its bytes, as l8:put_file3:abce. The last word of
+                       put_file and put_revision is their input. The answer to
+                       request N, counted from 0, is N:m:SIZE:OUTPUT and
+                       N:l:1:STATUS
+
 FILE is the id of a file, REV that of a revision: 40 lower-case hexadecimal
 digits, the SHA-1 of its bytes, of its text. PATH is components joined by `/`,
 the root the empty word.
@@ -49,7 +57,9 @@ the root the empty word.
 
 Exit status: 0 done, 1 refused, 2 usage, 3 conflicts, 4 the input failed, 5 the
 output failed, 6 the store failed, 7 memory is wanting, 8 the store is damaged,
-9 the input is too long. But for 0 and 5 the store is as it was.";
+9 the input is too long. But for 0 and 5 the store is as it was; in a session
+the requests that were answered were done, and after 5 the one whose answer was
+cut short too.";
 
 /// The program and its version, and what a store's record of its version says.
 pub const VERSION: &str = "mtn 0.1.0 (Sonnavil), store format 1";
@@ -144,7 +154,15 @@ roots
   Prints the revisions without parents, ascending.
 
 graph
-  Prints a line for each revision, ascending: its id, and its parents' ids.";
+  Prints a line for each revision, ascending: its id, and its parents' ids.
+
+stdio <REQUESTS
+  Does many commands at one opening of the store. Standard input is requests,
+  each `l`, its words and `e`; a word is its size in decimal, `:` and its bytes.
+  The last word of put_file and put_revision is their input.
+  Prints for request N, counted from 0, N:m:SIZE:OUTPUT and N:l:1:STATUS.
+  Refused: BadRequest (with the number, counted from 1, of the first request that
+  is not whole and right; nothing is done then).";
 
 /// What each exit status leaves and asks of the user; a paragraph begins with its number.
 pub const STATUSES: &str = "\

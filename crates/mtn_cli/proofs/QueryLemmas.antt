@@ -24,9 +24,9 @@ use Rattle.mtn_history.specs.declared.errors.HistoryError.{HistoryError}
 use Rattle.mtn_history.specs.declared.errors.HistoryError.TheVariants.{Store}
 use Rattle.mtn_history.specs.declared.pending.Pending.{Pending}
 use Rattle.mtn_history.proofs.LogLemmas.{read_tells, never_wrong}
-use Rattle.mtn_cli.specs.Performs.{Counts, Drafts, drafted, query_refusal, replied}
+use Rattle.mtn_cli.specs.Drafts.{Counts, Drafts, drafted, query_refusal}
 use Rattle.mtn_model.specs.Outcome.{Outcome}
-use Rattle.mtn_step.specs.Step.{Asked, Steps, refused}
+use Rattle.mtn_step.specs.Step.{Asked, Steps, done, refused}
 use Rattle.mtn_step.specs.declared.call.Call.TheVariants.{Ask}
 use Rattle.mtn_answers.specs.Queries.{ids_of}
 use Rattle.mtn_graph_queries.specs.Queries.{NamesUnknown}
@@ -34,8 +34,7 @@ use Rattle.mtn_answers.specs.declared.query.Query.{Query}
 use Rattle.mtn_graph_queries.specs.declared.query.QueryError.{QueryError}
 use Rattle.mtn_graph_queries.specs.declared.query.QueryError.TheVariants.{Unknown}
 use Rattle.mtn_graph_queries.specs.declared.query.QueryError.TheVariants as query
-use Rattle.mtn_cli.specs.declared.answer.Reply.{Reply}
-use Rattle.mtn_cli.proofs.PerformsLemmas.{reason_of}
+use Rattle.mtn_cli.proofs.WorksLemmas.{reason_of}
 
 module _ (f : List ℕ → List ℕ) (c : Contents) (p : Pending) (s : State) where
   no_revision : p.count ≡ length s.log → IsNew (with_all c p.batch) s → p.count ≡ 0
@@ -84,7 +83,7 @@ graph_damage (Some c) p (Damaged d) counted wrong = inr (inr (inl (counted_wrong
 module _ (f : List ℕ → List ℕ) {K : Type 0} (contents : K → Option Contents) (leaves : K → Contents → Type 0) (faults : K → ℕ) (old new : K) (before after : Pending)
     (Outcomes : State → Outcome → Type 0) (stays : Stays contents leaves faults old new) where
   -- the graph could not be read
-  pub graph_failed : (result : Result Reply HistoryError) (e : StoreError) → result ≡ Err (Store e) → IfSome (contents new) (λ c. IfDamage e (WrongBelow before.count (with_all c before.batch))) →
+  pub graph_failed : (result : Result (List ℕ) HistoryError) (e : StoreError) → result ≡ Err (Store e) → IfSome (contents new) (λ c. IfDamage e (WrongBelow before.count (with_all c before.batch))) →
       (e ≡ Failed → Rose (faults old) (faults new)) → Drafts f contents leaves faults old new before after Outcomes result
   graph_failed result e is wrong failed = subst (Drafts f contents leaves faults old new before after Outcomes) (sym is) record {
     stays = stays;
@@ -97,9 +96,9 @@ module _ (f : List ℕ → List ℕ) {K : Type 0} (contents : K → Option Conte
     read_at c told = subst (λ o. IfSome o (λ c. IsReadTo (with_all c before.batch) before.count entries)) told read
 
     -- what was answered of the graph is the outcome over the history that it tells
-    pub graph_answered : (reply : Reply) → after ≡ before → ((s : State) (h : List Revision) → IsHistory f s.files s.log h → Tells h entries → Outcomes s (replied reply s)) →
-        Drafts f contents leaves faults old new before after Outcomes (Ok reply)
-    graph_answered reply same made = record {
+    pub graph_answered : (text : List ℕ) → after ≡ before → ((s : State) (h : List Revision) → IsHistory f s.files s.log h → Tells h entries → Outcomes s (done s text)) →
+        Drafts f contents leaves faults old new before after Outcomes (Ok text)
+    graph_answered text same made = record {
       stays = stays;
       done = λ c s told draft. let g = graph_told f c before s draft entries (read_at c told) in (s, made s g.0 g.1 g.2, subst (λ (p : Pending). IsDraft f c p s) (sym same) draft);
       reason = λ counted. tt;

@@ -15,9 +15,8 @@ use Rattle.mtn_model.specs.State.{State}
 use Rattle.mtn_model.specs.Table.{Contents}
 use Rattle.mtn_ports.specs.Causes.{Rose}
 use Rattle.mtn_ports.specs.Kept.{Stays, with_all}
-use Rattle.mtn_cli.specs.Performs.{Counts, Drafted, Drafts, HasReason, drafted}
+use Rattle.mtn_cli.specs.Drafts.{Counts, Drafted, Drafts, HasReason, drafted}
 use Rattle.mtn_step.specs.Step.{Steps, done, id_line}
-use Rattle.mtn_cli.specs.declared.answer.Reply.{Reply}
 use Rattle.mtn_step.specs.declared.call.Call.TheVariants.{PutRevision}
 
 -- an error comes from its cause
@@ -34,11 +33,11 @@ drafted_err f c s text (Store x) p q a = a
 drafted_err f c s text (Refused cause) p q a = record { refusal = Some cause; after = a.0; decides = a.1; is = refl }
 
 module _ (f : List ℕ → List ℕ) {K : Type 0} (contents : K → Option Contents) (leaves : K → Contents → Type 0) (faults : K → ℕ) (old new : K) (before after : Pending) (text : List ℕ) where
-  pub revision_failed : (result : Result Reply HistoryError) (e : HistoryError) → result ≡ Err e → Stays contents leaves faults old new →
+  pub revision_failed : (result : Result (List ℕ) HistoryError) (e : HistoryError) → result ≡ Err e → Stays contents leaves faults old new →
       ((c : Contents) (s : State) → contents new ≡ Some c → IsDraft f c before s → AcceptsRevision f c s text (Err e) after) →
       IfSome (contents new) (λ c. IsMetaOf (with_all c before.batch) (record { count = before.count; is_new = before.is_new }) → IfStoreDamage e (IsDamage (with_all c before.batch))) →
       (e ≡ Store Failed → Rose (faults old) (faults new)) → Drafts f contents leaves faults old new before after (Steps f PutRevision text) result
-  revision_failed result e is stays accepts damaged rose = subst (λ (r : Result Reply HistoryError). Drafts f contents leaves faults old new before after (Steps f PutRevision text) r) (sym is) (record {
+  revision_failed result e is stays accepts damaged rose = subst (λ (r : Result (List ℕ) HistoryError). Drafts f contents leaves faults old new before after (Steps f PutRevision text) r) (sym is) (record {
     stays = stays;
     done = λ c s told draft. drafted_err f c s text e after after (accepts c s told draft);
     reason = reason_told (contents new) before (faults old) (faults new) e rose damaged;
@@ -46,7 +45,7 @@ module _ (f : List ℕ → List ℕ) {K : Type 0} (contents : K → Option Conte
 
   pub revision_answered : (id : Id) (line : List ℕ) → line ≡ id_line id.0 → Stays contents leaves faults old new →
       ((c : Contents) (s : State) → contents new ≡ Some c → IsDraft f c before s → AcceptsRevision f c s text (Ok id) after) →
-      Drafts f contents leaves faults old new before after (Steps f PutRevision text) (Ok (record { conflicts = false; text = line }))
+      Drafts f contents leaves faults old new before after (Steps f PutRevision text) (Ok line)
   revision_answered id line is stays accepts = record {
     stays = stays;
     done = λ c s told draft.

@@ -21,10 +21,9 @@ use Rattle.mtn_history.proofs.MarkedLemmas.{draft_counts}
 use Rattle.mtn_history.proofs.MetaLemmas.{no_damage}
 use Rattle.mtn_answers.specs.Views.{TextAnswer}
 use Rattle.mtn_roster_queries.specs.Answers.{Gives}
-use Rattle.mtn_cli.specs.declared.answer.Reply.{Reply}
 use Rattle.mtn_model.specs.Outcome.{Outcome}
 use Rattle.mtn_step.specs.Step.{OfHistory, Viewed, told, done}
-use Rattle.mtn_cli.specs.Performs.{Counts, Drafted, Drafts, HasReason, Reason, drafted, replied}
+use Rattle.mtn_cli.specs.Drafts.{Counts, Drafted, Drafts, HasReason, Reason, drafted}
 
 -- a damage is one of the records that a draft stands on
 abbrev IsOwnDamage : Option Contents → Pending → StoreError → Type 0
@@ -52,7 +51,7 @@ module _ (f : List ℕ → List ℕ) {K : Type 0} (contents : K → Option Conte
 
   -- a text
   pub answered : (text : List ℕ) → ((g : List ℕ → List ℕ) (s : State) (d : IsFounded g (contents new) before s) → Gives (Is d.stands.history) (Ok text)) →
-      Drafts f contents leaves faults old new before after (λ s o. OfHistory f s (λ h. Viewed (Is h) s o)) (Ok (record { conflicts = false; text = text }))
+      Drafts f contents leaves faults old new before after (λ s o. OfHistory f s (λ h. Viewed (Is h) s o)) (Ok text)
   answered text gives = record {
     stays = stays;
     done = λ c s now draft. (s, is_told (Ok text) gives c s _ now draft refl, subst (λ (p : Pending). IsDraft f c p s) (sym same) draft);
@@ -74,7 +73,7 @@ module _ (f : List ℕ → List ℕ) {K : Type 0} (contents : K → Option Conte
     reason = λ counted. reason_of (contents new) before e (faults old) (faults new) (λ is. rose (ap Store is)) damage counted;
   }
 
-  pub unanswered : (result : Result Reply HistoryError) (e : HistoryError) → result ≡ Err e → ((g : List ℕ → List ℕ) (s : State) (d : IsFounded g (contents new) before s) → Gives (Is d.stands.history) (Err e)) →
+  pub unanswered : (result : Result (List ℕ) HistoryError) (e : HistoryError) → result ≡ Err e → ((g : List ℕ → List ℕ) (s : State) (d : IsFounded g (contents new) before s) → Gives (Is d.stands.history) (Err e)) →
       IfSome (contents new) (λ c. IsCounted before c → IfStoreDamage e (IsDamage (with_all c before.batch))) → (e ≡ Store Failed → Rose (faults old) (faults new)) →
       Drafts f contents leaves faults old new before after (λ s o. OfHistory f s (λ h. Viewed (Is h) s o)) result
   unanswered result e is gives damage rose = subst (Drafts f contents leaves faults old new before after (λ s o. OfHistory f s (λ h. Viewed (Is h) s o))) (sym is) (failed_by e gives damage rose)

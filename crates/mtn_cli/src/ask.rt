@@ -2,10 +2,9 @@
 ghost use Rattle.std.specs.Prelude.{◌≡◌, ◌++◌, IfOk, OnOk};
 ghost use Rattle.std.specs.List.{flat_map};
 ghost use Rattle.hex.specs.Hex.{encode_lower};
-ghost use Rattle.mtn_cli.specs.Performs.{Drafts, query_refusal as refusal};
+ghost use Rattle.mtn_cli.specs.Drafts.{Drafts, query_refusal as refusal};
 ghost use Rattle.mtn_step.specs.Step.{Steps, id_lines as lines_of, line_text};
 
-use crate::answer::Reply;
 use mtn_base::{Bytes, Cause, Id, List, NoMemory};
 use mtn_graph_queries::{Line, Query, QueryError, answer, lines};
 use mtn_history::{Draft, HistoryError, StoreError};
@@ -75,17 +74,14 @@ pub fn ask<I: Ident, K: Keeper>(
     query: &Query,
     payload: &[u8],
     draft: &mut Draft<'_, K>,
-) -> Result<Reply, HistoryError>
+) -> Result<Bytes, HistoryError>
     ensures same_reference { draft.new.keeper.ghost_name ≡ draft.old.keeper.ghost_name }
     ensures drafts { Drafts (I.meaning ident.now) K.contents K.leaves K.faults draft.old.keeper.now draft.new.keeper.now draft.old.pending draft.new.pending
         (Steps (I.meaning ident.now) (Call.Ask query.now) payload.now) result }
 {
     let graph = draft.graph()?;
     match answer(alloc, &graph, query) {
-        Ok(ids) => Ok(Reply {
-            conflicts: false,
-            text: id_lines(alloc, ids.as_slice())?,
-        }),
+        Ok(ids) => Ok(id_lines(alloc, ids.as_slice())?),
         Err(error) => Err(refusal_of(error)),
     }
 }
@@ -96,15 +92,12 @@ pub fn graph<I: Ident, K: Keeper>(
     ident: &I,
     payload: &[u8],
     draft: &mut Draft<'_, K>,
-) -> Result<Reply, HistoryError>
+) -> Result<Bytes, HistoryError>
     ensures same_reference { draft.new.keeper.ghost_name ≡ draft.old.keeper.ghost_name }
     ensures drafts { Drafts (I.meaning ident.now) K.contents K.leaves K.faults draft.old.keeper.now draft.new.keeper.now draft.old.pending draft.new.pending
         (Steps (I.meaning ident.now) Call.Graph payload.now) result }
 {
     let graph = draft.graph()?;
     let lines = lines(alloc, &graph)?;
-    Ok(Reply {
-        conflicts: false,
-        text: graph_text(alloc, lines.as_slice())?,
-    })
+    Ok(graph_text(alloc, lines.as_slice())?)
 }

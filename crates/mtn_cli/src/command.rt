@@ -25,7 +25,7 @@ pub fn read_words(alloc: Global, words: &[Bytes]) -> Result<Call, WordsError>
 }
 
 /// Whether the words spell a command with what it takes.
-pub fn are_words(alloc: Global, words: &[Bytes]) -> Result<bool, NoMemory>
+pub fn is_command(alloc: Global, words: &[Bytes]) -> Result<bool, NoMemory>
     ensures { IfOk result (λ b. b ≡ is_some (call_of words.now)) }
 {
     match read_words(alloc, words) {

@@ -1,10 +1,9 @@
 // The command `get_content_changed`.
 ghost use Rattle.std.specs.Prelude.{◌≡◌};
-ghost use Rattle.mtn_cli.specs.Performs.{Drafts};
+ghost use Rattle.mtn_cli.specs.Drafts.{Drafts};
 ghost use Rattle.mtn_step.specs.Step.{Steps};
 
-use crate::answer::Reply;
-use mtn_base::{Id, Path};
+use mtn_base::{Bytes, Id, Path};
 use mtn_history::{Draft, HistoryError};
 use mtn_ports::{Ident, Keeper};
 use mtn_step::Call;
@@ -16,14 +15,11 @@ pub fn get_content_changed<I: Ident, K: Keeper>(
     path: &Path,
     payload: &[u8],
     draft: &mut Draft<'_, K>,
-) -> Result<Reply, HistoryError>
+) -> Result<Bytes, HistoryError>
     ensures same_reference { draft.new.keeper.ghost_name ≡ draft.old.keeper.ghost_name }
     ensures drafts { Drafts (I.meaning ident.now) K.contents K.leaves K.faults draft.old.keeper.now draft.new.keeper.now draft.old.pending draft.new.pending
         (Steps (I.meaning ident.now) (Call.GetContentChanged id path.now) payload.now) result }
 {
     let text = mtn_roster_queries::get_content_changed(draft, id, path)?;
-    Ok(Reply {
-        conflicts: false,
-        text,
-    })
+    Ok(text)
 }

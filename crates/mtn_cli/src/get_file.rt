@@ -1,10 +1,9 @@
 // The command `get_file`.
 ghost use Rattle.std.specs.Prelude.{◌≡◌};
-ghost use Rattle.mtn_cli.specs.Performs.{Drafts};
+ghost use Rattle.mtn_cli.specs.Drafts.{Drafts};
 ghost use Rattle.mtn_step.specs.Step.{Steps};
 
-use crate::answer::Reply;
-use mtn_base::{Id, List};
+use mtn_base::{Bytes, Id, List};
 use mtn_history::{Draft, HistoryError};
 use mtn_ports::{Ident, Keeper};
 use mtn_step::Call;
@@ -17,15 +16,12 @@ pub fn get_file<I: Ident, K: Keeper>(
     id: Id,
     payload: &[u8],
     draft: &mut Draft<'_, K>,
-) -> Result<Reply, HistoryError>
+) -> Result<Bytes, HistoryError>
     ensures same_reference { draft.new.keeper.ghost_name ≡ draft.old.keeper.ghost_name }
     ensures drafts { Drafts (I.meaning ident.now) K.contents K.leaves K.faults draft.old.keeper.now draft.new.keeper.now draft.old.pending draft.new.pending
         (Steps (I.meaning ident.now) (Call.GetFile id) payload.now) result }
 {
     let mut text = Vec::new(alloc);
     draft.file(id, &mut text)?;
-    Ok(Reply {
-        conflicts: false,
-        text: List::from_vec(text),
-    })
+    Ok(List::from_vec(text))
 }

@@ -1,10 +1,10 @@
 // The command `put_revision`.
 ghost use Rattle.std.specs.Prelude.{◌≡◌};
-ghost use Rattle.mtn_cli.specs.Performs.{Drafts};
+ghost use Rattle.mtn_cli.specs.Drafts.{Drafts};
 ghost use Rattle.mtn_step.specs.Step.{Steps};
 
-use crate::answer::Reply;
 use crate::put_file::id_text;
+use mtn_base::Bytes;
 use mtn_history::{Draft, HistoryError};
 use mtn_ports::{Ident, Keeper};
 use mtn_step::Call;
@@ -16,14 +16,11 @@ pub fn put_revision<I: Ident, K: Keeper>(
     ident: &I,
     payload: &[u8],
     draft: &mut Draft<'_, K>,
-) -> Result<Reply, HistoryError>
+) -> Result<Bytes, HistoryError>
     ensures same_reference { draft.new.keeper.ghost_name ≡ draft.old.keeper.ghost_name }
     ensures drafts { Drafts (I.meaning ident.now) K.contents K.leaves K.faults draft.old.keeper.now draft.new.keeper.now draft.old.pending draft.new.pending
         (Steps (I.meaning ident.now) Call.PutRevision payload.now) result }
 {
     let id = mtn_put_revision::put_revision(alloc, ident, draft, payload)?;
-    Ok(Reply {
-        conflicts: false,
-        text: id_text(alloc, id)?,
-    })
+    Ok(id_text(alloc, id)?)
 }

@@ -43,7 +43,9 @@ fn call<T: Threads + Sync, K: Keeper>(
 #[test]
 fn a_database_answers_as_memory_does(rt: HostRuntime) -> Result<(), Fail> {
     let alloc = rt.alloc();
-    let mut memory = MemKeeper::new(Batch::new(alloc), Vec::new(alloc))?;
+    let mut memory = MemKeeper::new(Batch::new(alloc), Vec::new(alloc))
+        .ok()
+        .ok_or("no memory")?;
     let connection = Connection::open_in_memory(alloc)?;
     let mut database = SqliteKeeper::new(connection).ok().ok_or("no keeper")?;
     for (line, input) in [
@@ -54,9 +56,13 @@ fn a_database_answers_as_memory_does(rt: HostRuntime) -> Result<(), Fail> {
         ("get_file 86f7e437faa5a7fce15d1ddcb9eaeaea377667b8", ""),
         ("heads", ""),
     ] {
-        let (want, text) = call(&rt, alloc, line, input, &mut memory)?;
-        let (status, output) = call(&rt, alloc, line, input, &mut database)?;
-        assert_eq!(rt; status, want, "{line}");
+        let (want, text) = call(&rt, alloc, line, input, &mut memory)
+            .ok()
+            .ok_or("no memory")?;
+        let (status, output) = call(&rt, alloc, line, input, &mut database)
+            .ok()
+            .ok_or("no memory")?;
+        assert!(rt; status == want, "{line}");
         assert_eq!(rt; output.as_slice(), text.as_slice());
     }
     Ok(())

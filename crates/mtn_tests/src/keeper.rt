@@ -10,6 +10,14 @@ use std::test::Fail;
 
 type FileKeeper = SqliteKeeper<FileStore<Memory>>;
 
+// What was done, where the tests have no more to say of a failure.
+fn done<T, E: Drop>(ended: Result<T, E>) -> Result<T, &'static str> {
+    match ended {
+        Ok(value) => Ok(value),
+        Err(_) => Err("a call on a keeper failed"),
+    }
+}
+
 // These say little, so that the proof of a test does not carry the state of each call.
 fn open(alloc: Global, db: Memory) -> Result<Connection<FileStore<Memory>>, Error>
     requires { IsTrue (memory_is_usable db) }
@@ -86,11 +94,11 @@ fn ends<K: Keeper>(
 #[test]
 fn a_closed_database_has_its_record_again(rt: HostRuntime) -> Result<(), Fail> {
     let alloc = rt.alloc();
-    let mut keeper = SqliteKeeper::new(open(alloc, Memory::new(alloc))?)?;
-    put(alloc, &mut keeper, 2, b"key", b"abc")?;
+    let mut keeper = done(SqliteKeeper::new(open(alloc, Memory::new(alloc))?))?;
+    done(put(alloc, &mut keeper, 2, b"key", b"abc"))?;
     let db = close(keeper)?;
-    let mut again = SqliteKeeper::new(open(alloc, db)?)?;
-    assert!(rt; has(alloc, &mut again, 2, b"key", b"abc")?);
+    let mut again = done(SqliteKeeper::new(open(alloc, db)?))?;
+    assert!(rt; done(has(alloc, &mut again, 2, b"key", b"abc"))?);
     Ok(())
 }
 
@@ -99,21 +107,21 @@ fn later_records_stand_over_earlier_ones_and_keys_come_in_order(
     rt: HostRuntime,
 ) -> Result<(), Fail> {
     let alloc = rt.alloc();
-    let mut keeper = SqliteKeeper::new(Connection::open_in_memory(alloc)?)?;
+    let mut keeper = done(SqliteKeeper::new(Connection::open_in_memory(alloc)?))?;
     let mut batch = Batch::new(alloc);
-    batch.put(2, b"b", b"1")?;
-    batch.put(2, b"a", b"2")?;
-    batch.put(2, b"b", b"3")?;
-    batch.put(3, b"c", b"")?;
-    keeper.apply(&batch)?;
-    put(alloc, &mut keeper, 2, b"a", b"4")?;
-    assert!(rt; has(alloc, &mut keeper, 2, b"a", b"4")?);
-    assert!(rt; has(alloc, &mut keeper, 2, b"b", b"3")?);
-    assert!(rt; has(alloc, &mut keeper, 3, b"c", b"")?);
-    assert!(rt; !has(alloc, &mut keeper, 2, b"c", b"")?);
-    assert!(rt; goes_on(alloc, &mut keeper, 2, b"", b"a")?);
-    assert!(rt; goes_on(alloc, &mut keeper, 2, b"a", b"b")?);
-    assert!(rt; ends(alloc, &mut keeper, 2, b"b")?);
+    done(batch.put(2, b"b", b"1"))?;
+    done(batch.put(2, b"a", b"2"))?;
+    done(batch.put(2, b"b", b"3"))?;
+    done(batch.put(3, b"c", b""))?;
+    done(keeper.apply(&batch))?;
+    done(put(alloc, &mut keeper, 2, b"a", b"4"))?;
+    assert!(rt; done(has(alloc, &mut keeper, 2, b"a", b"4"))?);
+    assert!(rt; done(has(alloc, &mut keeper, 2, b"b", b"3"))?);
+    assert!(rt; done(has(alloc, &mut keeper, 3, b"c", b""))?);
+    assert!(rt; !done(has(alloc, &mut keeper, 2, b"c", b""))?);
+    assert!(rt; done(goes_on(alloc, &mut keeper, 2, b"", b"a"))?);
+    assert!(rt; done(goes_on(alloc, &mut keeper, 2, b"a", b"b"))?);
+    assert!(rt; done(ends(alloc, &mut keeper, 2, b"b"))?);
     Ok(())
 }
 

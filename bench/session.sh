@@ -1,0 +1,111 @@
+#!/bin/bash
+# What a session of requests costs, into a new store file and over a store in memory, each as a multiple of another program in the
+# same run: 20,000 small files put and got against python's sqlite3 with one transaction for each, and a line of 2,000 revisions
+# with its files against `git fast-import`. Prints how much longer twice the requests take, too. The best of three counts.
+cd "$(dirname "${BASH_SOURCE[0]}")/.." || exit 1
+printf '' | ./mtn - put_file >/dev/null || exit 1
+PYTHONDONTWRITEBYTECODE=1 PYTHONPATH=tests python3 - target/mtn <<'PYTHON'
+import os, sqlite3, subprocess, sys, tempfile, time
+from revisions import add_dir, add_file, patch, revision, sha
+from sessions import request
+mtn = sys.argv[1]
+ROUNDS, FILES, REVISIONS = 3, 20000, 2000
+
+def clock(work):
+    start = time.monotonic()
+    work()
+    return time.monotonic() - start
+
+def best(work):
+    """The least time of a work in a new folder."""
+    times = []
+    for _ in range(ROUNDS):
+        with tempfile.TemporaryDirectory() as folder:
+            times.append(work(folder))
+    return min(times)
+
+def session(store, data):
+    def run():
+        out = subprocess.run([mtn, store, 'stdio'], input=data, stdout=subprocess.PIPE)
+        assert out.returncode == 0, out.returncode
+    return clock(run)
+
+def ratio(name, ours, theirs, most):
+    print(f'{name}: {ours:.2f} s, {ours / theirs:.2f} times the other (at most {most})')
+
+bodies = [b'%-100d' % i for i in range(FILES)]
+puts = [request('put_file', body) for body in bodies]
+gets = [request('get_file', sha(body)) for body in bodies]
+
+def open_sqlite(folder):
+    records = sqlite3.connect(os.path.join(folder, 'other.db'), isolation_level=None)
+    return records
+
+def other_puts(folder):
+    records = open_sqlite(folder)
+    records.execute('CREATE TABLE kept (kind INTEGER, name BLOB, body BLOB, PRIMARY KEY (kind, name)) WITHOUT ROWID')
+    def run():
+        for body in bodies:
+            records.execute('BEGIN')
+            records.execute('INSERT INTO kept VALUES (2, ?, ?)', (bytes.fromhex(sha(body)), body))
+            records.execute('COMMIT')
+    return clock(run)
+
+def other_gets(folder):
+    other_puts(folder)
+    records = open_sqlite(folder)
+    def run():
+        for body in bodies:
+            records.execute('SELECT body FROM kept WHERE kind = 2 AND name = ?', (bytes.fromhex(sha(body)),)).fetchone()
+    return clock(run)
+
+def our_gets(folder):
+    store = os.path.join(folder, 's.mtn')
+    session(store, b''.join(puts))
+    return session(store, b''.join(gets))
+
+put = best(lambda folder: session(os.path.join(folder, 's.mtn'), b''.join(puts)))
+half = best(lambda folder: session(os.path.join(folder, 's.mtn'), b''.join(puts[:FILES // 2])))
+ratio('put_file, 20,000 of 100 bytes', put, best(other_puts), 2)
+print(f'twice the files take {put / half:.2f} times as long')
+ratio('get_file, 20,000', best(our_gets), best(other_gets), 1)
+
+def content(file, version):
+    return b'file %d, version %d\n' % (file, version)
+
+def history(count):
+    paths = ['d%02d/f%03d' % (file // 20, file) for file in range(200)]
+    dirs = sorted({path.split('/')[0] for path in paths})
+    tree = {'': None, **{path: None for path in dirs}, **{path: sha(content(file, 0)) for file, path in enumerate(paths)}}
+    ours = [request('put_file', content(file, 0)) for file in range(200)]
+    git = []
+    def commit(number, changed):
+        git.append(b'commit refs/heads/main\ncommitter a <a> %d +0000\ndata 1\nx\n' % number)
+        for file, version in changed:
+            git.append(b'M 100644 inline %s\ndata %d\n%s\n' % (paths[file].encode(), len(content(file, version)), content(file, version)))
+    text = revision(tree, ('', [add_dir('')] + [add_dir(path) for path in dirs] + [add_file(path, tree[path]) for path in paths]))
+    ours.append(request('put_revision', text))
+    commit(0, [(file, 0) for file in range(200)])
+    for number in range(1, count):
+        file = number * 7 % 200
+        ours.append(request('put_file', content(file, number)))
+        old, new = tree[paths[file]], sha(content(file, number))
+        tree[paths[file]] = new
+        text = revision(tree, (sha(text), [patch(paths[file], old, new)]))
+        ours.append(request('put_revision', text))
+        commit(number, [(file, number)])
+    return b''.join(ours), b''.join(git)
+
+ours, git = history(REVISIONS)
+fewer, _ = history(REVISIONS // 2)
+
+def gits(folder):
+    subprocess.run(['git', 'init', '-q', '--bare', folder], check=True)
+    return clock(lambda: subprocess.run(['git', '-C', folder, 'fast-import', '--quiet'], input=git, check=True))
+
+other = best(gits)
+memory = best(lambda folder: session('-', ours))
+ratio('2,000 revisions in memory', memory, other, 8)
+ratio('2,000 revisions into a file', best(lambda folder: session(os.path.join(folder, 's.mtn'), ours)), other, 12)
+print(f'twice the revisions take {memory / best(lambda folder: session("-", fewer)):.2f} times as long')
+PYTHON

@@ -1,0 +1,190 @@
+-- A command over a draft that was opened, and is not put yet, is a command over the keeper.
+use Rattle.std.proofs.Common.{◌≡◌, ◌≤◌, ◌⊎◌, inl, inr, ℕ, true, false, List, [], ◌∷◌, length, Option, Some, None, Result, Ok, Err, refl, sym, ap, ◌∙◌, subst, arith}
+use Rattle.std.specs.Prelude.{IfSome}
+use Rattle.mtn_model.specs.Outcome.{Outcome}
+use Rattle.mtn_model.specs.State.{State}
+use Rattle.mtn_model.specs.Table.{Contents}
+use Rattle.mtn_ports.specs.Causes.{Rose}
+use Rattle.mtn_ports.specs.Kept.{Same, Stays, with_all}
+use Rattle.mtn_ports.specs.declared.batch.Put.{Put}
+use Rattle.mtn_ports.proofs.KeptLemmas.{stays_trans}
+use Rattle.mtn_frame.specs.Works.{Works}
+use Rattle.mtn_frame.specs.declared.works.Worked.{Worked}
+use Rattle.mtn_frame.specs.declared.works.WorkError.{WorkError}
+use Rattle.mtn_frame.specs.declared.works.WorkError.TheVariants as work
+use Rattle.mtn_history.specs.declared.errors.Damage.{Damage}
+use Rattle.mtn_history.specs.declared.errors.StoreError.{StoreError}
+use Rattle.mtn_history.specs.declared.errors.StoreError.TheVariants.{Failed, Damaged, NoMemory}
+use Rattle.mtn_history.specs.declared.errors.HistoryError.{HistoryError}
+use Rattle.mtn_history.specs.declared.errors.HistoryError.TheVariants.{Refused, Store}
+use Rattle.mtn_history.specs.declared.pending.Pending.{Pending}
+use Rattle.mtn_history.specs.Damage.{IsDamage}
+use Rattle.mtn_history.specs.Errors.{IfDamage}
+use Rattle.mtn_history.specs.Meta.{IsMetaOf}
+use Rattle.mtn_history.specs.Stands.{Stands, IsDraft}
+use Rattle.mtn_history.proofs.FileLemmas.{draft_stands}
+use Rattle.mtn_history.proofs.MetaLemmas.{no_damage, shown}
+use Rattle.mtn_step.specs.Step.{refused}
+use Rattle.mtn_cli.specs.Drafts.{Counts, drafted, Drafts, Drafted, Reason, HasReason}
+use Rattle.mtn_cli.specs.Store.{IsLine, IsTold, ShowsDamage}
+
+pub reason_of : (told : Option Contents) (before now : ℕ) (e : StoreError) → (e ≡ Failed → Rose before now) → IfSome told (λ c. IfDamage e (IsDamage c)) → Reason told before now e
+reason_of told before now Failed rose damage = rose refl
+reason_of told before now NoMemory rose damage = tt
+reason_of told before now (Damaged d) rose damage = damage
+
+wider : (told : Option Contents) (a b c d : ℕ) (e : StoreError) → a ≤ b → c ≤ d → Reason told b c e → Reason told a d e
+wider told a b c d Failed lo hi rose = omega arith
+wider told a b c d NoMemory lo hi reason = tt
+wider told a b c d (Damaged x) lo hi reason = reason
+
+wider_reason : (told : Option Contents) (a b c d : ℕ) (r : Result (List ℕ) HistoryError) → a ≤ b → c ≤ d → HasReason told b c r → HasReason told a d r
+wider_reason told a b c d (Ok text) lo hi reason = tt
+wider_reason told a b c d (Err (Refused cause)) lo hi reason = tt
+wider_reason told a b c d (Err (Store e)) lo hi reason = wider told a b c d e lo hi reason
+
+-- a fact of told records
+at_told : (o : Option Contents) (P : Contents → Type 0) (c : Contents) → o ≡ Some c → IfSome o P → P c
+at_told o P c now fact = subst (λ x. IfSome x P) now fact
+
+-- nothing was pending
+nothing_over : (p : Pending) (told : Option Contents) → p.batch ≡ [] → drafted p told ≡ told
+nothing_over p None none = refl
+nothing_over p (Some c) none = ap (λ (ps : List Put). Some (with_all c ps)) none
+
+-- what was counted when the draft was opened is so still
+counts_of : (opened now : Option Contents) (pending before : Pending) → pending.batch ≡ [] → before ≡ pending → Same opened now →
+    IfSome opened (λ c. IsMetaOf c (record { count = pending.count; is_new = pending.is_new })) → Counts before now
+counts_of opened None pending before none is same counted = tt
+counts_of opened (Some c) pending before none is same counted =
+    let at : IsMetaOf c (record { count = pending.count; is_new = pending.is_new }) = subst (λ o. IfSome o (λ d. IsMetaOf d (record { count = pending.count; is_new = pending.is_new }))) (same c refl) counted in
+    subst (λ (p : Pending). Counts p (Some c)) (sym is) (subst (λ (ps : List Put). IsMetaOf (with_all c ps) (record { count = pending.count; is_new = pending.is_new })) (sym none) at)
+
+-- what an opened draft needs: its count is told, and what is remembered is true of it
+pub begins_counted : (opened : Option Contents) (p : Pending) → p.batch ≡ [] → IfSome opened (λ c. IsMetaOf c (record { count = p.count; is_new = p.is_new })) → IfSome opened (λ c. IsMetaOf (with_all c p.batch) (record { count = p.count; is_new = p.is_new }))
+begins_counted None p none counted = tt
+begins_counted (Some c) p none counted = subst (λ (ps : List Put). IsMetaOf (with_all c ps) (record { count = p.count; is_new = p.is_new })) (sym none) counted
+
+pub begins_known : (Is : Contents → Type 0) (old opened : Option Contents) (p : Pending) → p.batch ≡ [] → Same old opened → IfSome old Is → IfSome opened (λ c. Is (with_all c p.batch))
+begins_known Is old None p none same known = tt
+begins_known Is old (Some c) p none same known = subst (λ (ps : List Put). Is (with_all c ps)) (sym none) (at_told old Is c (same c refl) known)
+
+-- what follows of told records
+pub map_known : (P Q : Contents → Type 0) (told : Option Contents) → ((c : Contents) → P c → Q c) → IfSome told P → IfSome told Q
+map_known P Q None follows fact = tt
+map_known P Q (Some c) follows fact = follows c fact
+
+pub still_known : (Is : Contents → Type 0) (old new : Option Contents) → Same old new → IfSome old Is → IfSome new Is
+still_known Is old None same known = tt
+still_known Is old (Some c) same known = at_told old Is c (same c refl) known
+
+pub no_puts : (puts : List Put) → length puts ≡ 0 → puts ≡ []
+no_puts [] none = refl
+no_puts (p ∷ ps) none = absurd (omega (arith, none))
+
+module _ (f : List ℕ → List ℕ) {M : Type 0} (Knows : M → Contents → Type 0) {K : Type 0} (contents : K → Option Contents) (leaves : K → Contents → Type 0) (faults asked : K → ℕ) (Outcomes : State → Outcome → Type 0) where
+  abbrev Target : K → K → M → Result Worked WorkError → Type 0
+  Target old new m r = Works (Stands f) (ShowsDamage f) IsLine Knows contents leaves faults asked old new m true false Outcomes (λ s n. ⊥) r
+
+  -- what an error means over records that stand for a state
+  abbrev Erred : State → HistoryError → Type 0
+  Erred s (Refused cause) = Outcomes s (refused cause s)
+  Erred s (Store e) = IfDamage e (λ _. ⊥)
+
+  -- what is known where a draft was opened and the command worked on it
+  pub record Over (old new : K) (after : Pending) (r : Result (List ℕ) HistoryError) : Type 0 where
+    pub stays : Stays contents leaves faults old new
+    pub done : (c : Contents) (s : State) → contents new ≡ Some c → Stands f c s → Drafted f c s (Outcomes s) r after
+    pub reason : HasReason (contents new) (faults old) (faults new) r
+
+  pub over : (old opened begun new : K) (pending before after : Pending) (r : Result (List ℕ) HistoryError) → Stays contents leaves faults old opened →
+      ((c : Contents) (s : State) → contents opened ≡ Some c → Stands f c s → IsDraft f c pending s) → pending.batch ≡ [] →
+      IfSome (contents opened) (λ c. IsMetaOf c (record { count = pending.count; is_new = pending.is_new })) → begun ≡ opened → before ≡ pending →
+      Drafts f contents leaves faults begun new before after Outcomes r → Over old new after r
+  over old opened begun new pending before after r stays opens none counted same is drafts =
+      let to_begun : Stays contents leaves faults old begun = subst (Stays contents leaves faults old) (sym same) stays in
+      record {
+        stays = stays_trans contents leaves faults old begun new to_begun drafts.stays;
+        done = λ c s now stands. drafts.done c s now (subst (λ (p : Pending). IsDraft f c p s) (sym is) (opens c s (ap contents (sym same) ∙ drafts.stays.same c now) stands));
+        reason = wider_reason (contents new) (faults old) (faults begun) (faults new) (faults new) r to_begun.later (omega arith)
+            (subst (λ told. HasReason told (faults begun) (faults new) r) (nothing_over before (contents new) (ap (λ (p : Pending). p.batch) is ∙ none))
+            (drafts.reason (counts_of (contents opened) (contents new) pending before none is (λ c now. ap contents (sym same) ∙ drafts.stays.same c now) counted)));
+      }
+
+  -- the command answered a text
+  pub answered : (old new : K) (m : M) (after : Pending) (text : List ℕ) (batch : List Put) → batch ≡ after.batch → Over old new after (Ok text) →
+      IfSome (contents new) (λ c. Knows m (with_all c after.batch)) → Target old new m (Ok (record { reply = record { conflicts = false; text = text }; batch = batch }))
+  answered old new m after text batch is work known = subst (λ (ps : List Put). Target old new m (Ok (record { reply = record { conflicts = false; text = text }; batch = ps }))) (sym is) record {
+    stays = work.stays;
+    done = λ c s now stands. let did = work.done c s now stands in (did.0, did.1, draft_stands f c after did.0 did.2);
+    knows = λ c now. at_told (contents new) (λ x. Knows m (with_all x after.batch)) c now known;
+    reason = (refl, λ on. cc);
+    few_reads = λ c s n now stands none. absurd none;
+  }
+
+  -- memory is wanting
+  wants : (old new : K) (m : M) → Stays contents leaves faults old new → IfSome (contents new) (Knows m) → Target old new m (Err work.NoMemory)
+  wants old new m stays known = record {
+    stays = stays;
+    done = λ c s now stands. tt;
+    knows = λ c now. at_told (contents new) (Knows m) c now known;
+    reason = tt;
+    few_reads = λ c s n now stands none. absurd none;
+  }
+
+  pub erred_over : (s : State) (c : Contents) (e : HistoryError) (p : Pending) → Drafted f c s (Outcomes s) (Err e) p → Erred s e
+  erred_over s c (Refused cause) p drafted = drafted
+  erred_over s c (Store e) p drafted = drafted
+
+  -- an error with nothing put
+  pub erred : (old new : K) (m : M) (e : HistoryError) (out : WorkError) → IsTold e out → Stays contents leaves faults old new →
+      ((c : Contents) (s : State) → contents new ≡ Some c → Stands f c s → Erred s e) → HasReason (contents new) (faults old) (faults new) (Err e) → IfSome (contents new) (Knows m) → Target old new m (Err out)
+  erred old new m (Refused cause) out is stays done reason known = subst (λ o. Target old new m (Err o)) (sym is) record {
+    stays = stays;
+    done = done;
+    knows = λ c now. at_told (contents new) (Knows m) c now known;
+    reason = refl;
+    few_reads = λ c s n now stands none. absurd none;
+  }
+  erred old new m (Store Failed) out is stays done reason known = subst (λ o. Target old new m (Err o)) (sym is) record {
+    stays = stays;
+    done = λ c s now stands. tt;
+    knows = λ c now. at_told (contents new) (Knows m) c now known;
+    reason = (refl, reason);
+    few_reads = λ c s n now stands none. absurd none;
+  }
+  erred old new m (Store NoMemory) out is stays done reason known = subst (λ o. Target old new m (Err o)) (sym is) (wants old new m stays known)
+  erred old new m (Store (Damaged d)) out (inl is) stays done reason known = subst (λ o. Target old new m (Err o)) (sym is) record {
+    stays = stays;
+    done = done;
+    knows = λ c now. at_told (contents new) (Knows m) c now known;
+    reason = (
+      refl,
+      λ c now.
+          let cause = at_told (contents new) (λ x. IsDamage x d) c now reason in
+          record { damage = d; cause = cause; is_shown = shown c d cause; no_state = λ s stands. no_damage f c s d stands cause; is = refl },
+      (d, refl),
+    );
+    few_reads = λ c s n now stands none. absurd none;
+  }
+  erred old new m (Store (Damaged d)) out (inr is) stays done reason known = subst (λ o. Target old new m (Err o)) (sym is) (wants old new m stays known)
+
+  -- the draft could not be opened
+  pub open_failed : (old new : K) (m : M) (e : StoreError) (out : WorkError) → IsTold (Store e) out → Stays contents leaves faults old new →
+      ((c : Contents) (s : State) → contents new ≡ Some c → Stands f c s → IfDamage e (λ _. ⊥)) → (e ≡ Failed → Rose (faults old) (faults new)) →
+      IfSome (contents new) (λ c. IfDamage e (IsDamage c)) → IfSome (contents new) (Knows m) → Target old new m (Err out)
+  open_failed old new m e out is stays sound failed damaged known =
+      erred old new m (Store e) out is stays sound (reason_of (contents new) (faults old) (faults new) e failed damaged) known
+
+  -- the command gave an error
+  pub failed : (old new : K) (m : M) (after : Pending) (e : HistoryError) (out : WorkError) → IsTold e out → Over old new after (Err e) → IfSome (contents new) (Knows m) → Target old new m (Err out)
+  failed old new m after e out is work known =
+      erred old new m e out is work.stays (λ c s now stands. erred_over s c e after (work.done c s now stands)) work.reason known
+
+  -- the same where the keeper is given back
+  pub answered_at : (old new final : K) (m : M) (after : Pending) (text : List ℕ) (batch : List Put) → final ≡ new → batch ≡ after.batch → Over old new after (Ok text) →
+      IfSome (contents new) (λ c. Knows m (with_all c after.batch)) → Target old final m (Ok (record { reply = record { conflicts = false; text = text }; batch = batch }))
+  answered_at old new final m after text batch ends is work known = subst (λ k. Target old k m (Ok (record { reply = record { conflicts = false; text = text }; batch = batch }))) (sym ends) (answered old new m after text batch is work known)
+
+  pub failed_at : (old new final : K) (m : M) (after : Pending) (e : HistoryError) (out : WorkError) → final ≡ new → IsTold e out → Over old new after (Err e) → IfSome (contents new) (Knows m) → Target old final m (Err out)
+  failed_at old new final m after e out ends is work known = subst (λ k. Target old k m (Err out)) (sym ends) (failed old new m after e out is work known)

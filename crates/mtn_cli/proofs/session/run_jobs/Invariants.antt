@@ -1,0 +1,12 @@
+use Rattle.mtn_cli.specs.Step.{Step}
+use Rattle.mtn_cli.specs.Store.{IsLine, ShowsDamage, is_merging, is_spelled, unbounded}
+use Rattle.mtn_history.specs.Memory.{Knows}
+use Rattle.mtn_history.specs.Stands.{Stands}
+use Rattle.mtn_frame.specs.Script.{Does}
+use Rattle.mtn_frame.proofs.SessionLemmas.{Walking}
+use Rattle.mtn_cli.proofs.session.run_jobs.Given as goal
+
+abbrev pub invariant-loop-number : goal.invariant-loop-number
+invariant-loop-number g l =
+    Walking (Stands (g.I.Ident.meaning l.fn.ident)) (ShowsDamage (g.I.Ident.meaning l.fn.ident)) IsLine Knows g.K.Keeper.contents g.K.Keeper.leaves g.K.Keeper.faults g.K.Keeper.reads (Does (Step (g.I.Ident.meaning l.fn.ident))) l.fn.jobs
+    l.fn.keeper (g.O.Sink.written l.fn.sink) (g.O.Sink.faults l.fn.sink) l.keeper l.memory (g.O.Sink.written l.sink) (g.O.Sink.faults l.sink) l.number

@@ -1,0 +1,47 @@
+-- The commands of a store, as the frame sees them.
+use Rattle.std.specs.Prelude.{◌≡◌, ◌⊎◌, List, Result, Ok, Err, ℕ, Bool, false, is_some}
+use Rattle.mtn_base.specs.declared.refusal.Refusal.{Refusal}
+use Rattle.mtn_model.specs.State.{State}
+use Rattle.mtn_model.specs.Table.{Contents}
+use Rattle.mtn_cli.specs.Calls.{call_of}
+use Rattle.mtn_cli.specs.Texts.{damage_line}
+use Rattle.mtn_frame.specs.Script.{Bounds}
+use Rattle.mtn_frame.specs.declared.works.WorkError.{WorkError}
+use Rattle.mtn_frame.specs.declared.works.WorkError.TheVariants as work
+use Rattle.mtn_history.specs.Damage.{IsDamage, IsShown}
+use Rattle.mtn_history.specs.Stands.{Stands}
+use Rattle.mtn_history.specs.declared.errors.Damage.{Damage}
+use Rattle.mtn_history.specs.declared.errors.HistoryError.{HistoryError}
+use Rattle.mtn_history.specs.declared.errors.HistoryError.TheVariants.{Refused, Store}
+use Rattle.mtn_history.specs.declared.errors.StoreError.TheVariants.{Failed, Damaged, NoMemory}
+
+-- words are in the grammar
+abbrev pub is_spelled : List (List ℕ) → Bool
+is_spelled words = is_some (call_of words)
+
+-- no command merges yet
+abbrev pub is_merging : List (List ℕ) → Bool
+is_merging words = false
+
+-- how many records a command asks for is not bounded yet
+abbrev pub unbounded : Bounds
+unbounded words payload = λ s n. ⊥
+
+-- a line that shows a damage
+abbrev pub IsLine : List ℕ → Type 0
+IsLine line = (damage : Damage) × (line ≡ damage_line damage)
+
+-- A damage of these records, and its line. Under this ident they stand for no state.
+pub record ShowsDamage (f : List ℕ → List ℕ) (c : Contents) (line : List ℕ) : Type 0 where
+  pub damage : Damage
+  pub cause : IsDamage c damage
+  pub is_shown : IsShown c damage
+  pub no_state : (s : State) → Stands f c s → ⊥
+  pub is : line ≡ damage_line damage
+
+-- how an error of the history is told: a damage by its line, where there is memory for that
+abbrev pub IsTold : HistoryError → WorkError → Type 0
+IsTold (Refused cause) out = out ≡ work.Refused (record { packet = 0; cause = cause })
+IsTold (Store Failed) out = out ≡ work.Failed
+IsTold (Store NoMemory) out = out ≡ work.NoMemory
+IsTold (Store (Damaged damage)) out = (out ≡ work.Damaged (damage_line damage)) ⊎ (out ≡ work.NoMemory)

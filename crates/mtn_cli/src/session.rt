@@ -1,0 +1,86 @@
+// One job, and the jobs of a session one after the other.
+ghost use Rattle.std.specs.Prelude.{◌≡◌, IfSome};
+ghost use Rattle.mtn_cli.specs.Step.{Step};
+ghost use Rattle.mtn_cli.specs.Store.{IsLine, ShowsDamage, is_merging, is_spelled, unbounded};
+ghost use Rattle.mtn_frame.specs.One.{One};
+ghost use Rattle.mtn_frame.specs.Script.{BoundsJob, Does};
+ghost use Rattle.mtn_frame.specs.Session.{RunsJobs, RunsScript, script_merging, script_spelled};
+ghost use Rattle.mtn_frame.specs.Works.{is_merging as job_merging, is_spelled as job_spelled};
+ghost use Rattle.mtn_history.specs.Memory.{Knows};
+ghost use Rattle.mtn_history.specs.Stands.{Stands};
+
+use crate::works::work_job;
+use mtn_base::List;
+use mtn_frame::settle::settle;
+use mtn_frame::{Form, Job, Script, deliver, goes_on, put_all};
+use mtn_history::Memory;
+use mtn_model::Status;
+use mtn_ports::{Ident, KeepError, Keeper, Sink};
+use std::alloc::Global;
+
+// Does one job, puts its records and writes its answer. Nothing takes memory after the keeper's call.
+fn one<I: Ident, O: Sink, K: Keeper>(
+    alloc: Global,
+    ident: &I,
+    form: Form,
+    job: &Job,
+    memory: &mut Memory,
+    sink: &mut O,
+    keeper: &mut K,
+) -> Status
+    requires { IfSome (K.contents keeper.old) (Knows memory.old) }
+    ensures { One (Stands (I.meaning ident.now)) (ShowsDamage (I.meaning ident.now)) IsLine Knows K.contents K.leaves K.faults K.reads keeper.old keeper.new memory.new
+        (O.written sink.old) (O.written sink.new) (O.faults sink.old) (O.faults sink.new) form (job_spelled is_spelled job.now) (job_merging is_merging job.now) (Does (Step (I.meaning ident.now)) job.now) (BoundsJob unbounded job.now) result }
+{
+    let worked = work_job(alloc, ident, job, memory, keeper);
+    let settled = settle(alloc, form, worked);
+    match put_all(keeper, &settled.batch) {
+        Ok(()) => deliver(sink, settled.status, settled.text.as_slice()),
+        Err(KeepError::Failed) => Status::StoreFault,
+        Err(KeepError::NoMemory) => Status::NoMemory,
+    }
+}
+
+// Does the jobs in order: each is done, put and answered before the next begins. A fault of the sink or of the keeper, want of
+// memory and a damage end the session.
+fn run_jobs<I: Ident, O: Sink, K: Keeper>(
+    alloc: Global,
+    ident: &I,
+    jobs: &List<Job>,
+    memory: &mut Memory,
+    sink: &mut O,
+    keeper: &mut K,
+) -> Status
+    requires { IfSome (K.contents keeper.old) (Knows memory.old) }
+    ensures { RunsJobs (Stands (I.meaning ident.now)) (ShowsDamage (I.meaning ident.now)) (Does (Step (I.meaning ident.now))) K.contents K.leaves K.faults keeper.old keeper.new
+        (O.written sink.old) (O.written sink.new) (O.faults sink.old) (O.faults sink.new) jobs.now result }
+{
+    for (number, job) in jobs.as_slice().iter().enumerate() {
+        let form = Form::Numbered {
+            number: number as u64,
+        };
+        let status = one(alloc, ident, form, job, memory, sink, keeper);
+        if !goes_on(status) {
+            return status;
+        }
+    }
+    Status::Ok
+}
+
+/// Does what the words and the input are to do.
+pub fn run_script<I: Ident, O: Sink, K: Keeper>(
+    alloc: Global,
+    ident: &I,
+    script: &Script,
+    sink: &mut O,
+    keeper: &mut K,
+) -> Status
+    ensures { RunsScript (Stands (I.meaning ident.now)) (ShowsDamage (I.meaning ident.now)) IsLine (Does (Step (I.meaning ident.now))) (BoundsJob unbounded) K.contents K.leaves K.faults K.reads keeper.old keeper.new
+        (O.written sink.old) (O.written sink.new) (O.faults sink.old) (O.faults sink.new) script.now (script_spelled is_spelled script.now) (script_merging is_merging script.now) result }
+{
+    let mut memory = Memory::new(alloc);
+    match script {
+        Script::Bare { job } => one(alloc, ident, Form::Plain, job, &mut memory, sink, keeper),
+        Script::Framed { jobs } => run_jobs(alloc, ident, jobs, &mut memory, sink, keeper),
+    }
+}

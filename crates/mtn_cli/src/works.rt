@@ -1,0 +1,166 @@
+// A command over a draft of the keeper.
+ghost use Rattle.std.specs.Prelude.{◌≡◌, IfSome, true, false};
+ghost use Rattle.mtn_cli.specs.Drafts.{Drafts};
+ghost use Rattle.mtn_cli.specs.Step.{Step};
+ghost use Rattle.mtn_cli.specs.Store.{IsLine, ShowsDamage, is_merging, is_spelled, unbounded};
+ghost use Rattle.mtn_frame.specs.Script.{BoundsJob, Does};
+ghost use Rattle.mtn_frame.specs.Works.{Works, is_merging as job_merging, is_spelled as job_spelled};
+ghost use Rattle.mtn_history.specs.Memory.{Knows};
+ghost use Rattle.mtn_model.specs.Table.{Contents};
+ghost use Rattle.mtn_ports.specs.Kept.{with_all};
+ghost use Rattle.mtn_history.specs.Stands.{Stands};
+ghost use Rattle.mtn_step.specs.Step.{Steps};
+
+use crate::ask::{ask, graph};
+use crate::command::read_words;
+use crate::damage::tell;
+use crate::get_content_changed::get_content_changed;
+use crate::get_corresponding_path::get_corresponding_path;
+use crate::get_file::get_file;
+use crate::get_manifest_of::get_manifest_of;
+use crate::get_revision::get_revision;
+use crate::get_roster::get_roster;
+use crate::put_file::put_file;
+use crate::put_revision::put_revision;
+use crate::words::WordsError;
+use mtn_base::{Bytes, Cause, Refusal};
+use mtn_frame::{Job, Reply, WorkError, Worked};
+use mtn_history::{Draft, HistoryError, Memory, Pending};
+use mtn_ports::{Batch, Ident, Keeper};
+use mtn_step::Call;
+use std::alloc::Global;
+use std::mem;
+
+// The command's work over a draft, one arm a command.
+fn on_draft<I: Ident, K: Keeper>(
+    alloc: Global,
+    call: &Call,
+    ident: &I,
+    payload: &[u8],
+    draft: &mut Draft<'_, K>,
+) -> Result<Bytes, HistoryError>
+    ensures same_reference { draft.new.keeper.ghost_name ≡ draft.old.keeper.ghost_name }
+    ensures drafts { Drafts (I.meaning ident.now) K.contents K.leaves K.faults draft.old.keeper.now draft.new.keeper.now draft.old.pending draft.new.pending
+        (Steps (I.meaning ident.now) call.now payload.now) result }
+{
+    match call {
+        Call::PutFile => put_file(alloc, ident, payload, draft),
+        Call::PutRevision => put_revision(alloc, ident, payload, draft),
+        Call::GetFile { id } => get_file(alloc, ident, *id, payload, draft),
+        Call::GetRevision { id } => get_revision(alloc, ident, *id, payload, draft),
+        Call::GetManifestOf { id } => get_manifest_of(ident, *id, payload, draft),
+        Call::GetRoster { id } => get_roster(ident, *id, payload, draft),
+        Call::GetContentChanged { id, path } => {
+            get_content_changed(ident, *id, path, payload, draft)
+        }
+        Call::GetCorrespondingPath { id, path, other } => {
+            get_corresponding_path(ident, *id, path, *other, payload, draft)
+        }
+        Call::Ask { query } => ask(alloc, ident, query, payload, draft),
+        Call::Graph => graph(alloc, ident, payload, draft),
+    }
+}
+
+// What is remembered where nothing is put: all of it if nothing was pending, else nothing.
+fn kept(alloc: Global, batch: &Batch, remembered: Memory) -> Memory
+    ensures { (c : Contents) → Knows remembered (with_all c batch.now) → Knows result c }
+{
+    if batch.len() == 0 {
+        remembered
+    } else {
+        Memory::new(alloc)
+    }
+}
+
+// The command's work over the keeper, which it only reads. What was remembered goes to the draft and comes back; where an
+// error leaves something pending it is forgotten.
+fn work_on<I: Ident, K: Keeper>(
+    alloc: Global,
+    call: &Call,
+    ident: &I,
+    payload: &[u8],
+    memory: &mut Memory,
+    keeper: &mut K,
+) -> Result<Worked, WorkError>
+    requires { IfSome (K.contents keeper.old) (Knows memory.old) }
+    ensures { Works (Stands (I.meaning ident.now)) (ShowsDamage (I.meaning ident.now)) IsLine Knows K.contents K.leaves K.faults K.reads keeper.old keeper.new memory.new
+        true false (Steps (I.meaning ident.now) call.now payload.now) (λ s n. ⊥) result }
+{
+    let pending = match Pending::open(alloc, memory, keeper) {
+        Ok(pending) => pending,
+        Err(error) => return Err(tell(alloc, HistoryError::Store(error))),
+    };
+    let remembered = mem::replace(memory, Memory::new(alloc));
+    let mut draft = Draft::new(keeper, pending, remembered);
+    let worked = on_draft(alloc, call, ident, payload, &mut draft);
+    let (keeper, pending, remembered) = draft.into_parts();
+    let _ = keeper;
+    match worked {
+        Ok(text) => {
+            *memory = remembered;
+            Ok(Worked {
+                reply: Reply {
+                    conflicts: false,
+                    text,
+                },
+                batch: pending.batch,
+            })
+        }
+        Err(error) => {
+            *memory = kept(alloc, &pending.batch, remembered);
+            Err(tell(alloc, error))
+        }
+    }
+}
+
+// What words with a payload come to.
+fn work_words<I: Ident, K: Keeper>(
+    alloc: Global,
+    ident: &I,
+    words: &[Bytes],
+    payload: &[u8],
+    memory: &mut Memory,
+    keeper: &mut K,
+) -> Result<Worked, WorkError>
+    requires { IfSome (K.contents keeper.old) (Knows memory.old) }
+    ensures { Works (Stands (I.meaning ident.now)) (ShowsDamage (I.meaning ident.now)) IsLine Knows K.contents K.leaves K.faults K.reads keeper.old keeper.new memory.new
+        (is_spelled words.now) (is_merging words.now) (Step (I.meaning ident.now) words.now payload.now) (unbounded words.now payload.now) result }
+{
+    match read_words(alloc, words) {
+        Ok(call) => work_on(alloc, &call, ident, payload, memory, keeper),
+        Err(WordsError::Usage) => Err(WorkError::Usage),
+        Err(WordsError::NoMemory) => Err(WorkError::NoMemory),
+    }
+}
+
+/// What a job comes to.
+pub fn work_job<I: Ident, K: Keeper>(
+    alloc: Global,
+    ident: &I,
+    job: &Job,
+    memory: &mut Memory,
+    keeper: &mut K,
+) -> Result<Worked, WorkError>
+    requires { IfSome (K.contents keeper.old) (Knows memory.old) }
+    ensures { Works (Stands (I.meaning ident.now)) (ShowsDamage (I.meaning ident.now)) IsLine Knows K.contents K.leaves K.faults K.reads keeper.old keeper.new memory.new
+        (job_spelled is_spelled job.now) (job_merging is_merging job.now) (Does (Step (I.meaning ident.now)) job.now) (BoundsJob unbounded job.now) result }
+{
+    match job {
+        Job::Call { words, payload } => {
+            work_words(
+                alloc,
+                ident,
+                words.as_slice(),
+                payload.as_slice(),
+                memory,
+                keeper,
+            )
+        }
+        Job::BadInput { number } => Err(WorkError::Refused {
+            refusal: Refusal {
+                packet: 0,
+                cause: Cause::BadRequest { number: *number },
+            },
+        }),
+    }
+}

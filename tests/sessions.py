@@ -1,0 +1,186 @@
+#!/usr/bin/env python3
+"""Sessions of requests through the built program: answers in their frames, inputs that are no list of requests, the histories of
+revisions.py as one session each, and ten thousand requests. Requests are read here by a model of their own.
+Ends with 'N passed, M failed'."""
+import os
+import re
+import sqlite3
+import subprocess
+import sys
+import tempfile
+
+sys.dont_write_bytecode = True
+sys.path.insert(0, os.path.dirname(os.path.abspath(__file__)))
+import revisions
+from revisions import MTN, sha
+
+passed, failed = 0, 0
+
+
+def verdict(name, holds):
+    global passed, failed
+    if holds:
+        passed += 1
+    else:
+        failed += 1
+        print('FAILED: ' + name, file=sys.stderr)
+
+
+def request(*words):
+    return b'l' + b''.join(b'%d:%s' % (len(word), word) for word in (w if isinstance(w, bytes) else w.encode() for w in words)) + b'e'
+
+
+def framed(number, status, text):
+    return b'%d:m:%d:%s%d:l:1:%d' % (number, len(text), text, number, status)
+
+
+def answers(*pairs):
+    return b''.join(framed(number, status, text) for number, (status, text) in enumerate(pairs))
+
+
+def requests_of(data):
+    """The requests of an input, or the number of the first that is not whole and right."""
+    found, at = [], 0
+    while True:
+        while data[at:at + 1] in (b' ', b'\n'):
+            at += 1
+        if at == len(data):
+            return found
+        words, at = ([], at + 1) if data[at:at + 1] == b'l' else (None, at)
+        while words is not None:
+            if data[at:at + 1] == b'e' and words:
+                at += 1
+                break
+            size = re.match(rb'(0|[1-9][0-9]*):', data[at:at + 12])
+            if not size or int(size[1]) > 268435456 or at + len(size[0]) + int(size[1]) > len(data):
+                words = None
+                break
+            at += len(size[0])
+            words.append(data[at:at + int(size[1])])
+            at += int(size[1])
+        if words is None:
+            return len(found) + 1
+        found.append(words)
+
+
+def session(store, data):
+    ended = subprocess.run([*MTN, store, 'stdio'], input=data, stdout=subprocess.PIPE, stderr=subprocess.PIPE)
+    return ended.returncode, ended.stdout, ended.stderr
+
+
+def row(name, data, status, output, store='-'):
+    ended = session(store, data)
+    verdict('%s: %r' % (name, (ended[0], ended[1][:300], ended[2])), ended == (status, output, b''))
+
+
+ABC = sha(b'abc').encode()
+USAGE = (2, b'usage\n')
+
+
+def frames():
+    row('a file is put, and leaves are asked for', b'l8:put_file3:abcel6:leavese', 0, answers((0, ABC + b'\n'), (0, b'')))
+    row('a payload is no word', request('put_file'), 0, answers(USAGE))
+    row('three letters are no request', b'l3:abc', 1, b'refused BadRequest 1\n')
+    row('no requests', b'', 0, b'')
+    row('spaces and LF alone', b' \n \n', 0, b'')
+    row('a session in a session', request('stdio'), 0, answers(USAGE))
+    row('words before a payload that are none of the command\'s', request('put_file', 'x', 'abc'), 0, answers(USAGE))
+    row('a payload of any bytes', request('put_file', b'\xff\n:e'), 0, answers((0, sha(b'\xff\n:e').encode() + b'\n')))
+    row('a word that is not UTF-8', request('get_file', b'\xff'), 0, answers(USAGE))
+    row('a payload that is empty', request('put_file', ''), 0, answers((0, sha(b'').encode() + b'\n')))
+    row('a merge without a payload', request('merge', '--resolve'), 0, answers(USAGE))
+    row('a refusal ends no session', request('get_file', ABC) + b'\n' + request('put_file', 'abc') + b' ' + request('get_file', ABC), 0,
+        answers((1, b'refused UnknownFile ' + ABC + b'\n'), (0, ABC + b'\n'), (0, b'abc')))
+    row('a revision text with a fault', request('put_revision', 'x'), 0, answers((1, b'refused NotText 1\n')))
+    ended = subprocess.run([*MTN, '-', 'stdio', '--'], input=request('leaves'), stdout=subprocess.PIPE, stderr=subprocess.PIPE)
+    verdict('an end of options is dropped', (ended.returncode, ended.stdout, ended.stderr) == (0, answers((0, b'')), b''))
+    for words in (['stdio', 'x'], ['stdio', '--x=y'], ['stdio', '--', '--']):
+        ended = subprocess.run([*MTN, '-', *words], input=b'', stdout=subprocess.PIPE, stderr=subprocess.PIPE)
+        verdict('%r is outside the grammar' % words, (ended.returncode, ended.stdout) == (2, b'usage\n'))
+
+
+def bad_inputs(folder):
+    whole = b' ' + request('put_file', 'abc') + b'\n' + request('get_file', ABC) + request('leaves')
+    kept = os.path.join(folder, 'bad.mtn')
+    for cut in range(len(whole)):
+        good = requests_of(whole[:cut])
+        if isinstance(good, int):
+            row('cut off after %d bytes' % cut, whole[:cut], 1, b'refused BadRequest %d\n' % good, kept)
+        else:
+            verdict('%d bytes are a list of requests' % cut, cut in (0, 1) or len(good) > 0)
+    verdict('of a cut input nothing is done', session(kept, request('get_file', ABC))[1] == answers((1, b'refused UnknownFile ' + ABC + b'\n')))
+    good = request('leaves')
+    for name, bad in [('a leading zero', b'l06:leavese'), ('a size above the limit', b'l268435457:e'), ('a size of twenty digits', b'l18446744073709551622:leavese'),
+                      ('a size longer than the rest', b'l7:leavese'), ('no size', b'l:e'), ('a sign', b'l+6:leavese'), ('no words', b'le'),
+                      ('an option list', b'o1:a1:bel6:leavese'), ('a capital', b'L6:leavese'), ('a tab', b'\tl6:leavese'), ('a word too much', b'l6:leaves e')]:
+        for front in range(3):
+            verdict('the model knows %s' % name, requests_of(good * front + bad) == front + 1)
+            row('%s behind %d' % (name, front), good * front + bad, 1, b'refused BadRequest %d\n' % (front + 1))
+
+
+class Recorded(revisions.Store):
+    """A store whose commands are noted, with what they answer."""
+    stores = []
+
+    def __init__(self, folder, name):
+        super().__init__(folder, name)
+        self.asked = []
+        Recorded.stores.append(self)
+
+    def ask(self, *words, given=b''):
+        ended = super().ask(*words, given=given)
+        self.asked.append((words, given, ended))
+        return ended
+
+
+def histories(folder):
+    plain, revisions.Store = revisions.Store, Recorded
+    try:
+        for test in (revisions.lone_root, revisions.faulty_texts, revisions.changes, revisions.merges, revisions.attributes, revisions.chains):
+            test(folder)
+    finally:
+        revisions.Store = plain
+    verdict('the histories of revisions.py', revisions.failed == 0 and revisions.passed > 0)
+    for store in Recorded.stores:
+        takes = ('put_file', 'put_revision')
+        data = b'\n'.join(request(*words, given) if words[:1] and words[0] in takes and len(words) == 1 else request(*words) for words, given, _ in store.asked)
+        again = store.path + '.session'
+        want = answers(*((ended[0], ended[1]) for _, _, ended in store.asked))
+        row('%s, %d requests' % (os.path.basename(store.path), len(store.asked)), data, 0, want, again)
+        replayed = revisions.Store(folder, 'replayed')
+        replayed.path = again
+        verdict('%s leaves the same records' % os.path.basename(store.path), replayed.records() == store.records())
+
+
+def many(folder):
+    store = os.path.join(folder, 'many.mtn')
+    bodies = [b'body %d' % i for i in range(5000)]
+    data = b''.join(request('put_file', body) for body in bodies) + b''.join(request('get_file', sha(body)) for body in bodies)
+    want = answers(*[(0, sha(body).encode() + b'\n') for body in bodies], *[(0, body) for body in bodies])
+    row('ten thousand requests', data, 0, want, store)
+
+
+def damaged(folder):
+    store = os.path.join(folder, 'damaged.mtn')
+    row('a store is made', request('put_file', 'abc'), 0, answers((0, ABC + b'\n')), store)
+    records = sqlite3.connect(store)
+    records.execute("UPDATE kept SET body = x'010203' WHERE kind = 1 AND name = CAST('count' AS BLOB)")
+    records.commit()
+    records.close()
+    row('a damage is answered, and ends the session', request('get_file', ABC) * 2, 8, answers((8, b'damaged 1 636f756e74 010203\n')), store)
+    row('words outside the grammar come first', request('x') + request('get_file', ABC), 8, answers(USAGE, (8, b'damaged 1 636f756e74 010203\n')), store)
+
+
+def main():
+    with tempfile.TemporaryDirectory() as folder:
+        frames()
+        bad_inputs(folder)
+        histories(folder)
+        many(folder)
+        damaged(folder)
+    print('%d passed, %d failed' % (passed, failed))
+    return 1 if failed else 0
+
+
+if __name__ == '__main__':
+    sys.exit(main())
