@@ -1,15 +1,12 @@
 // Makes the canonical changeset from one small tree to another, for each case on standard input, and prints its text.
 //
-// A case begins with `#` and a title, which is printed again. Each line that follows is an entry of the tree `old` or `new`:
-// the node, its parent, its component, `dir` or the digit of a content, and its attributes, `KEY=VALUE` where live and `KEY`
-// where cleared. A node is spelled `BIRTH:PATH`, with the one digit that each byte of its birth has; the root slot is `- -`.
+// A case begins with `#` and a title, which is printed again. Each line that follows is an entry of the tree `old` or `new`, as
+// `mtn_case_trees` says.
 #![tactic(auto)]
 
-mod entries;
-
-use entries::entries_of;
 use mtn_basic_io::write;
 use mtn_between::between;
+use mtn_case_trees::entries_of;
 use mtn_changes::stanza_of;
 use mtn_roster::Roster;
 use std::alloc::Global;

@@ -1,23 +1,26 @@
-// Entries as lines of a case spell them.
+// Entries of lines.
 use mtn_base::{Bytes, Comp, Id, List, NodeName, Path};
 use mtn_roster::{Attr, Body, Entry, Slot};
 use std::alloc::Global;
 
-/// The id of which each byte is that digit.
-fn id_of(digit: u8) -> Option<Id> {
-    match digit {
-        b'0'..=b'9' => Some(Id([digit - b'0'; 20])),
+/// The number of a digit.
+pub fn number_of(word: &[u8]) -> Option<u8> {
+    match word {
+        [digit @ b'0'..=b'9'] => Some(*digit - b'0'),
         _ => None,
     }
 }
 
+/// The id of a digit.
+pub fn id_of(word: &[u8]) -> Option<Id> {
+    Some(Id([number_of(word)?; 20]))
+}
+
 fn name_of(alloc: Global, word: &[u8]) -> Option<NodeName> {
-    let [birth, b':', path @ ..] = word else {
-        return None;
-    };
+    let (birth, path) = word.split_at_checked(1)?;
     Some(NodeName {
-        birth: id_of(*birth)?,
-        path: Path::read(alloc, path).ok()?,
+        birth: id_of(birth)?,
+        path: Path::read(alloc, path.strip_prefix(b":")?).ok()?,
     })
 }
 
@@ -34,10 +37,9 @@ fn slot_of(alloc: Global, parent: &[u8], comp: &[u8]) -> Option<Slot> {
 fn body_of(word: &[u8]) -> Option<Body> {
     match word {
         b"dir" => Some(Body::Dir),
-        [digit] => Some(Body::File {
-            content: id_of(*digit)?,
+        _ => Some(Body::File {
+            content: id_of(word)?,
         }),
-        _ => None,
     }
 }
 
@@ -52,7 +54,7 @@ fn attr_of(alloc: Global, word: &[u8]) -> Option<Attr> {
 }
 
 /// The entry that a line spells behind its first word.
-fn entry_of(alloc: Global, line: &[u8]) -> Option<Entry> {
+pub fn entry_of(alloc: Global, line: &[u8]) -> Option<Entry> {
     let mut words = line.split(|byte| *byte == b' ');
     let _tree = words.next()?;
     let name = name_of(alloc, words.next()?)?;
@@ -70,11 +72,11 @@ fn entry_of(alloc: Global, line: &[u8]) -> Option<Entry> {
     })
 }
 
-/// The entries of the lines of a case that begin with that word.
-pub fn entries_of(alloc: Global, case: &[u8], tree: &[u8]) -> Option<Vec<Entry>> {
+/// The entries of the lines of a case that begin so.
+pub fn entries_of(alloc: Global, case: &[u8], word: &[u8]) -> Option<Vec<Entry>> {
     let mut entries = Vec::new(alloc);
     for line in case.split(|byte| *byte == b'\n') {
-        if line.starts_with(tree) {
+        if line.starts_with(word) {
             entries.push(entry_of(alloc, line)?).ok()?;
         }
     }

@@ -1,0 +1,71 @@
+//! Tries the calls of `mtn_decide` and `mtn_conflicts` on the cases of standard input, and prints what each answers.
+//!
+//! A case begins with `#` and a title, which is printed again. Its other lines make a history or decisions, or ask. Trees are
+//! spelled as `mtn_case_trees` says, and a revision's id by its digit.
+//!
+//! - `rev ID PARENT..`: a revision of the history, with up to two parents. Its tree has the entries of the lines `ID ENTRY`.
+//! - `node ENTRY`, `reborn ENTRY`: a decision made by hand. A case with such lines has these, and the two ids of a question are
+//!   no revisions.
+//! - `decide LEFT RIGHT`: prints the decisions, as entries with `|` between two values that clash, and the pending files.
+//! - `conflicts LEFT RIGHT`: prints the items of the nine lists.
+//! - `none LEFT RIGHT`: prints whether there is none.
+//! - `write LEFT RIGHT`: prints the text of the conflicts; the first id is the lesser.
+//! - `result LEFT RIGHT ID`: prints the tree of a merge without conflicts.
+//! - `choices`, `lives`: print the answer of `merge_scalar` and of `lives` for all sets of two positions.
+//!
+//! `no answer` is printed where none can be given.
+#![tactic(auto)]
+
+mod choices;
+mod decided;
+mod history;
+mod listed;
+mod made;
+mod question;
+mod result;
+
+use question::question;
+use std::alloc::Global;
+use std::io::{self, Read, Write};
+
+/// Answers a line, if it asks.
+fn answer(alloc: Global, case: &[u8], line: &[u8], out: &mut Vec<u8>) -> Option<()> {
+    let mut words = Vec::new(alloc);
+    for word in line.split(|byte| *byte == b' ') {
+        words.push(word).ok()?;
+    }
+    match words.as_slice() {
+        [b"choices"] => choices::choices(alloc, out),
+        [b"lives"] => choices::living(alloc, out),
+        [word, left, right, rest @ ..] => question(alloc, case, word, [*left, *right], rest, out),
+        _ => Some(()),
+    }
+}
+
+/// Prints a case's title and its answers.
+fn answers(alloc: Global, case: &[u8], out: &mut Vec<u8>) -> io::Result<()> {
+    out.push(b'#')?;
+    for (number, line) in case.split(|byte| *byte == b'\n').enumerate() {
+        if number == 0 {
+            out.extend_from_slice(line)?;
+            out.push(b'\n')?;
+        } else if answer(alloc, case, line, out).is_none() {
+            out.extend_from_slice(b"no answer\n")?;
+        }
+    }
+    Ok(())
+}
+
+fn main(rt: HostRuntime) -> io::Result<()> {
+    let alloc = rt.alloc();
+    let mut text = Vec::new(alloc);
+    rt.stdin().read_to_end(&mut text)?;
+    let mut out = Vec::new(alloc);
+    for case in text.split(|byte| *byte == b'#') {
+        if !case.is_empty() {
+            answers(alloc, case, &mut out)?;
+        }
+    }
+    rt.stdout().write_all(&out)?;
+    Ok(())
+}
