@@ -1,5 +1,6 @@
 // What changes a tree, and from where.
 ghost use Rattle.std.specs.Prelude.{◌≡◌, IfOk};
+ghost use Rattle.mtn_changes.specs.declared.change.Change.TheVariants.{Rename, Clear, Set};
 
 use mtn_base::{Bytes, Id, List, NoMemory, Path};
 use std::alloc::Global;
@@ -67,41 +68,56 @@ pub struct Revision {
     pub edges: List<Edge>,
 }
 
+fn copy_rename(alloc: Global, path: &Path, to: &Path) -> Result<Change, NoMemory>
+    ensures { IfOk result (λ c. c ≡ Rename path.now to.now) }
+{
+    let path = path.copy(alloc)?;
+    let to = to.copy(alloc)?;
+    Ok(Change::Rename { path, to })
+}
+
+fn copy_clear(alloc: Global, path: &Path, key: &Bytes) -> Result<Change, NoMemory>
+    ensures { IfOk result (λ c. c ≡ Clear path.now key.now) }
+{
+    let path = path.copy(alloc)?;
+    let key = key.copy(alloc)?;
+    Ok(Change::Clear { path, key })
+}
+
+fn copy_set(alloc: Global, path: &Path, key: &Bytes, value: &Bytes) -> Result<Change, NoMemory>
+    ensures { IfOk result (λ c. c ≡ Set path.now key.now value.now) }
+{
+    let path = path.copy(alloc)?;
+    let key = key.copy(alloc)?;
+    let value = value.copy(alloc)?;
+    Ok(Change::Set { path, key, value })
+}
+
 impl Change {
     /// An equal change.
     pub fn copy(&self, alloc: Global) -> Result<Change, NoMemory>
         ensures { IfOk result (λ c. c ≡ self.now) }
     {
-        Ok(match self {
-            Change::Delete { path } => Change::Delete {
+        match self {
+            Change::Delete { path } => Ok(Change::Delete {
                 path: path.copy(alloc)?,
-            },
-            Change::Rename { path, to } => Change::Rename {
+            }),
+            Change::Rename { path, to } => copy_rename(alloc, path, to),
+            Change::AddDir { path } => Ok(Change::AddDir {
                 path: path.copy(alloc)?,
-                to: to.copy(alloc)?,
-            },
-            Change::AddDir { path } => Change::AddDir {
-                path: path.copy(alloc)?,
-            },
-            Change::AddFile { path, content } => Change::AddFile {
+            }),
+            Change::AddFile { path, content } => Ok(Change::AddFile {
                 path: path.copy(alloc)?,
                 content: *content,
-            },
-            Change::Patch { path, from, to } => Change::Patch {
+            }),
+            Change::Patch { path, from, to } => Ok(Change::Patch {
                 path: path.copy(alloc)?,
                 from: *from,
                 to: *to,
-            },
-            Change::Clear { path, key } => Change::Clear {
-                path: path.copy(alloc)?,
-                key: key.copy(alloc)?,
-            },
-            Change::Set { path, key, value } => Change::Set {
-                path: path.copy(alloc)?,
-                key: key.copy(alloc)?,
-                value: value.copy(alloc)?,
-            },
-        })
+            }),
+            Change::Clear { path, key } => copy_clear(alloc, path, key),
+            Change::Set { path, key, value } => copy_set(alloc, path, key, value),
+        }
     }
 }
 

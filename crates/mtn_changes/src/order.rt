@@ -1,7 +1,9 @@
 // Changes of one edge, read one behind the other.
-ghost use Rattle.std.specs.Prelude.{◌≡◌, ◌∷◌, [], ◌++◌, IfErr, OnOk};
+ghost use Rattle.std.specs.Prelude.{◌≡◌, ◌∷◌, [], ◌++◌, true, not, IfErr, IfOk, OnOk};
+ghost use Rattle.std.specs.BTreeSet.{contains, Updates};
 ghost use Rattle.mtn_changes.specs.Lists.{IsFault, IsNext, IsPart, Stands};
 ghost use Rattle.mtn_changes.specs.Changes.{IsChange, rank as rank_of_change};
+ghost use Rattle.mtn_changes.specs.Slots.{slot_cmp, slot_of as slot_for};
 ghost use Rattle.mtn_changes.specs.Stanzas.{stanza_of as spelled};
 
 use crate::change::Change;
@@ -68,6 +70,18 @@ pub fn rank(change: &Change) -> u8
     }
 }
 
+/// Takes what a change changes; true where no earlier change did.
+fn take_slot(alloc: Global, slots: &mut BTreeSet<Slot>, change: &Change) -> Result<bool, NoMemory>
+    ensures fresh { IfOk result (λ fresh. fresh ≡ not (contains slot_cmp slots.old (slot_for change.now))) }
+    ensures taken { OnOk result (Updates slot_cmp slots.old slots.new (slot_for change.now) true) }
+{
+    let slot = slot_of(alloc, change)?;
+    let Ok(fresh) = slots.insert(slot) else {
+        return Err(NoMemory);
+    };
+    Ok(fresh)
+}
+
 impl Part {
     pub fn new(alloc: Global) -> Part
         ensures { IsPart [] result.changes result.slots result.last }
@@ -102,10 +116,7 @@ impl Part {
         if rank < self.last {
             return Err(Fault::BadOrder);
         }
-        let slot = slot_of(alloc, &change)?;
-        let Ok(fresh) = self.slots.insert(slot) else {
-            return Err(Fault::NoMemory);
-        };
+        let fresh = take_slot(alloc, &mut self.slots, &change)?;
         if !fresh {
             return Err(Fault::Repeated);
         }

@@ -1,7 +1,8 @@
 // The change that a stanza spells, kind by kind.
-ghost use Rattle.std.specs.Prelude.{◌≡◌, ◌↔◌, true, [], ◌∷◌, IfOk, IsTrue};
+ghost use Rattle.std.specs.Prelude.{◌≡◌, ◌↔◌, ◌++◌, true, [], ◌∷◌, IfOk, IsTrue};
 ghost use Rattle.mtn_basic_io.specs.Spelling.{is_symbol};
 ghost use Rattle.mtn_changes.specs.Changes.{IsKey};
+ghost use Rattle.mtn_changes.specs.declared.change.Change.TheVariants.{Rename, AddFile, Patch, Clear, Set};
 ghost use Rattle.mtn_changes.specs.Stanzas.{IsRead, IsReadOf, id_line as id_spelled, path_line as path_spelled, stanza_of as spelled, text_line as text_spelled};
 
 use crate::change::Change;
@@ -165,39 +166,75 @@ fn path_line(alloc: Global, symbol: &[u8], path: &Path) -> Result<Line, NoMemory
     Line::new(alloc, symbol, Value::Text(Bytes::from_vec(text)))
 }
 
-fn text_line(alloc: Global, symbol: &[u8], text: &Bytes) -> Result<Line, NoMemory>
+fn stanza_of_path(alloc: Global, symbol: &[u8], path: &Path) -> Result<Stanza, NoMemory>
     requires { is_symbol symbol.now ≡ true }
-    ensures { IfOk result (λ l. l ≡ text_spelled symbol.now text.now) }
+    ensures { IfOk result (λ s. s ≡ path_spelled symbol.now path.now ∷ []) }
 {
-    Line::new(alloc, symbol, Value::Text(text.copy(alloc)?))
+    let line = path_line(alloc, symbol, path)?;
+    Stanza::new(alloc, line)
 }
 
-fn id_line(alloc: Global, symbol: &[u8], id: &Id) -> Result<Line, NoMemory>
-    requires { is_symbol symbol.now ≡ true }
-    ensures { IfOk result (λ l. l ≡ id_spelled symbol.now id.now) }
+fn with_line(stanza: Stanza, line: Line) -> Result<Stanza, NoMemory>
+    ensures { IfOk result (λ s. s ≡ stanza ++ line ∷ []) }
 {
-    Line::new(alloc, symbol, Value::Hex(Some(*id)))
-}
-
-fn stanza_of_two(alloc: Global, first: Line, second: Line) -> Result<Stanza, NoMemory>
-    ensures { IfOk result (λ s. s ≡ first ∷ second ∷ []) }
-{
-    let mut stanza = Stanza::new(alloc, first)?;
-    stanza.push(second)?;
+    let mut stanza = stanza;
+    stanza.push(line)?;
     Ok(stanza)
 }
 
-fn stanza_of_three(
-    alloc: Global,
-    first: Line,
-    second: Line,
-    third: Line,
-) -> Result<Stanza, NoMemory>
-    ensures { IfOk result (λ s. s ≡ first ∷ second ∷ third ∷ []) }
+fn with_text(alloc: Global, stanza: Stanza, symbol: &[u8], text: &Bytes) -> Result<Stanza, NoMemory>
+    requires { is_symbol symbol.now ≡ true }
+    ensures { IfOk result (λ s. s ≡ stanza ++ text_spelled symbol.now text.now ∷ []) }
 {
-    let mut stanza = stanza_of_two(alloc, first, second)?;
-    stanza.push(third)?;
-    Ok(stanza)
+    let text = text.copy(alloc)?;
+    let line = Line::new(alloc, symbol, Value::Text(text))?;
+    with_line(stanza, line)
+}
+
+fn with_id(alloc: Global, stanza: Stanza, symbol: &[u8], id: &Id) -> Result<Stanza, NoMemory>
+    requires { is_symbol symbol.now ≡ true }
+    ensures { IfOk result (λ s. s ≡ stanza ++ id_spelled symbol.now id.now ∷ []) }
+{
+    let line = Line::new(alloc, symbol, Value::Hex(Some(*id)))?;
+    with_line(stanza, line)
+}
+
+fn rename_stanza(alloc: Global, path: &Path, to: &Path) -> Result<Stanza, NoMemory>
+    ensures { IfOk result (λ s. s ≡ spelled (Rename path.now to.now)) }
+{
+    let stanza = stanza_of_path(alloc, b"rename", path)?;
+    let line = path_line(alloc, b"to", to)?;
+    with_line(stanza, line)
+}
+
+fn add_file_stanza(alloc: Global, path: &Path, content: &Id) -> Result<Stanza, NoMemory>
+    ensures { IfOk result (λ s. s ≡ spelled (AddFile path.now content.now)) }
+{
+    let stanza = stanza_of_path(alloc, b"add_file", path)?;
+    with_id(alloc, stanza, b"content", content)
+}
+
+fn patch_stanza(alloc: Global, path: &Path, from: &Id, to: &Id) -> Result<Stanza, NoMemory>
+    ensures { IfOk result (λ s. s ≡ spelled (Patch path.now from.now to.now)) }
+{
+    let stanza = stanza_of_path(alloc, b"patch", path)?;
+    let stanza = with_id(alloc, stanza, b"from", from)?;
+    with_id(alloc, stanza, b"to", to)
+}
+
+fn clear_stanza(alloc: Global, path: &Path, key: &Bytes) -> Result<Stanza, NoMemory>
+    ensures { IfOk result (λ s. s ≡ spelled (Clear path.now key.now)) }
+{
+    let stanza = stanza_of_path(alloc, b"clear", path)?;
+    with_text(alloc, stanza, b"attr", key)
+}
+
+fn set_stanza(alloc: Global, path: &Path, key: &Bytes, value: &Bytes) -> Result<Stanza, NoMemory>
+    ensures { IfOk result (λ s. s ≡ spelled (Set path.now key.now value.now)) }
+{
+    let stanza = stanza_of_path(alloc, b"set", path)?;
+    let stanza = with_text(alloc, stanza, b"attr", key)?;
+    with_text(alloc, stanza, b"value", value)
 }
 
 /// The stanza of a change.
@@ -205,29 +242,12 @@ pub fn stanza_of(alloc: Global, change: &Change) -> Result<Stanza, NoMemory>
     ensures { IfOk result (λ s. s ≡ spelled change.now) }
 {
     match change {
-        Change::Delete { path } => Stanza::new(alloc, path_line(alloc, b"delete", path)?),
-        Change::Rename { path, to } => {
-            let path = path_line(alloc, b"rename", path)?;
-            stanza_of_two(alloc, path, path_line(alloc, b"to", to)?)
-        }
-        Change::AddDir { path } => Stanza::new(alloc, path_line(alloc, b"add_dir", path)?),
-        Change::AddFile { path, content } => {
-            let path = path_line(alloc, b"add_file", path)?;
-            stanza_of_two(alloc, path, id_line(alloc, b"content", content)?)
-        }
-        Change::Patch { path, from, to } => {
-            let path = path_line(alloc, b"patch", path)?;
-            let from = id_line(alloc, b"from", from)?;
-            stanza_of_three(alloc, path, from, id_line(alloc, b"to", to)?)
-        }
-        Change::Clear { path, key } => {
-            let path = path_line(alloc, b"clear", path)?;
-            stanza_of_two(alloc, path, text_line(alloc, b"attr", key)?)
-        }
-        Change::Set { path, key, value } => {
-            let path = path_line(alloc, b"set", path)?;
-            let key = text_line(alloc, b"attr", key)?;
-            stanza_of_three(alloc, path, key, text_line(alloc, b"value", value)?)
-        }
+        Change::Delete { path } => stanza_of_path(alloc, b"delete", path),
+        Change::Rename { path, to } => rename_stanza(alloc, path, to),
+        Change::AddDir { path } => stanza_of_path(alloc, b"add_dir", path),
+        Change::AddFile { path, content } => add_file_stanza(alloc, path, content),
+        Change::Patch { path, from, to } => patch_stanza(alloc, path, from, to),
+        Change::Clear { path, key } => clear_stanza(alloc, path, key),
+        Change::Set { path, key, value } => set_stanza(alloc, path, key, value),
     }
 }
