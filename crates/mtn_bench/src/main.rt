@@ -4,11 +4,13 @@
 #![tactic(auto)]
 
 mod ancestry;
+mod canonical;
 mod changeset;
 mod commands;
 mod joined;
 mod long;
 mod marks;
+mod merges;
 mod records;
 mod revision;
 mod roster;
@@ -42,6 +44,14 @@ fn of_texts<T: Threads + Sync>(
     }
 }
 
+// What measures merges.
+fn of_merges(rt: &HostRuntime, watch: &mut Watch, word: &str, text: &[u8]) -> Option<Vec<u8>> {
+    match word {
+        "merge" => merges::merge(rt, watch, text),
+        _ => canonical::between(rt, watch, text),
+    }
+}
+
 // What a word answers; None for no word, or where it cannot be done.
 fn answer<T: Threads + Sync>(
     threads: &T,
@@ -56,6 +66,7 @@ fn answer<T: Threads + Sync>(
         "changeset" => changeset::changeset(rt, watch, text),
         "join" => joined::joined(rt, watch, text),
         "marks" => marks::marks(rt, watch, text),
+        "merge" | "between" => of_merges(rt, watch, word, text),
         _ => of_texts(threads, rt, watch, word, text),
     }
 }
