@@ -1,25 +1,26 @@
 #!/bin/bash
 # What a session of requests costs, into a new store file and over a store in memory, each as a multiple of another program in the
 # same run: 20,000 small files put and got against python's sqlite3 with one transaction for each, and a line of 2,000 revisions
-# with its files against `git fast-import`. Prints how much longer twice the requests take, too. The best of three counts.
+# with its files against `git fast-import`. Prints how much more work twice the requests are, too. The best of three counts; puts
+# into a file are taken once, since the other's take minutes.
 cd "$(dirname "${BASH_SOURCE[0]}")/.." || exit 1
 printf '' | ./mtn - put_file >/dev/null || exit 1
 PYTHONDONTWRITEBYTECODE=1 PYTHONPATH=tests python3 - target/mtn <<'PYTHON'
-import os, sqlite3, subprocess, sys, tempfile, time
+import os, resource, sqlite3, subprocess, sys, tempfile, time
 from revisions import add_dir, add_file, patch, revision, sha
 from sessions import request
 mtn = sys.argv[1]
-ROUNDS, FILES, REVISIONS = 3, 20000, 2000
+FILES, REVISIONS = 20000, 2000
 
 def clock(work):
     start = time.monotonic()
     work()
     return time.monotonic() - start
 
-def best(work):
+def best(work, rounds=3):
     """The least time of a work in a new folder."""
     times = []
-    for _ in range(ROUNDS):
+    for _ in range(rounds):
         with tempfile.TemporaryDirectory() as folder:
             times.append(work(folder))
     return min(times)
@@ -30,8 +31,19 @@ def session(store, data):
         assert out.returncode == 0, out.returncode
     return clock(run)
 
+def work(data):
+    """The processor's time for a session over a store in memory, which no other work on the machine delays."""
+    def spent():
+        used = resource.getrusage(resource.RUSAGE_CHILDREN)
+        return used.ru_utime + used.ru_stime
+    def once(_):
+        before = spent()
+        session('-', data)
+        return spent() - before
+    return best(once)
+
 def ratio(name, ours, theirs, most):
-    print(f'{name}: {ours:.2f} s, {ours / theirs:.2f} times the other (at most {most})')
+    print(f'{name}: {ours:.2f} s, {ours / theirs:.2f} times the other (at most {most})', flush=True)
 
 bodies = [b'%-100d' % i for i in range(FILES)]
 puts = [request('put_file', body) for body in bodies]
@@ -52,23 +64,19 @@ def other_puts(folder):
     return clock(run)
 
 def other_gets(folder):
-    other_puts(folder)
     records = open_sqlite(folder)
     def run():
         for body in bodies:
             records.execute('SELECT body FROM kept WHERE kind = 2 AND name = ?', (bytes.fromhex(sha(body)),)).fetchone()
     return clock(run)
 
-def our_gets(folder):
+# A store in a file and a database of the other, with these files, for the questions below.
+with tempfile.TemporaryDirectory() as folder:
     store = os.path.join(folder, 's.mtn')
-    session(store, b''.join(puts))
-    return session(store, b''.join(gets))
-
-put = best(lambda folder: session(os.path.join(folder, 's.mtn'), b''.join(puts)))
-half = best(lambda folder: session(os.path.join(folder, 's.mtn'), b''.join(puts[:FILES // 2])))
-ratio('put_file, 20,000 of 100 bytes', put, best(other_puts), 2)
-print(f'twice the files take {put / half:.2f} times as long')
-ratio('get_file, 20,000', best(our_gets), best(other_gets), 1)
+    put = session(store, b''.join(puts))
+    ratio('put_file, 20,000 of 100 bytes', put, other_puts(folder), 2)
+    ratio('get_file, 20,000', best(lambda _: session(store, b''.join(gets))), best(lambda _: other_gets(folder)), 1)
+print(f'twice the files take {work(b"".join(puts)) / work(b"".join(puts[:FILES // 2])):.2f} times the work in memory', flush=True)
 
 def content(file, version):
     return b'file %d, version %d\n' % (file, version)
@@ -107,5 +115,5 @@ other = best(gits)
 memory = best(lambda folder: session('-', ours))
 ratio('2,000 revisions in memory', memory, other, 8)
 ratio('2,000 revisions into a file', best(lambda folder: session(os.path.join(folder, 's.mtn'), ours)), other, 12)
-print(f'twice the revisions take {memory / best(lambda folder: session("-", fewer)):.2f} times as long')
+print(f'twice the revisions take {work(ours) / work(fewer):.2f} times the work in memory')
 PYTHON

@@ -118,6 +118,33 @@ def bad_inputs(folder):
             row('%s behind %d' % (name, front), good * front + bad, 1, b'refused BadRequest %d\n' % (front + 1))
 
 
+def over_a_file(folder):
+    store = os.path.join(folder, 'file.mtn')
+    row('a file is put into a store in a file, and leaves are asked for', b'l8:put_file3:abcel6:leavese', 0, answers((0, ABC + b'\n'), (0, b'')), store)
+    row('a payload is no word there either', request('put_file'), 0, answers(USAGE), store)
+    row('three letters are no request there', b'l3:abc', 1, b'refused BadRequest 1\n', store)
+    row('the next session finds the file', request('get_file', ABC), 0, answers((0, b'abc')), store)
+    full = os.path.join(folder, 'full.mtn')
+    with open('/dev/full', 'wb') as out:
+        ended = subprocess.run([*MTN, full, 'stdio'], input=request('put_file', 'abc') + request('put_file', 'x'), stdout=out, stderr=subprocess.PIPE)
+    verdict('an output that takes nothing ends a session', (ended.returncode, ended.stderr) == (5, b''))
+    row('the request that was being answered is done, and no other', request('get_file', ABC) + request('get_file', sha(b'x')), 0,
+        answers((0, b'abc'), (1, b'refused UnknownFile ' + sha(b'x').encode() + b'\n')), full)
+
+
+def bad_among_good(folder):
+    store = os.path.join(folder, 'among.mtn')
+    bad = [request('put_file'), request('stdio'), request('stdio', 'l6:leavese'), request('get_file', b'\xff'), request(b'\xff', ABC), request('merge', '--resolve'),
+           request('leaves', ''), request('--', 'leaves'), request('get_file', '--x=y', ABC), request('put_file', '--resolve', 'abc'), request('x')]
+    bodies = [b'%d \xff' % number for number in range(len(bad))]
+    row('requests outside the grammar are answered each, the others beside them', b' '.join(request('put_file', body) + b'\n' + words for body, words in zip(bodies, bad)), 0,
+        answers(*(answer for body in bodies for answer in ((0, sha(body).encode() + b'\n'), USAGE))), store)
+    row('nothing was lost', b''.join(request('get_file', sha(body)) for body in bodies), 0, answers(*((0, body) for body in bodies)), store)
+    held = sqlite3.connect(store)
+    verdict('nothing else is held', held.execute('SELECT count(*) FROM kept WHERE kind = 2').fetchone() == (len(bodies),))
+    held.close()
+
+
 class Recorded(revisions.Store):
     """A store whose commands are noted, with what they answer."""
     stores = []
@@ -175,6 +202,8 @@ def main():
     with tempfile.TemporaryDirectory() as folder:
         frames()
         bad_inputs(folder)
+        over_a_file(folder)
+        bad_among_good(folder)
         histories(folder)
         many(folder)
         damaged(folder)
