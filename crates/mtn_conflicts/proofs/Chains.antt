@@ -19,9 +19,9 @@ use Rattle.mtn_base.proofs.Members.{taken}
 use Rattle.mtn_base.proofs.Sorting.{lt_was, all_at}
 use Rattle.mtn_decide.specs.declared.decision.Decision.{Decision}
 use Rattle.mtn_decide.specs.Decisions.{decision_of}
-use Rattle.mtn_conflicts.specs.Parts.{AreFlags, AreUps, AreFar, IsRaised, IsUpTo}
+use Rattle.mtn_conflicts.specs.Parts.{AreFlags, AreSeen, AreUps, IsRound, IsUpTo}
 use Rattle.mtn_conflicts.specs.Slots.{IsInLoop, parent_in, parent_of, climbed as chain}
-use Rattle.mtn_conflicts.proofs.Looping.{climbed_within, goes_round, comes_from}
+use Rattle.mtn_conflicts.proofs.Looping.{climbed_within}
 use Rattle.mtn_conflicts.proofs.Nodes.{name_of, found_name, distinct}
 
 past_end : {X : Type 0} (xs : List X) (i : ℕ) → slice_get xs i ≡ None → length xs ≤ i
@@ -110,21 +110,13 @@ module _ (ds : List Decision) (rising : rises name_cmp (map name_of ds) ≡ true
           absurd (no_node (slice_index ups (climbed ups s k)) e (ap (slice_index ups) i ∙ are.end) is')
       from before (Some f) g = up f g (before f g) (parent_in f.slot) refl (are.each (climbed ups s k) f g)
 
-  -- a node is in a loop exactly where so many steps lead to it from somewhere
-  pub loop_told : (far : List ℕ) → AreFar ups far → (k : ℕ) (d : Decision) → slice_get ds k ≡ Some d → ((i : ℕ) × (i < length far) × (slice_index far i ≡ k)) ↔ IsInLoop ds d
-  loop_told far h k d at = (
-    λ t.
-        let li : t.0 < length ups = omega (arith, t.1, h.0) in
-        let is : climbed ups h.1.0 t.0 ≡ k = sym (h.1.2 t.0 li) ∙ t.2 in
-        let r = goes_round ups ups_within h.1.0 t.0 h.1.1 li in
-        let back : climbed ups (suc r.0) k ≡ k = ap (climbed ups (suc r.0)) (sym is) ∙ r.1 ∙ is in
-        (r.0, by_place (suc r.0) k d at d (ap (slice_get ds) back ∙ at)),
+  -- a node is in a loop exactly where the way up from its place returns
+  pub loop_told : (k : ℕ) (d : Decision) → slice_get ds k ≡ Some d → IsRound ups k ↔ IsInLoop ds d
+  loop_told k d at = (
+    λ t. (t.0, by_place (suc t.0) k d at d (ap (slice_get ds) t.1 ∙ at)),
     λ t.
         let there = by_name (suc t.0) k d at d.name d t.1 (own_name k d at) in
-        let back : climbed ups (suc t.0) k ≡ k = one_place ds rising (climbed ups (suc t.0) k) k d there at in
-        let lk : k < length ups = (let l = (got_at ds k d at).0 in omega (arith, l, are.long)) in
-        let j = comes_from ups ups_within h.1.0 t.0 k lk back in
-        (j.0, omega (arith, j.1, h.0), h.1.2 j.0 j.1 ∙ j.2),
+        (t.0, one_place ds rising (climbed ups (suc t.0) k) k d there at),
   )
 
 -- flags, told place by place
@@ -135,36 +127,24 @@ flags_from P [] (f ∷ fs) e h = absurd (omega (arith, e))
 flags_from P (d ∷ ds) [] e h = absurd (omega (arith, e))
 flags_from P (d ∷ ds) (f ∷ fs) e h = (h 0 d refl, flags_from P ds fs (omega (arith, e)) (λ k. h (suc k)))
 
--- the flags of the places that the first so many lead to
-abbrev pub AreRaised : ℕ → List ℕ → ℕ → List Bool → Type 0
-AreRaised count far done fs = (length fs ≡ count) × ((k : ℕ) → k < count → (get_or fs k false ≡ true) ↔ ((i : ℕ) × (i < done) × (slice_index far i ≡ k)))
+-- no mark, and no flag
+pub seen_none : (ups marks : List ℕ) (fs : List Bool) → length marks ≡ length ups → ((k : ℕ) → slice_index marks k ≡ 0) → ((k : ℕ) → get_or fs k false ≡ false) → AreSeen ups marks fs
+seen_none ups marks fs e none down = record {
+  long = e;
+  closed = λ k lt h. let z = none k in absurd (omega (arith, z, h));
+  told = λ k lt h. let z = none k in absurd (omega (arith, z, h));
+  rest = λ k lt h. down k;
+}
 
-pub raised_none : (count : ℕ) (far : List ℕ) (fs : List Bool) → length fs ≡ count → ((k : ℕ) → get_or fs k false ≡ false) → AreRaised count far 0 fs
-raised_none count far fs e h = (e, λ k lt. (λ t. absurd (let x = h k in cc), λ t. absurd (omega (arith, t.1))))
-
-pub raised_more : (count : ℕ) (far : List ℕ) (done place : ℕ) (fs gs : List Bool) → place ≡ slice_index far done → AreRaised count far done fs → IsRaised fs place gs → AreRaised count far (done + 1) gs
-raised_more count far done place fs gs is h r = (
-  r.0 ∙ h.0,
-  λ k lt.
-      let lf : k < length fs = omega (arith, lt, h.0) in (
-        λ t. ⊎_elim
-            (λ a. let i = (h.1 k lt).0 a in (i.0, omega (arith, i.1), i.2))
-            (λ b. (done, omega arith, sym is ∙ sym b))
-            ((r.1 k lf).0 t),
-        λ t. (r.1 k lf).1 (⊎_elim
-            (λ low. inl ((h.1 k lt).1 (t.0, low, t.2)))
-            (λ high. let e : t.0 ≡ done = omega (arith, t.1, high) in inr (sym t.2 ∙ ap (slice_index far) e ∙ sym is))
-            (cases_lt t.0 done)),
-      ),
-)
-
-pub loops_flagged : (ds : List Decision) → rises name_cmp (map name_of ds) ≡ true → (ups far : List ℕ) → AreUps ds ups → AreFar ups far → (done : ℕ) (fs : List Bool) → length far ≡ done → AreRaised (length ds) far done fs → AreFlags (IsInLoop ds) ds fs
-loops_flagged ds rising ups far are h done fs le r =
-    flags_from (IsInLoop ds) ds fs r.0 (λ k d at.
-    let told = loop_told ds rising ups are far h k d at in
-    let lt = (got_at ds k d at).0 in (
-      λ t. told.0 (let i = (r.1 k lt).0 t in (i.0, omega (arith, i.1, le), i.2)),
-      λ p. let i = told.1 p in (r.1 k lt).1 (i.0, omega (arith, i.1, le), i.2),
+pub loops_flagged : (ds : List Decision) → rises name_cmp (map name_of ds) ≡ true → (ups marks : List ℕ) → AreUps ds ups → (fs : List Bool) → length fs ≡ length ds →
+    ((k : ℕ) → k < length ds → 0 < slice_index marks k) → AreSeen ups marks fs → AreFlags (IsInLoop ds) ds fs
+loops_flagged ds rising ups marks are fs long all seen =
+    flags_from (IsInLoop ds) ds fs long (λ k d at.
+    let lt = (got_at ds k d at).0 in
+    let told = loop_told ds rising ups are k d at in
+    let flag = seen.told k (omega (arith, lt, long)) (all k lt) in (
+      λ t. told.0 (flag.0 t),
+      λ p. flag.1 (told.1 p),
     ))
 
 -- one more flag that is not raised

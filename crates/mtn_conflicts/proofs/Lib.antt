@@ -3,6 +3,7 @@ pub mod Clear
 pub mod Ending
 pub mod Before
 pub mod Renamed
+pub mod Seen
 pub mod Buildable
 pub mod Making
 pub mod Listing

@@ -1,8 +1,9 @@
--- Where many steps up lead: to the nodes that are in a loop.
+-- Ways up, and those that return.
 use Rattle.std.specs.Prelude.{slice_index}
 use Rattle.std.specs.List.{All}
-use Rattle.std.proofs.Common.{◌≡◌, ℕ, zero, suc, ◌+◌, ◌*◌, ◌-◌, ◌<◌, ◌≤◌, List, [], ◌∷◌, length, get_or, refl, sym, ◌∙◌, ap, subst, arith}
-use Rattle.std.proofs.lemmas.List.Elements.{All-get_or, All-from_get_or}
+use Rattle.std.proofs.Common.{◌≡◌, ℕ, zero, suc, ◌+◌, ◌*◌, ◌-◌, ◌<◌, ◌≤◌, List, [], ◌∷◌, length, inl, inr, refl, sym, ◌∙◌, ap, subst, arith}
+use Rattle.std.proofs.lemmas.Bool.{cases_lt}
+use Rattle.std.proofs.lemmas.List.Elements.{All-get_or}
 use Rattle.std.proofs.Math.Decide.{ℕ_discrete}
 use Rattle.mtn_ancestry.proofs.Members.{find_below}
 use Rattle.mtn_roster.specs.Building.{climbed}
@@ -51,32 +52,27 @@ module _ (ups : List ℕ) (within : All (λ k. k < length ups) ups) where
     | no ne ↦ later n (below n) k (below_has n k (omega (arith, lt, ne)))
   ]
 
-  -- where as many steps lead as there are places, the way goes round
-  pub goes_round : (n k : ℕ) → length ups ≤ n → k < length ups → (t : ℕ) × (climbed ups (suc t) (climbed ups n k) ≡ climbed ups n k)
-  goes_round n k le lt =
-      let r = repeats (λ i. climbed ups i k) n (below (length ups)) (omega (arith, le, below_long (length ups))) (λ i _. below_has (length ups) (climbed ups i k) (climbed_within i k lt)) in
-      let a = r.0 in
-      let b = r.1 in
-      let x = climbed ups a k in
-      let round : climbed ups (b - a) x ≡ x = sym (climbed-add ups a (b - a) k) ∙ ap (λ m. climbed ups m k) (sum a b r.2) ∙ sym r.4 in
-      let to_n : climbed ups n k ≡ climbed ups (n - a) x = ap (λ m. climbed ups m k) (sym (sum' a n (omega (arith, r.2, r.3)))) ∙ climbed-add ups a (n - a) k in
-      let again : climbed ups (b - a) (climbed ups n k) ≡ climbed ups n k =
-      ap (climbed ups (b - a)) to_n ∙ sym (climbed-add ups (n - a) (b - a) x) ∙ ap (λ m. climbed ups m x) (swap (n - a) (b - a)) ∙ climbed-add ups (b - a) (n - a) x ∙ ap (climbed ups (n - a)) round ∙ sym to_n in
-      (b - a - 1, ap (λ m. climbed ups m (climbed ups n k)) (less a b r.2) ∙ again)
+  -- a way that comes to a place again has come to all its places by then
+  pub sooner : (a b k : ℕ) → a < b → climbed ups a k ≡ climbed ups b k → (fuel m : ℕ) → m ≤ fuel → (i : ℕ) × (i < b) × (climbed ups i k ≡ climbed ups m k)
+  sooner a b k ab e zero m le = (m, omega (arith, le, ab), refl)
+  sooner a b k ab e (suc fuel) m le = elim (cases_lt m b) [
+    | inl low ↦ (m, low, refl)
+    | inr high ↦
+        let t = sooner a b k ab e fuel (a + (m - b)) (omega (arith, le, ab, high)) in
+        (t.0, t.1, t.2 ∙ climbed-add ups a (m - b) k ∙ ap (climbed ups (m - b)) e ∙ sym (climbed-add ups b (m - b) k) ∙ ap (λ x. climbed ups x k) (sum b m high))
+  ]
     where
-      sum : (a b : ℕ) → a < b → a + (b - a) ≡ b
-      sum a b h = omega (arith, h)
+      sum : (b m : ℕ) → b ≤ m → b + (m - b) ≡ m
+      sum b m h = omega (arith, h)
 
-      sum' : (a b : ℕ) → a ≤ b → a + (b - a) ≡ b
-      sum' a b h = omega (arith, h)
+  -- in as many steps as there are places it has
+  pub soon : (k m : ℕ) → k < length ups → (i : ℕ) × (i < length ups) × (climbed ups i k ≡ climbed ups m k)
+  soon k m lt =
+      let r = repeats (λ i. climbed ups i k) (length ups) (below (length ups)) (omega (arith, below_long (length ups))) (λ i _. below_has (length ups) (climbed ups i k) (climbed_within i k lt)) in
+      let t = sooner r.0 r.1 k r.2 r.4 m m (omega arith) in
+      (t.0, omega (arith, t.1, r.3), t.2)
 
-      swap : (p q : ℕ) → p + q ≡ q + p
-      swap p q = omega arith
-
-      less : (a b : ℕ) → a < b → suc (b - a - 1) ≡ b - a
-      less a b h = omega (arith, h)
-
-  -- a place to which the way returns is where any number of steps lead from some place
+  -- a way that returns does so after any number of rounds
   many : (t k : ℕ) → climbed ups (suc t) k ≡ k → (i : ℕ) → climbed ups (i * suc t) k ≡ k
   many t k e zero = ap (λ m. climbed ups m k) (nothing t)
     where
@@ -87,32 +83,16 @@ module _ (ups : List ℕ) (within : All (λ k. k < length ups) ups) where
       next : (i t : ℕ) → suc i * suc t ≡ suc t + i * suc t
       next i t = omega arith
 
-  pub comes_from : (n t k : ℕ) → k < length ups → climbed ups (suc t) k ≡ k → (j : ℕ) × (j < length ups) × (climbed ups n j ≡ k)
-  comes_from n t k lt e =
-      (climbed ups (n * t) k, climbed_within (n * t) k lt, sym (climbed-add ups (n * t) n k) ∙ ap (λ m. climbed ups m k) (parts n t) ∙ many t k e n)
+  -- from each of its places it returns there
+  pub along : (t k m : ℕ) → climbed ups (suc t) k ≡ k → climbed ups (suc t) (climbed ups m k) ≡ climbed ups m k
+  along t k m e = sym (climbed-add ups m (suc t) k) ∙ ap (λ n. climbed ups n k) (swap m (suc t)) ∙ climbed-add ups (suc t) m k ∙ ap (climbed ups m) e
     where
-      parts : (n t : ℕ) → n * t + n ≡ n * suc t
-      parts n t = omega arith
+      swap : (p q : ℕ) → p + q ≡ q + p
+      swap p q = omega arith
 
-pub doubled_within : (jumps far : List ℕ) → length far ≡ length jumps → ((k : ℕ) → k < length jumps → get_or far k 0 ≡ get_or jumps (get_or jumps k 0) 0) →
-    All (λ k. k < length jumps) jumps → All (λ k. k < length far) far
-doubled_within jumps far long each within =
-    All-from_get_or (λ k. k < length far) far 0 (λ i lt.
-    let li : i < length jumps = omega (arith, lt, long) in
-    let a = up_within jumps within i li in
-    let b = up_within jumps within (get_or jumps i 0) a in
-    let e = each i li in
-    omega (arith, b, e, long))
-
-pub doubled_far : (ups jumps far : List ℕ) (width : ℕ) → length jumps ≡ length ups → ((k : ℕ) → k < length jumps → get_or far k 0 ≡ get_or jumps (get_or jumps k 0) 0) →
-    All (λ k. k < length jumps) jumps → ((n : ℕ) × (width ≤ n) × ((k : ℕ) → k < length ups → slice_index jumps k ≡ climbed ups n k)) →
-    (n : ℕ) × (width * 2 ≤ n) × ((k : ℕ) → k < length ups → slice_index far k ≡ climbed ups n k)
-doubled_far ups jumps far width long each within t = (
-  t.0 + t.0,
-  omega (arith, t.1),
-  λ k lt.
-      let lj : k < length jumps = omega (arith, lt, long) in
-      let a = up_within jumps within k lj in
-      let la : slice_index jumps k < length ups = omega (arith, a, long) in
-      each k lj ∙ t.2 (slice_index jumps k) la ∙ ap (climbed ups t.0) (t.2 k lt) ∙ sym (climbed-add ups t.0 t.0 k),
-)
+  -- and to the first
+  pub back : (t k m : ℕ) → climbed ups (suc t) k ≡ k → climbed ups (m * t) (climbed ups m k) ≡ k
+  back t k m e = sym (climbed-add ups m (m * t) k) ∙ ap (λ n. climbed ups n k) (parts m t) ∙ many t k e m
+    where
+      parts : (m t : ℕ) → m + m * t ≡ m * suc t
+      parts m t = omega arith

@@ -1,5 +1,5 @@
 -- private, for the proof of conflicts: what is handed on within the making of lists
-use Rattle.std.specs.Prelude.{◌≡◌, ◌≢◌, ◌↔◌, ◌⊎◌, ℕ, ◌+◌, ◌<◌, ◌≤◌, Bool, true, false, IsTrue, Option, Some, None, List, [], ◌∷◌, length, slice_get, slice_index, slice_index_or}
+use Rattle.std.specs.Prelude.{◌≡◌, ◌≢◌, ◌↔◌, ◌⊎◌, ℕ, suc, ◌+◌, ◌<◌, Bool, true, false, IsTrue, Option, Some, None, List, [], ◌∷◌, length, slice_get, slice_index, slice_index_or}
 use Rattle.std.specs.List.{AllZip}
 use Rattle.std.specs.declared.cmp.Ordering.{Ordering}
 use Rattle.std.specs.declared.cmp.Ordering.TheVariants.{Less, Equal, Greater}
@@ -64,9 +64,37 @@ pub record AreUps (ds : List Decision) (ups : List ℕ) : Type 0 where
   pub each : (k : ℕ) (d : Decision) → slice_get ds k ≡ Some d → IsUpTo ds (parent_in d.slot) (slice_index ups k)
   pub end : slice_index ups (length ds) ≡ length ds
 
--- each place leads where so many steps up lead; at least as many as there are places
-abbrev pub AreFar : List ℕ → List ℕ → Type 0
-AreFar ups far = (length far ≡ length ups) × ((n : ℕ) × (length ups ≤ n) × ((k : ℕ) → k < length ups → slice_index far k ≡ climbed ups n k))
+-- the way up from a place returns to it
+abbrev pub IsRound : List ℕ → ℕ → Type 0
+IsRound ups k = (t : ℕ) × (climbed ups (suc t) k ≡ k)
+
+-- the way up from one place leads to the other
+abbrev pub IsUpFrom : List ℕ → ℕ → ℕ → Type 0
+IsUpFrom ups from k = (m : ℕ) × (climbed ups m from ≡ k)
+
+-- so many places of the way up from one, none of which had a mark, have this mark; a place without one has 0
+pub record IsMarkedUp (ups : List ℕ) (from : ℕ) (mark : ℕ) (old : List ℕ) (steps : ℕ) (at : ℕ) (new : List ℕ) : Type 0 where
+  pub long : length new ≡ length old
+  pub end : climbed ups steps from ≡ at
+  pub fresh : (i : ℕ) → i < steps → slice_index old (climbed ups i from) ≡ 0
+  pub marked : (i : ℕ) → i < steps → slice_index new (climbed ups i from) ≡ mark
+  pub others : (k : ℕ) → (slice_index new k ≡ slice_index old k) ⊎ ((i : ℕ) × (i < steps) × (climbed ups i from ≡ k))
+
+-- the way up from a place is marked, to the first place that has a mark
+abbrev pub IsWay : List ℕ → ℕ → ℕ → List ℕ → ℕ → List ℕ → Type 0
+IsWay ups from mark old at new = (steps : ℕ) × IsMarkedUp ups from mark old steps at new × (0 < slice_index new at)
+
+-- the flags of all places on the way up from one are raised too
+abbrev pub AreRaisedFrom : List ℕ → ℕ → List Bool → List Bool → Type 0
+AreRaisedFrom ups from old new = (length new ≡ length old)
+    × ((k : ℕ) → k < length old → (slice_index_or new k false ≡ true) ↔ ((slice_index_or old k false ≡ true) ⊎ IsUpFrom ups from k))
+
+-- Of the places with a mark, which go up to such, those are flagged to which the way up returns; no other is
+pub record AreSeen (ups : List ℕ) (marks : List ℕ) (flags : List Bool) : Type 0 where
+  pub long : length marks ≡ length ups
+  pub closed : (k : ℕ) → k < length ups → 0 < slice_index marks k → 0 < slice_index marks (slice_index ups k)
+  pub told : (k : ℕ) → k < length flags → 0 < slice_index marks k → (slice_index_or flags k false ≡ true) ↔ IsRound ups k
+  pub rest : (k : ℕ) → k < length flags → slice_index marks k ≡ 0 → slice_index_or flags k false ≡ false
 
 -- one more flag is raised
 abbrev pub IsRaised : List Bool → ℕ → List Bool → Type 0

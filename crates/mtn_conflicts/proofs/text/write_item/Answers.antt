@@ -1,6 +1,6 @@
 -- The lines of a stanza.
 use Rattle.std.specs.Prelude.{codes}
-use Rattle.std.proofs.Common.{◌++◌, ◌∷◌, [], ◌∙◌, ap, ℕ, List}
+use Rattle.std.proofs.Common.{◌++◌, ◌∙◌, ap, ℕ, List}
 use Rattle.std.proofs.lemmas.Result.{on_ok_weaker}
 use Rattle.mtn_basic_io.specs.Spelling.{line_text}
 use Rattle.mtn_conflicts.specs.ConflictText.{conflict_line, kind_name, more_lines, node_line}
