@@ -12,13 +12,13 @@ use Rattle.mtn_model.specs.State.{State}
 use Rattle.mtn_model.specs.Outcome.{Outcome}
 use Rattle.mtn_ports.proofs.KeptLemmas.{body_at-with_record}
 use Rattle.mtn_ports.specs.Causes.{Rose, RisesByOne}
-use Rattle.mtn_ports.specs.Kept.{Stays, IfTold, with_all, IsAbove, IsBody, IsNext}
+use Rattle.mtn_ports.specs.Kept.{Stays, with_all, IsAbove, IsBody, IsNext}
 use Rattle.mtn_ports.specs.declared.batch.Put.{Put}
 use Rattle.mtn_frame.specs.declared.works.Reply.{Reply}
 use Rattle.mtn_frame.specs.declared.works.Worked.{Worked}
 use Rattle.mtn_frame.specs.declared.works.WorkError.{WorkError}
 use Rattle.mtn_frame.specs.declared.works.WorkError.TheVariants.{Usage, Refused, Damaged, Failed, NoMemory}
-use Rattle.mtn_frame.specs.Works.{Works, WorksOver, HasReason, replied, misused}
+use Rattle.mtn_frame.specs.Works.{Works, replied, misused}
 use Rattle.mtn_claims_frame.specs.Toy.{ToyDamages, ToyLines, ToyStands, checked, good_line, is_check, is_get, is_put, put_outcome, toy_found, toy_key, toy_line, toy_outcome, toy_spelled}
 
 apart : (key : List ℕ) (b : Bool) → bytes_eq key toy_key ≡ b → IsAbove toy_key key → b ≡ false

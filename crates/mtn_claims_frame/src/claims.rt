@@ -5,11 +5,13 @@ ghost use Rattle.mtn_frame.specs.Payload.{takes_last as takes_payload};
 ghost use Rattle.mtn_frame.specs.Requests.{ReadsList};
 ghost use Rattle.mtn_frame.specs.Script.{Does, IsScript, is_session as session_words};
 ghost use Rattle.mtn_frame.specs.Session.{goes_on as answers_on};
+ghost use Rattle.mtn_frame.specs.Works.{Settles};
 ghost use Rattle.mtn_frame.specs.Top.{Feeds, Runs, Unread, fed, in_grammar, is_merge, reads};
 ghost use Rattle.mtn_ports.specs.Causes.{Rose};
 
 use mtn_base::{Bytes, List};
-use mtn_frame::{Commands, ReadStop, Request, RequestStop};
+use mtn_frame::settle::Settled;
+use mtn_frame::{Commands, Form, ReadStop, Request, RequestStop, WorkError, Worked};
 use mtn_model::Status;
 use mtn_ports::{Keeper, Sink, Source};
 use std::alloc::Global;
@@ -38,6 +40,13 @@ pub fn feed<S: Source>(alloc: Global, reads: bool, source: &mut S) -> Result<Vec
     ensures failed { IsErrOf result ReadStop.Failed → Rose (S.faults source.old) (S.faults source.new) }
 {
     mtn_frame::feed(alloc, reads, source)
+}
+
+/// As `mtn_frame::settle::settle`.
+pub fn settle(alloc: Global, form: Form, worked: Result<Worked, WorkError>) -> Settled
+    ensures { Settles form worked result }
+{
+    mtn_frame::settle::settle(alloc, form, worked)
 }
 
 /// As `mtn_frame::goes_on`.
