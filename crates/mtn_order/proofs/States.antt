@@ -1,7 +1,7 @@
 -- Lawful states with one more file or text, and two that are the same up to order.
 use Rattle.std.specs.Prelude.{bytes_eq, nat_lt, Contains}
 use Rattle.std.specs.FinMap.{get, insert}
-use Rattle.std.proofs.Common.{◌≡◌, ◌≤◌, ℕ, Bool, true, false, cond, List, [], ◌∷◌, ◌++◌, length, Option, Some, None, refl, sym, ap, ◌∙◌, subst, inl, inr, ⊎_elim, arith, if◌then◌else◌}
+use Rattle.std.proofs.Common.{◌≡◌, ◌≤◌, ℕ, Bool, true, false, cond, List, [], ◌∷◌, ◌++◌, length, Option, Some, None, refl, sym, ap, ◌∙◌, subst, ⊎_elim, arith, if◌then◌else◌}
 use Rattle.std.proofs.lemmas.Bool.Decides.{nat_tests}
 use Rattle.std.proofs.lemmas.List.Elements.{Contains-append_left, Contains-push, Contains-push_cases}
 use Rattle.std.proofs.lemmas.Slice.Eq.{bytes_eq-Decides}
@@ -11,9 +11,9 @@ use Rattle.mtn_base.specs.declared.refusal.Cause.TheVariants.{Collision, TextToo
 use Rattle.mtn_history_laws.specs.History.{Revision}
 use Rattle.mtn_replay.specs.Files.{collision, file_refusal, with_file}
 use Rattle.mtn_replay.proofs.FileLemmas.{insert_held, lawful_more}
-use Rattle.mtn_replay.specs.Lawful.{IsHistory, IsLawful, IsNext, Keeps}
+use Rattle.mtn_replay.specs.Lawful.{IsHistory, IsLawful, IsNext}
 use Rattle.mtn_replay.proofs.Histories.{history_more}
-use Rattle.mtn_model.specs.State.{AreFiles, Logged, State}
+use Rattle.mtn_model.specs.State.{Logged, State}
 use Rattle.mtn_model.specs.Table.{Table}
 use Rattle.mtn_renaming.specs.Order.{IsSameUpToOrder}
 
