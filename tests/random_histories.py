@@ -1,13 +1,16 @@
 #!/usr/bin/env python3
 """Makes random histories, merges among them, and compares each roster that the built program prints with one that is worked
 out here over the whole graph: which revisions set a value, and which of these a later one has not overruled. Nothing here
-looks at the marks of a parent, as the program does. Takes a first seed and how many histories (1 and 3 where not given);
-ends with 'N passed, M failed'."""
+looks at the marks of a parent, as the program does. Each history is then accepted in two more orders: every command but those
+that answer in the order of the log answers alike over all three, before and behind one more revision. Takes a first seed and
+how many histories (1 and 3 where not given); ends with 'N passed, M failed'."""
+import os
 import random
 import sys
 import tempfile
 
 import revisions
+import sessions
 from revisions import Store, add_dir, add_file, clear, delete, manifest, patch, rename, revision, roster, set_attr, sha, two, verdict
 
 CONTENTS = [b'abc', b'a', b'b', b'c', b'']
@@ -59,7 +62,7 @@ def live(node):
 class History:
     def __init__(self, store, chance):
         self.store, self.chance = store, chance
-        self.ids, self.parents, self.trees, self.above = [], {}, {}, {}
+        self.ids, self.parents, self.trees, self.above, self.texts = [], {}, {}, {}, {}
         for data in CONTENTS:
             store.file(data)
 
@@ -157,6 +160,7 @@ class History:
         self.store.accepted('revision %d' % len(self.ids), text)
         named = lambda name: (made, name[1]) if name and name[0] == '' else name
         self.ids.append(made)
+        self.texts[made] = text
         self.parents[made] = sorted(parents)
         self.trees[made] = {named(name): Node(named(name), named(node.parent), node.comp, node.content, node.attributes) for name, node in tree.items()}
         self.above[made] = {made}.union(*(self.above[parent] for parent in parents)) if parents else {made}
@@ -284,6 +288,51 @@ class History:
         self.store.answers('the manifest of revision %d' % len(self.ids), ['get_manifest_of', at], 0, manifest(shape, attributes).decode())
 
 
+    # Other orders.
+
+    def another_order(self, chance):
+        """The revisions in an order of acceptance, parents first."""
+        left, order = list(self.ids), []
+        while left:
+            order.append(chance.choice([at for at in left if not set(self.parents[at]) & set(left)]))
+            left.remove(order[-1])
+        return order
+
+    def questions(self, chance):
+        """Every command that does not answer in the order of the log, about each revision, and about one that is not there."""
+        asked = [[word] for word in ('leaves', 'roots', 'graph')]
+        asked += [['get_file', sha(data)] for data in CONTENTS + [b'none']]
+        asked += [[word, *self.ids] for word in ('ancestors', 'descendents', 'common_ancestors', 'erase_ancestors')]
+        for at in self.ids + [sha(b'none')]:
+            other = chance.choice(self.ids)
+            asked += [[word, at] for word in ('get_revision', 'get_manifest_of', 'get_roster', 'parents', 'children', 'ancestors', 'descendents')]
+            asked += [[word, at, other] for word in ('common_ancestors', 'erase_ancestors', 'ancestors', 'descendents')]
+            for path in sorted(paths(self.trees[at])) if at in self.trees else ['']:
+                asked += [['get_content_changed', at, path], ['get_corresponding_path', at, path, other]]
+        return asked
+
+    def accepted(self, order):
+        """A session that puts the revisions in this order."""
+        return b''.join(sessions.request('put_file', data) for data in CONTENTS) + b''.join(sessions.request('put_revision', self.texts[at]) for at in order)
+
+    def compare_orders(self, folder, number):
+        chance = random.Random(number)
+        asked = b''.join(sessions.request(*words) for words in self.questions(chance))
+        last = self.ids[-1]
+        # One more revision is put behind the questions, and one that no order accepts; then they are asked again.
+        grown = asked + sessions.request('put_revision', self.texts[last]) + sessions.request('put_revision', b'no revision') + asked
+        orders = [[at for at in order if at != last] for order in (self.ids, self.another_order(chance), self.another_order(chance))]
+        answers = []
+        for at, order in enumerate(orders):
+            store = os.path.join(folder, 'order%d-%d' % (number, at))
+            put = sessions.session(store, self.accepted(order))
+            verdict('history %d is accepted in order %d' % (number, at), put[0] == 0 and put[1].count(b':l:1:0') == len(CONTENTS) + len(order))
+            answers.append(sessions.session(store, grown))
+        verdict('history %d has more than one order' % number, orders[1] != orders[0] or orders[2] != orders[0])
+        for at in (1, 2):
+            verdict('history %d answers alike in order %d' % (number, at), answers[at] == answers[0] and answers[0][0] == 0 and len(answers[0][1]) > 1000)
+
+
 def main():
     seed, count = (int(word) for word in (sys.argv[1:] + ['1', '3'][len(sys.argv) - 1:])[:2])
     with tempfile.TemporaryDirectory() as folder:
@@ -293,6 +342,7 @@ def main():
             for _ in range(30):
                 history.chance.choice([history.child, history.child, history.merge])()
             verdict('history %d has merges' % number, any(len(parents) == 2 for parents in history.parents.values()))
+            history.compare_orders(folder, number)
     print('%d passed, %d failed' % (revisions.passed, revisions.failed))
     return 1 if revisions.failed else 0
 

@@ -1,24 +1,44 @@
--- The two commands meet the contract of commands.
-use Rattle.std.proofs.Common.{◌≡◌, ◌≤◌, ◌+◌, ℕ, Bool, true, false, ◌||◌, List, [], ◌∷◌, Option, Some, None, Result, Ok, Err, sym, ap, ◌∙◌, subst, arith}
-use Rattle.std.specs.Prelude.{⊤, if◌then◌else◌, IfSome}
+-- The three commands meet the contract of commands.
+use Rattle.std.proofs.Common.{◌≡◌, ◌≤◌, ◌+◌, ℕ, Bool, true, false, ◌||◌, ◌&&◌, List, [], ◌∷◌, Option, Some, None, Result, Ok, Err, cond, refl, sym, ap, ◌∙◌, subst, arith}
+use Rattle.std.specs.Prelude.{⊤, if◌then◌else◌, IfSome, bytes_eq}
 use Rattle.std.specs.FinMap.{get, insert}
+use Rattle.std.specs.Cmp.Lexicographic.{slice_cmp}
+use Rattle.std.specs.Ordering.{nat_cmp}
+use Rattle.std.specs.declared.cmp.Ordering.TheVariants.{Less}
+use Rattle.std.proofs.lemmas.Slice.Eq.{bytes_eq-Decides}
 use Rattle.mtn_base.specs.declared.refusal.Cause.TheVariants.{NoBranch}
-use Rattle.mtn_model.specs.Table.{Contents, body_at}
+use Rattle.mtn_model.specs.Table.{Contents, body_at, with_record}
 use Rattle.mtn_model.specs.State.{State}
+use Rattle.mtn_model.specs.Outcome.{Outcome}
+use Rattle.mtn_ports.proofs.KeptLemmas.{body_at-with_record}
 use Rattle.mtn_ports.specs.Causes.{Rose, RisesByOne}
-use Rattle.mtn_ports.specs.Kept.{Stays, with_all, IsBody}
+use Rattle.mtn_ports.specs.Kept.{Stays, with_all, IsAbove, IsBody, IsNext}
 use Rattle.mtn_ports.specs.declared.batch.Put.{Put}
 use Rattle.mtn_frame.specs.declared.works.Reply.{Reply}
 use Rattle.mtn_frame.specs.declared.works.Worked.{Worked}
 use Rattle.mtn_frame.specs.declared.works.WorkError.{WorkError}
-use Rattle.mtn_frame.specs.declared.works.WorkError.TheVariants.{Usage, Refused, Failed, NoMemory}
-use Rattle.mtn_model.specs.declared.status.Status.TheVariants as status
+use Rattle.mtn_frame.specs.declared.works.WorkError.TheVariants.{Usage, Refused, Damaged, Failed, NoMemory}
 use Rattle.mtn_frame.specs.Works.{Works, replied, misused}
-use Rattle.mtn_claims_frame.specs.Toy.{ToyStands, toy_key, is_put, is_get, toy_spelled, toy_found, toy_outcome}
+use Rattle.mtn_claims_frame.specs.Toy.{ToyDamages, ToyLines, ToyStands, checked, good_line, is_check, is_get, is_put, put_outcome, toy_found, toy_key, toy_line, toy_outcome, toy_spelled}
 
-module _ {K : Type 0} (contents : K → Option Contents) (leaves : K → Contents → Type 0) (faults asked : K → ℕ) (old new : K) (words : List (List ℕ)) (payload : List ℕ) where
-  abbrev Target : Result Worked WorkError → Type 0
-  Target r = Works ToyStands (λ c line. ⊥) (λ line. ⊥) {M = Unit {0}} (λ m c. ⊤) contents leaves faults asked old new tt (toy_spelled words) false (λ s o. o ≡ toy_outcome words payload s) (λ s n. n ≡ 1) r
+apart : (key : List ℕ) (b : Bool) → bytes_eq key toy_key ≡ b → IsAbove toy_key key → b ≡ false
+apart key false is above = refl
+apart key true is above = let less : slice_cmp nat_cmp toy_key toy_key ≡ Less = subst (IsAbove toy_key) ((bytes_eq-Decides key toy_key).0 is) above in cc
+
+-- a file under the one key leaves none behind it
+stays_alone : (c : Contents) (payload : List ℕ) → ((key : List ℕ) → IsAbove toy_key key → body_at c 2 key ≡ None) → (key : List ℕ) → IsAbove toy_key key → body_at (with_record c 2 toy_key payload) 2 key ≡ None
+stays_alone c payload alone key above =
+    body_at-with_record c 2 toy_key payload 2 key
+    ∙ ap (λ b. cond (true && b) (Some payload) (body_at c 2 key)) (apart key (bytes_eq key toy_key) refl above)
+    ∙ alone key above
+
+pub after_put : (c : Contents) (s : State) (payload : List ℕ) → ToyStands c s → ToyStands (with_record c 2 toy_key payload) (record s { files = insert s.files toy_key payload })
+after_put c s payload stands = record { files = ap (λ m. insert m toy_key payload) stands.files; alone = stays_alone c payload stands.alone }
+
+module _ {K : Type 0} (contents : K → Option Contents) (leaves : K → Contents → Type 0) (faults asked : K → ℕ) (old new : K) where
+  -- what a command of this set does, in the words of the frame
+  abbrev Ensures : Bool → (State → Outcome → Type 0) → Result Worked WorkError → Type 0
+  Ensures spelled Outcomes r = Works ToyStands ToyDamages ToyLines {M = Unit {0}} (λ m c. ⊤) contents leaves faults asked old new tt spelled false Outcomes (λ s n. n ≡ 1) r
 
   abbrev Few : Type 0
   Few = (c : Contents) (s : State) (n : ℕ) → contents new ≡ Some c → ToyStands c s → n ≡ 1 → asked new ≤ asked old + n
@@ -29,67 +49,119 @@ module _ {K : Type 0} (contents : K → Option Contents) (leaves : K → Content
   unasked : old ≡ new → Few
   unasked same c s n now stands is = let e = ap asked same in omega (arith, e)
 
-  by_put : (s : State) → is_put words ≡ true → toy_outcome words payload s ≡ record { state = record s { files = insert s.files toy_key payload }; output = []; status = status.Ok }
-  by_put s on = ap (λ b. if b then record { state = record s { files = insert s.files toy_key payload }; output = []; status = status.Ok } else if is_get words then toy_found s (get s.files toy_key) else misused s) on
-
-  by_get : (s : State) → is_put words ≡ false → is_get words ≡ true → toy_outcome words payload s ≡ toy_found s (get s.files toy_key)
-  by_get s off on =
-      ap (λ b. if b then record { state = record s { files = insert s.files toy_key payload }; output = []; status = status.Ok } else if is_get words then toy_found s (get s.files toy_key) else misused s) off
-      ∙ ap (λ b. if b then toy_found s (get s.files toy_key) else misused s) on
-
-  by_none : (s : State) → is_put words ≡ false → is_get words ≡ false → toy_outcome words payload s ≡ misused s
-  by_none s off out =
-      ap (λ b. if b then record { state = record s { files = insert s.files toy_key payload }; output = []; status = status.Ok } else if is_get words then toy_found s (get s.files toy_key) else misused s) off
-      ∙ ap (λ b. if b then toy_found s (get s.files toy_key) else misused s) out
+  rests : old ≡ new → Stays contents leaves faults old new
+  rests same = subst (Stays contents leaves faults old) same (record { same = λ d now. now; crash = λ d now e may. may; later = omega arith })
 
   no_conflicts : (r : Reply) (text : List ℕ) (P : Type 0) → r ≡ record { conflicts = false; text = text } → r.conflicts ≡ true → P
   no_conflicts r text P is on = let e : r.conflicts ≡ false = ap (λ (x : Reply). x.conflicts) is in cc
 
-  pub puts : (worked : Worked) → old ≡ new → is_put words ≡ true → worked.reply ≡ record { conflicts = false; text = [] } → worked.batch ≡ record { table = 2; key = toy_key; body = payload } ∷ [] → Target (Ok worked)
-  puts worked same on is_reply is_batch = record {
-    stays = subst (Stays contents leaves faults old) same (record { same = λ d now. now; crash = λ d now e may. may; later = omega arith });
-    done = λ c s now stands.
-        let t : State = record s { files = insert s.files toy_key payload } in
-        (t, ap (λ (r : Reply). replied r t) is_reply ∙ sym (by_put s on), ap (λ (ps : List Put). with_all c ps 2) is_batch ∙ ap (λ m. insert m toy_key payload) stands);
-    knows = λ c now. tt;
-    reason = (ap (λ b. b || is_get words) on, no_conflicts worked.reply [] _ is_reply);
-    few_reads = unasked same;
-  }
+  -- an answer that puts nothing
+  answered : (c : Contents) (s : State) (worked : Worked) (text : List ℕ) (o : Outcome) → worked.reply ≡ record { conflicts = false; text = text } → worked.batch ≡ [] → replied (record { conflicts = false; text = text }) s ≡ o → ToyStands c s →
+      (t : State) × (replied worked.reply t ≡ o) × ToyStands (with_all c worked.batch) t
+  answered c s worked text o is_reply is_batch is stands =
+      (s, ap (λ (r : Reply). replied r s) is_reply ∙ is, subst (λ (ps : List Put). ToyStands (with_all c ps) s) (sym is_batch) stands)
 
-  pub gets : (worked : Worked) (text : List ℕ) → RisesByOne (asked old) (asked new) → Stays contents leaves faults old new → is_put words ≡ false → is_get words ≡ true → worked.reply ≡ record { conflicts = false; text = text } → worked.batch ≡ [] →
-      (b : Bool) → b ≡ true → IfSome (contents new) (λ c. IsBody (body_at c 2 toy_key) b text) → Target (Ok worked)
-  gets worked text one stays off on is_reply is_batch b is_true found = record {
+  -- ---- the command over the keeper itself
+
+  pub finds_none : (worked : Worked) → RisesByOne (asked old) (asked new) → Stays contents leaves faults old new → worked.reply ≡ record { conflicts = false; text = good_line } → worked.batch ≡ [] →
+      Ensures true (λ s o. o ≡ checked s) (Ok worked)
+  finds_none worked one stays is_reply is_batch = record {
     stays = stays;
-    done = λ c s now stands.
-        let body : body_at c 2 toy_key ≡ Some text = subst (λ t. IsBody (body_at c 2 toy_key) t text) is_true (subst (λ o. IfSome o (λ x. IsBody (body_at x 2 toy_key) b text)) now found) in
-        (s, ap (λ (r : Reply). replied r s) is_reply ∙ sym (by_get s off on ∙ ap (λ m. toy_found s (get m toy_key)) (sym stands) ∙ ap (toy_found s) body), ap (λ (ps : List Put). with_all c ps 2) is_batch ∙ stands);
+    done = λ c s now stands. answered c s worked good_line (checked s) is_reply is_batch refl stands;
     knows = λ c now. tt;
-    reason = (ap (λ b. b || is_get words) off ∙ on, no_conflicts worked.reply text _ is_reply);
+    reason = (refl, no_conflicts worked.reply good_line _ is_reply);
     few_reads = few one;
   }
 
-  pub misses : RisesByOne (asked old) (asked new) → Stays contents leaves faults old new → is_put words ≡ false → is_get words ≡ true → IfSome (contents new) (λ c. body_at c 2 toy_key ≡ None) → Target (Err (Refused (record { packet = 0; cause = NoBranch })))
-  misses one stays off on found = record {
+  pub finds_another : (key line : List ℕ) (b : Bool) → RisesByOne (asked old) (asked new) → Stays contents leaves faults old new → b ≡ true → IfSome (contents new) (λ c. IsNext c 2 toy_key b key) → IsAbove toy_key key → line ≡ toy_line key →
+      Ensures true (λ s o. o ≡ checked s) (Err (Damaged line))
+  finds_another key line b one stays is_true found above is = record {
     stays = stays;
-    done = λ c s now stands.
-        let body : body_at c 2 toy_key ≡ None = subst (λ o. IfSome o (λ x. body_at x 2 toy_key ≡ None)) now found in
-        sym (by_get s off on ∙ ap (λ m. toy_found s (get m toy_key)) (sym stands) ∙ ap (toy_found s) body);
+    done = λ c s now stands. let some = held c now in let none = stands.alone key above in cc;
     knows = λ c now. tt;
-    reason = ap (λ b. b || is_get words) off ∙ on;
+    reason = (refl, (λ c now. record { key = key; above = above; body = (held c now).0; held = (held c now).1; is = is }), (key, is));
     few_reads = few one;
   }
+    where
+      held : (c : Contents) → contents new ≡ Some c → (body : List ℕ) × (body_at c 2 key ≡ Some body)
+      held c now = (subst (λ t. IsNext c 2 toy_key t key) is_true (subst (λ o. IfSome o (λ x. IsNext x 2 toy_key b key)) now found)).0
 
-  pub misuses : old ≡ new → is_put words ≡ false → is_get words ≡ false → Target (Err Usage)
-  misuses same off out = record {
-    stays = subst (Stays contents leaves faults old) same (record { same = λ d now. now; crash = λ d now e may. may; later = omega arith });
-    done = λ c s now stands. sym (by_none s off out);
-    knows = λ c now. tt;
-    reason = ap (λ b. b || is_get words) off ∙ out;
-    few_reads = unasked same;
-  }
+  pub finds_fault : RisesByOne (asked old) (asked new) → Stays contents leaves faults old new → Rose (faults old) (faults new) → Ensures true (λ s o. o ≡ checked s) (Err Failed)
+  finds_fault one stays rose = record { few_reads = few one; stays = stays; done = λ c s now stands. tt; knows = λ c now. tt; reason = (refl, rose) }
 
-  pub fails : RisesByOne (asked old) (asked new) → Stays contents leaves faults old new → is_put words ≡ false → is_get words ≡ true → Rose (faults old) (faults new) → Target (Err Failed)
-  fails one stays off on rose = record { few_reads = few one; stays = stays; done = λ c s now stands. tt; knows = λ c now. tt; reason = (ap (λ b. b || is_get words) off ∙ on, rose) }
+  pub finds_want : RisesByOne (asked old) (asked new) → Stays contents leaves faults old new → Ensures true (λ s o. o ≡ checked s) (Err NoMemory)
+  finds_want one stays = record { few_reads = few one; stays = stays; done = λ c s now stands. tt; knows = λ c now. tt; reason = tt }
 
-  pub wants : RisesByOne (asked old) (asked new) → Stays contents leaves faults old new → Target (Err NoMemory)
-  wants one stays = record { few_reads = few one; stays = stays; done = λ c s now stands. tt; knows = λ c now. tt; reason = tt }
+  module _ (words : List (List ℕ)) (payload : List ℕ) where
+    abbrev Target : Result Worked WorkError → Type 0
+    Target r = Ensures (toy_spelled words) (λ s o. o ≡ toy_outcome words payload s) r
+
+    -- which command it is
+    abbrev chosen : Bool → Bool → Bool → State → Outcome
+    chosen is_put is_check is_get s = if is_put then put_outcome payload s else if is_check then checked s else if is_get then toy_found s (get s.files toy_key) else misused s
+
+    by_put : (s : State) → is_put words ≡ true → toy_outcome words payload s ≡ put_outcome payload s
+    by_put s on = ap (λ b. chosen b (is_check words) (is_get words) s) on
+
+    by_get : (s : State) → is_put words ≡ false → is_check words ≡ false → is_get words ≡ true → toy_outcome words payload s ≡ toy_found s (get s.files toy_key)
+    by_get s off out on = ap (λ b. chosen b (is_check words) (is_get words) s) off ∙ ap (λ b. chosen false b (is_get words) s) out ∙ ap (λ b. chosen false false b s) on
+
+    by_none : (s : State) → is_put words ≡ false → is_check words ≡ false → is_get words ≡ false → toy_outcome words payload s ≡ misused s
+    by_none s off out none = ap (λ b. chosen b (is_check words) (is_get words) s) off ∙ ap (λ b. chosen false b (is_get words) s) out ∙ ap (λ b. chosen false false b s) none
+
+    spelled_as : is_put words ≡ false → is_check words ≡ false → toy_spelled words ≡ is_get words
+    spelled_as off out = ap (λ b. b || is_check words || is_get words) off ∙ ap (λ b. b || is_get words) out
+
+    pub puts : (worked : Worked) → old ≡ new → is_put words ≡ true → worked.reply ≡ record { conflicts = false; text = [] } → worked.batch ≡ record { table = 2; key = toy_key; body = payload } ∷ [] → Target (Ok worked)
+    puts worked same on is_reply is_batch = record {
+      stays = rests same;
+      done = λ c s now stands.
+          let t : State = record s { files = insert s.files toy_key payload } in
+          (t, ap (λ (r : Reply). replied r t) is_reply ∙ sym (by_put s on), subst (λ (ps : List Put). ToyStands (with_all c ps) t) (sym is_batch) (after_put c s payload stands));
+      knows = λ c now. tt;
+      reason = (ap (λ b. b || is_check words || is_get words) on, no_conflicts worked.reply [] _ is_reply);
+      few_reads = unasked same;
+    }
+
+    pub checks : (r : Result Worked WorkError) → is_put words ≡ false → is_check words ≡ true → Ensures true (λ s o. o ≡ checked s) r → Target r
+    checks r off on works =
+        subst (λ b. Ensures (b || is_check words || is_get words) (λ s o. o ≡ chosen b (is_check words) (is_get words) s) r) (sym off)
+        (subst (λ b. Ensures (false || b || is_get words) (λ s o. o ≡ chosen false b (is_get words) s) r) (sym on) works)
+
+    pub gets : (worked : Worked) (text : List ℕ) → RisesByOne (asked old) (asked new) → Stays contents leaves faults old new → is_put words ≡ false → is_check words ≡ false → is_get words ≡ true → worked.reply ≡ record { conflicts = false; text = text } → worked.batch ≡ [] →
+        (b : Bool) → b ≡ true → IfSome (contents new) (λ c. IsBody (body_at c 2 toy_key) b text) → Target (Ok worked)
+    gets worked text one stays off out on is_reply is_batch b is_true found = record {
+      stays = stays;
+      done = λ c s now stands.
+          let body : body_at c 2 toy_key ≡ Some text = subst (λ t. IsBody (body_at c 2 toy_key) t text) is_true (subst (λ o. IfSome o (λ x. IsBody (body_at x 2 toy_key) b text)) now found) in
+          answered c s worked text (toy_outcome words payload s) is_reply is_batch (sym (by_get s off out on ∙ ap (λ m. toy_found s (get m toy_key)) (sym stands.files) ∙ ap (toy_found s) body)) stands;
+      knows = λ c now. tt;
+      reason = (spelled_as off out ∙ on, no_conflicts worked.reply text _ is_reply);
+      few_reads = few one;
+    }
+
+    pub misses : RisesByOne (asked old) (asked new) → Stays contents leaves faults old new → is_put words ≡ false → is_check words ≡ false → is_get words ≡ true → IfSome (contents new) (λ c. body_at c 2 toy_key ≡ None) → Target (Err (Refused (record { packet = 0; cause = NoBranch })))
+    misses one stays off out on found = record {
+      stays = stays;
+      done = λ c s now stands.
+          let body : body_at c 2 toy_key ≡ None = subst (λ o. IfSome o (λ x. body_at x 2 toy_key ≡ None)) now found in
+          sym (by_get s off out on ∙ ap (λ m. toy_found s (get m toy_key)) (sym stands.files) ∙ ap (toy_found s) body);
+      knows = λ c now. tt;
+      reason = spelled_as off out ∙ on;
+      few_reads = few one;
+    }
+
+    pub misuses : old ≡ new → is_put words ≡ false → is_check words ≡ false → is_get words ≡ false → Target (Err Usage)
+    misuses same off out none = record {
+      stays = rests same;
+      done = λ c s now stands. sym (by_none s off out none);
+      knows = λ c now. tt;
+      reason = spelled_as off out ∙ none;
+      few_reads = unasked same;
+    }
+
+    pub fails : RisesByOne (asked old) (asked new) → Stays contents leaves faults old new → is_put words ≡ false → is_check words ≡ false → is_get words ≡ true → Rose (faults old) (faults new) → Target (Err Failed)
+    fails one stays off out on rose = record { few_reads = few one; stays = stays; done = λ c s now stands. tt; knows = λ c now. tt; reason = (spelled_as off out ∙ on, rose) }
+
+    pub wants : RisesByOne (asked old) (asked new) → Stays contents leaves faults old new → Target (Err NoMemory)
+    wants one stays = record { few_reads = few one; stays = stays; done = λ c s now stands. tt; knows = λ c now. tt; reason = tt }

@@ -1,12 +1,17 @@
 //! The public calls of the frame under their own contracts.
-ghost use Rattle.std.specs.Prelude.{◌≡◌};
+ghost use Rattle.std.specs.Prelude.{◌≡◌, ◌≤◌, IfOk, IsErrOf, OnErr, true};
+ghost use Rattle.mtn_frame.specs.Limit.{Stops};
 ghost use Rattle.mtn_frame.specs.Payload.{takes_last as takes_payload};
 ghost use Rattle.mtn_frame.specs.Requests.{ReadsList};
 ghost use Rattle.mtn_frame.specs.Script.{Does, IsScript, is_session as session_words};
-ghost use Rattle.mtn_frame.specs.Top.{Runs, reads, fed, in_grammar, is_merge};
+ghost use Rattle.mtn_frame.specs.Session.{goes_on as answers_on};
+ghost use Rattle.mtn_frame.specs.Works.{Settles};
+ghost use Rattle.mtn_frame.specs.Top.{Feeds, Runs, Unread, fed, in_grammar, is_merge, reads};
+ghost use Rattle.mtn_ports.specs.Causes.{Rose};
 
 use mtn_base::{Bytes, List};
-use mtn_frame::{Commands, Request, RequestStop};
+use mtn_frame::settle::Settled;
+use mtn_frame::{Commands, Form, ReadStop, Request, RequestStop, WorkError, Worked};
 use mtn_model::Status;
 use mtn_ports::{Keeper, Sink, Source};
 use std::alloc::Global;
@@ -23,6 +28,32 @@ pub fn read_requests(alloc: Global, input: &[u8]) -> Result<List<Request>, Reque
     ensures { ReadsList input.now result }
 {
     mtn_frame::read_requests(alloc, input)
+}
+
+/// As `mtn_frame::feed`.
+pub fn feed<S: Source>(alloc: Global, reads: bool, source: &mut S) -> Result<Vec<u8>, ReadStop>
+    ensures all { IfOk result (λ payload. Feeds reads (S.left source.old) (S.left source.new) payload.items) }
+    ensures limit { Stops reads (S.left source.old) (S.left source.new) result }
+    ensures unread { Unread reads (S.left source.old) (S.left source.new) }
+    ensures reads { OnErr result (reads ≡ true) }
+    ensures later { S.faults source.old ≤ S.faults source.new }
+    ensures failed { IsErrOf result ReadStop.Failed → Rose (S.faults source.old) (S.faults source.new) }
+{
+    mtn_frame::feed(alloc, reads, source)
+}
+
+/// As `mtn_frame::settle::settle`.
+pub fn settle(alloc: Global, form: Form, worked: Result<Worked, WorkError>) -> Settled
+    ensures { Settles form worked result }
+{
+    mtn_frame::settle::settle(alloc, form, worked)
+}
+
+/// As `mtn_frame::goes_on`.
+pub fn goes_on(status: Status) -> bool
+    ensures { result ≡ answers_on status }
+{
+    mtn_frame::goes_on(status)
 }
 
 /// As `mtn_frame::run_frame`.

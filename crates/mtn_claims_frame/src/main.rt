@@ -1,8 +1,8 @@
-// Runs two made-up commands through the frame, and claims of its calls for the wrong bodies of must-fail/.
+// Runs three made-up commands through the frame, and claims of its calls for the wrong bodies of must-fail/.
 //
-// A line of standard input is `ROOM CALL WORD INPUT`: how many bytes the sink takes, which call of the keeper fails (0: none),
-// the one word, and what the source gives. For each line, over one keeper in memory, the status and what was written, and what
-// `get` answers then.
+// A line of standard input is `ROOM CALL KEY WORD INPUT`: how many bytes the sink takes, which call of the keeper fails (0: none),
+// the key of a record that should not be there (-: none), the one word, and what the source gives. For each line, over one keeper
+// in memory, the status and what was written, and what `get` answers then.
 #![tactic(auto)]
 
 mod claims;
@@ -46,13 +46,23 @@ fn call(
     Ok(())
 }
 
+// The records that are there: none, or one under this key.
+fn held(alloc: Global, key: &[u8]) -> Option<Batch> {
+    let mut batch = Batch::new(alloc);
+    if !key.is_empty() && key != b"-".as_slice() {
+        batch.put(2, key, b"x").ok()?;
+    }
+    Some(batch)
+}
+
 fn answer(alloc: Global, line: &[u8], out: &mut Vec<u8>) -> Option<()> {
     let (room, rest) = cut(line)?;
     let (failing, rest) = cut(rest)?;
+    let (key, rest) = cut(rest)?;
     let (word, input) = cut(rest)?;
     let mut calls = Vec::new(alloc);
     calls.push(number(failing)?).ok()?;
-    let mut keeper = MemKeeper::new(Batch::new(alloc), calls).ok()?;
+    let mut keeper = MemKeeper::new(held(alloc, key)?, calls).ok()?;
     call(alloc, number(room)? as usize, word, input, &mut keeper, out).ok()?;
     call(alloc, 100, b"get", b"", &mut keeper, out).ok()
 }

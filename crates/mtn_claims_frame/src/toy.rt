@@ -1,7 +1,7 @@
-//! A made-up set of two commands, which shows that the frame can be met: `put` keeps the payload as the one file, and `get`
-//! prints it.
-ghost use Rattle.std.specs.Prelude.{◌≡◌, ◌≤◌, ◌∷◌, [], ℕ, List as Seq, Bool, true, false, ⊤, IfOk};
-ghost use Rattle.mtn_claims_frame.specs.Toy.{ToyStands, toy_key, toy_outcome, toy_spelled, toy_takes, is_put as put_words, is_get as get_words, is_word as one_word};
+//! A made-up set of three commands, which shows that the frame can be met: `put` keeps the payload as the one file, `get` prints
+//! it, and `check` goes over the keeper itself, as no command over a file would: whether it holds anything behind the one key.
+ghost use Rattle.std.specs.Prelude.{◌≡◌, ◌≤◌, ◌∷◌, [], ℕ, List as Seq, Bool, true, false, ⊤, IfOk, OnOk};
+ghost use Rattle.mtn_claims_frame.specs.Toy.{ToyDamages, ToyLines, ToyStands, checked, good_line, is_word as one_word, toy_key, toy_line, toy_outcome, toy_spelled, toy_takes};
 ghost use Rattle.mtn_frame.specs.Works.{Works};
 
 use mtn_base::{Bytes, Cause, List, NoMemory, Refusal};
@@ -9,7 +9,7 @@ use mtn_frame::{Commands, Reply, WorkError, Worked};
 use mtn_ports::{Batch, KeepError, Keeper};
 use std::alloc::Global;
 
-/// The two commands.
+/// The three commands.
 pub struct Toy;
 
 fn is_word(words: &[Bytes], name: &[u8]) -> bool
@@ -35,6 +35,45 @@ fn put(alloc: Global, payload: &[u8]) -> Result<Worked, NoMemory>
     })
 }
 
+fn good(alloc: Global) -> Result<Worked, NoMemory>
+    ensures { IfOk result (λ worked. (worked.reply ≡ record { conflicts = false; text = good_line }) × (worked.batch ≡ [])) }
+{
+    Ok(Worked {
+        reply: Reply {
+            conflicts: false,
+            text: Bytes::from_slice(alloc, b"good\n")?,
+        },
+        batch: Batch::new(alloc),
+    })
+}
+
+// The line that shows a record behind the one key.
+fn damage_line(alloc: Global, key: &[u8]) -> Result<Bytes, NoMemory>
+    ensures { IfOk result (λ line. line ≡ toy_line key.now) }
+{
+    let mut text = Vec::new(alloc);
+    text.extend_from_slice(b"damaged ")?;
+    text.extend_from_slice(key)?;
+    text.push(b'\n')?;
+    Ok(List::from_vec(text))
+}
+
+// Looks at the keeper itself.
+fn check<K: Keeper>(alloc: Global, keeper: &mut K) -> Result<Worked, WorkError>
+    ensures { Works ToyStands ToyDamages ToyLines {M = Unit {0}} (λ m c. ⊤) K.contents K.leaves K.faults K.reads keeper.old keeper.new tt
+        true false (λ s o. o ≡ checked s) (λ s n. n ≡ 1) result }
+{
+    let mut key = Vec::new(alloc);
+    match keeper.next(2, &[1], &mut key) {
+        Ok(true) => Err(WorkError::Damaged {
+            line: damage_line(alloc, &key)?,
+        }),
+        Ok(false) => Ok(good(alloc)?),
+        Err(KeepError::Failed) => Err(WorkError::Failed),
+        Err(KeepError::NoMemory) => Err(WorkError::NoMemory),
+    }
+}
+
 impl Commands for Toy {
     type Memory = ();
 
@@ -42,9 +81,9 @@ impl Commands for Toy {
 
     ghost does = { λ _ words payload s o. o ≡ toy_outcome words payload s };
 
-    ghost damages = { λ _ c line. ⊥ };
+    ghost damages = { λ _. ToyDamages };
 
-    ghost lines = { λ line. ⊥ };
+    ghost lines = { ToyLines };
 
     ghost bounds = { λ _ words payload s n. n ≡ 1 };
 
@@ -57,7 +96,7 @@ impl Commands for Toy {
     ghost takes = { toy_takes };
 
     fn is_spelled(&self, _alloc: Global, words: &[Bytes]) -> Result<bool, NoMemory> {
-        Ok(is_word(words, b"put") || is_word(words, b"get"))
+        Ok(is_word(words, b"put") || is_word(words, b"check") || is_word(words, b"get"))
     }
 
     fn takes_payload(&self, words: &[Bytes]) -> bool {
@@ -79,6 +118,9 @@ impl Commands for Toy {
     ) -> Result<Worked, WorkError> {
         if is_word(words, b"put") {
             return Ok(put(alloc, payload)?);
+        }
+        if is_word(words, b"check") {
+            return check(alloc, keeper);
         }
         if !is_word(words, b"get") {
             return Err(WorkError::Usage);

@@ -1,0 +1,26 @@
+//! What a command does does not depend on the order of the log. Nothing here runs.
+//!
+//! Two lawful states are *the same up to order* if they have the same files, the same revisions and the same
+//! certificates; only the order in which the revisions were accepted may differ (`mtn_renaming`). Every command but
+//! the two that answer in the order of the log gives the same output and status over both, and leaves states that
+//! are again the same up to order. So replicas that exchanged the same texts answer alike.
+//!
+//! A command joins by one line of `proofs/Free.antt`: where its line of `Steps` is said of a history by ids, the lemma
+//! `of_history_free` leaves only that what it says of one history holds of the other.
+#![tactic(auto)]
+
+ghost use Rattle.std.specs.Prelude.{◌≡◌, ℕ, List, false};
+ghost use Rattle.mtn_model.specs.Outcome.{Outcome};
+ghost use Rattle.mtn_model.specs.State.{State};
+ghost use Rattle.mtn_order.specs.Free.{IsOrderFree, IsSameOutcome, in_log_order};
+ghost use Rattle.mtn_renaming.specs.Order.{IsSameUpToOrder};
+ghost use Rattle.mtn_step.specs.Step.{Steps};
+ghost use Rattle.mtn_step.specs.declared.call.Call.{Call};
+
+/// A command does to a state what it does to each other one that is the same up to order (`step`), so any two of its outcomes are
+/// the same (`same`), but where it answers in the order of the log.
+pub fn order_free()
+    ensures step { (f : List ℕ → List ℕ) (call : Call) (payload : List ℕ) → in_log_order call ≡ false → IsOrderFree f (Steps f call payload) }
+    ensures same { (f : List ℕ → List ℕ) (call : Call) (payload : List ℕ) (s t : State) (o p : Outcome) → in_log_order call ≡ false → IsSameUpToOrder f s t →
+        Steps f call payload s o → Steps f call payload t p → IsSameOutcome f o p }
+{}
