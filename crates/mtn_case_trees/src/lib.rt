@@ -8,5 +8,5 @@
 mod read;
 mod write;
 
-pub use read::{entries_of, entry_of, id_of, number_of};
+pub use read::{entries_of, entry_of, id_of, name_of, number_of};
 pub use write::{put_attr, put_body, put_entry, put_id, put_name, put_slot};

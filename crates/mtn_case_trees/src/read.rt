@@ -16,7 +16,8 @@ pub fn id_of(word: &[u8]) -> Option<Id> {
     Some(Id([number_of(word)?; 20]))
 }
 
-fn name_of(alloc: Global, word: &[u8]) -> Option<NodeName> {
+/// The name that a word spells.
+pub fn name_of(alloc: Global, word: &[u8]) -> Option<NodeName> {
     let (birth, path) = word.split_at_checked(1)?;
     Some(NodeName {
         birth: id_of(birth)?,

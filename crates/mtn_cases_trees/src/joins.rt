@@ -1,0 +1,53 @@
+// Trees of two edges that are joined.
+use crate::words::put_tree;
+use mtn_base::{Id, Path};
+use mtn_case_trees::{entries_of, id_of};
+use mtn_join::{JoinError, common_are_known, join};
+use mtn_roster::Roster;
+use std::alloc::Global;
+use std::collections::BTreeSet;
+
+fn set_of(alloc: Global, word: &[u8]) -> Option<BTreeSet<Id>> {
+    let mut set = BTreeSet::new(alloc);
+    if word != b"-".as_slice() {
+        set.insert(id_of(word)?).ok()?;
+    }
+    Some(set)
+}
+
+fn put_fault(word: &[u8], path: &Path, out: &mut Vec<u8>) -> Option<()> {
+    out.extend_from_slice(word).ok()?;
+    path.write(out).ok()?;
+    out.push(b'\n').ok()
+}
+
+fn put_outcome(joined: Result<Roster, JoinError>, out: &mut Vec<u8>) -> Option<()> {
+    match joined {
+        Ok(tree) => put_tree(&tree, out).ok(),
+        Err(JoinError::Disagree { path }) => put_fault(b"Disagree /", &path, out),
+        Err(JoinError::Revived { path }) => put_fault(b"Revived /", &path, out),
+        Err(JoinError::NoMemory) => None,
+    }
+}
+
+/// Prints the tree that joins those of the case, or the path at which they cannot be joined.
+pub fn put_joined(
+    alloc: Global,
+    case: &[u8],
+    id: &[u8],
+    left_word: &[u8],
+    right_word: &[u8],
+    out: &mut Vec<u8>,
+) -> Option<()> {
+    let left = Roster::build(alloc, entries_of(alloc, case, b"left ")?).ok()?;
+    let right = Roster::build(alloc, entries_of(alloc, case, b"right ")?).ok()?;
+    let new = id_of(id)?;
+    let only_left = set_of(alloc, left_word)?;
+    let only_right = set_of(alloc, right_word)?;
+    if !common_are_known(&left, &right, new, &only_left, &only_right) {
+        return out
+            .extend_from_slice(b"births that joining does not take\n")
+            .ok();
+    }
+    put_outcome(join(alloc, left, right, new, &only_left, &only_right), out)
+}
