@@ -5,7 +5,8 @@ use Rattle.std.specs.declared.cmp.Ordering.{Ordering}
 use Rattle.std.specs.declared.cmp.Ordering.TheVariants.{Less, Equal, Greater}
 use Rattle.std.proofs.Common.{◌≡◌, ◌↔◌, ℕ, Bool, true, false, List, [], ◌∷◌, Option, Some, None, refl, sym, ap, ◌∙◌, subst}
 use Rattle.mtn_ancestry.specs.Ancestors.{IsAncestor}
-use Rattle.mtn_base.proofs.IdOrder.{by_id_total, exact_ids}
+use Rattle.mtn_base.proofs.IdOrder.{by_id_total}
+use Rattle.mtn_base.proofs.Orders.{exact_bytes}
 use Rattle.mtn_base.specs.Ids.{by_id}
 use Rattle.mtn_base.specs.declared.id.Id.{Id}
 use Rattle.mtn_base.specs.declared.name.NodeName.{NodeName}
@@ -123,6 +124,9 @@ module _ (h g : List Revision) (to back : ℕ → ℕ) (is : IsRenaming h g to b
 turn_over : (a b : Id) → by_id b a ≡ ordering_reverse (by_id a b)
 turn_over a b = by_id_total.antisymm b a
 
+same_ids : (a b : Id) → by_id a b ≡ Equal → a ≡ b
+same_ids a b e = λ i. record { 0 = exact_bytes a.0 b.0 e i }
+
 abbrev pub lesser : Id → Id → Id
 lesser a b = if is_lt (by_id b a) then b else a
 
@@ -134,7 +138,7 @@ by_order a b Less e f = (
   ap (λ u. if is_lt u then b else a) f ∙ sym (ap (λ u. if is_lt u then a else b) e),
   ap (λ u. if is_lt u then a else b) f ∙ sym (ap (λ u. if is_lt u then b else a) e),
 )
-by_order a b Equal e f = let same = exact_ids a b e in (
+by_order a b Equal e f = let same = same_ids a b e in (
   ap (λ u. if is_lt u then b else a) f ∙ same ∙ sym (ap (λ u. if is_lt u then a else b) e),
   ap (λ u. if is_lt u then a else b) f ∙ sym same ∙ sym (ap (λ u. if is_lt u then b else a) e),
 )
