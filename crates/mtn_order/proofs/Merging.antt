@@ -1,9 +1,9 @@
 -- What two revisions decide when they are merged, they decide in another order of the log.
-use Rattle.std.specs.Prelude.{IsSome, if◌then◌else◌}
+use Rattle.std.specs.Prelude.{if◌then◌else◌}
 use Rattle.std.specs.Ordering.{is_lt, ordering_reverse}
 use Rattle.std.specs.declared.cmp.Ordering.{Ordering}
 use Rattle.std.specs.declared.cmp.Ordering.TheVariants.{Less, Equal, Greater}
-use Rattle.std.proofs.Common.{◌≡◌, ◌↔◌, ℕ, Bool, true, false, List, [], ◌∷◌, Option, Some, None, refl, sym, ap, ◌∙◌, subst}
+use Rattle.std.proofs.Common.{◌≡◌, ℕ, List, [], ◌∷◌, Option, Some, None, refl, sym, ap, ◌∙◌, subst}
 use Rattle.mtn_ancestry.specs.Ancestors.{IsAncestor}
 use Rattle.mtn_base.proofs.IdOrder.{by_id_total}
 use Rattle.mtn_base.proofs.Orders.{exact_bytes}
@@ -14,7 +14,7 @@ use Rattle.mtn_decide.specs.Decisions.{Merge}
 use Rattle.mtn_decide.specs.Graph.{IsBornOutside, IsDecided, IsLive, IsLiveWith, IsMergeOf, IsPending}
 use Rattle.mtn_decide.specs.Graph.IsDecided.{common, left_alone, right_alone, left_wins, right_wins, clash}
 use Rattle.mtn_decide.specs.Graph.IsPending.{of_left, of_right}
-use Rattle.mtn_decide.specs.Verdicts.{Verdict, IsMergeBy}
+use Rattle.mtn_decide.specs.Verdicts.{Verdict}
 use Rattle.mtn_decide.specs.declared.decision.Pending.{Pending}
 use Rattle.mtn_history_laws.specs.History.{Revision, entry_at, parents_at}
 use Rattle.mtn_history_laws.specs.Scalars.{Scalar, Value, node_of, value_at, value_in, WinsAt}
