@@ -2,7 +2,8 @@
 # What a session of requests costs, into a new store file and over a store in memory, each as a multiple of another program in the
 # same run: 20,000 small files put and got against python's sqlite3 with one transaction for each, and a line of 2,000 revisions
 # with its files against `git fast-import`. Prints how much more work twice the requests are, too. The best of three counts; puts
-# into a file are taken once, since the other's take minutes.
+# into a file are taken once, since the other's take minutes. A request that puts something syncs the file once, where git syncs
+# once in all; so the revisions are put into a file in memory as well, where no disk is waited for.
 cd "$(dirname "${BASH_SOURCE[0]}")/.." || exit 1
 printf '' | ./mtn - put_file >/dev/null || exit 1
 PYTHONDONTWRITEBYTECODE=1 PYTHONPATH=tests python3 - target/mtn <<'PYTHON'
@@ -115,5 +116,11 @@ other = best(gits)
 memory = best(lambda folder: session('-', ours))
 ratio('2,000 revisions in memory', memory, other, 8)
 ratio('2,000 revisions into a file', best(lambda folder: session(os.path.join(folder, 's.mtn'), ours)), other, 12)
+
+def without_disk(_):
+    with tempfile.TemporaryDirectory(dir='/dev/shm') as folder:
+        return session(os.path.join(folder, 's.mtn'), ours)
+
+ratio('2,000 revisions into a file that no disk holds', best(without_disk), other, 12)
 print(f'twice the revisions take {work(ours) / work(fewer):.2f} times the work in memory')
 PYTHON

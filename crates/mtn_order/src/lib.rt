@@ -10,10 +10,17 @@
 #![tactic(auto)]
 
 ghost use Rattle.std.specs.Prelude.{◌≡◌, ℕ, List, false};
+ghost use Rattle.mtn_base.specs.declared.id.Id.{Id};
+ghost use Rattle.mtn_decide.specs.Decisions.{Merge};
+ghost use Rattle.mtn_decide.specs.Graph.{IsMergeOf};
+ghost use Rattle.mtn_history_laws.specs.History.{Revision};
+ghost use Rattle.mtn_merging.specs.MergeEdges.{merge_edges};
 ghost use Rattle.mtn_model.specs.Outcome.{Outcome};
 ghost use Rattle.mtn_model.specs.State.{State};
 ghost use Rattle.mtn_order.specs.Free.{IsOrderFree, IsSameOutcome, in_log_order};
 ghost use Rattle.mtn_renaming.specs.Order.{IsSameUpToOrder};
+ghost use Rattle.mtn_renaming.specs.Renaming.{IsRenaming};
+ghost use Rattle.mtn_roster.specs.Tree.{Tree};
 ghost use Rattle.mtn_step.specs.Step.{Steps};
 ghost use Rattle.mtn_step.specs.declared.call.Call.{Call};
 
@@ -23,4 +30,10 @@ pub fn order_free()
     ensures step { (f : List ℕ → List ℕ) (call : Call) (payload : List ℕ) → in_log_order call ≡ false → IsOrderFree f (Steps f call payload) }
     ensures same { (f : List ℕ → List ℕ) (call : Call) (payload : List ℕ) (s t : State) (o p : Outcome) → in_log_order call ≡ false → IsSameUpToOrder f s t →
         Steps f call payload s o → Steps f call payload t p → IsSameOutcome f o p }
+{}
+
+/// What two revisions decide when they are merged, and the edges of the merged revision, do not depend on the order.
+pub fn merges_free()
+    ensures decisions { (h g : List Revision) (to back : ℕ → ℕ) → IsRenaming h g to back → (left right : ℕ) (m : Merge) → IsMergeOf h left right m → IsMergeOf g (to left) (to right) m }
+    ensures edges { (h g : List Revision) (to back : ℕ → ℕ) → IsRenaming h g to back → (left right : Id) (t : Tree) → merge_edges g left right t ≡ merge_edges h left right t }
 {}

@@ -72,7 +72,7 @@ module _ (h g : List Revision) (to back : ℕ → ℕ) (is : IsRenaming h g to b
   }
 
   -- what is above a parent is the same
-  same_above : (parent : Option Id) (id : Id) → is_above g parent id ≡ is_above h parent id
+  pub same_above : (parent : Option Id) (id : Id) → is_above g parent id ≡ is_above h parent id
   same_above parent id = ap (λ o. option_map_or (reaches (length g) g id) o false) (same_parent parent).place ∙ reached_there id (option_and_then (place_of h) parent)
 
   known_same : (parent : Option Id) → IsKnownAlike h g parent
