@@ -124,6 +124,9 @@ def over_a_file(folder):
     row('a payload is no word there either', request('put_file'), 0, answers(USAGE), store)
     row('three letters are no request there', b'l3:abc', 1, b'refused BadRequest 1\n', store)
     row('the next session finds the file', request('get_file', ABC), 0, answers((0, b'abc')), store)
+    rows = [('put_file', ''), ('put_file', 'abc'), ('put_file', 'abc'), ('get_file', ABC), ('get_file', sha(b'a')), ('heads',)]
+    data = b''.join(request(*words) for words in rows)
+    row('a store in a file answers as one in memory does', data, *session('-', data)[:2], os.path.join(folder, 'same.mtn'))
     full = os.path.join(folder, 'full.mtn')
     with open('/dev/full', 'wb') as out:
         ended = subprocess.run([*MTN, full, 'stdio'], input=request('put_file', 'abc') + request('put_file', 'x'), stdout=out, stderr=subprocess.PIPE)

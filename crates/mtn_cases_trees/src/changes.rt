@@ -33,6 +33,20 @@ fn put_changed(
     }
 }
 
+/// The same of a text.
+fn put_read(
+    alloc: Global,
+    old: Option<&Roster>,
+    text: &[u8],
+    new: Id,
+    out: &mut Vec<u8>,
+) -> Option<()> {
+    match read_changes(alloc, text) {
+        Ok(changes) => put_changed(alloc, old, &changes, new, out),
+        Err(_) => None,
+    }
+}
+
 /// Prints the tree that a text of changes makes of the case's tree, or the number and the reason of the first that fails.
 pub fn put_applied(
     alloc: Global,
@@ -41,12 +55,11 @@ pub fn put_applied(
     text: &[u8],
     out: &mut Vec<u8>,
 ) -> Option<()> {
-    let entries = entries_of(alloc, case, b"node ")?;
     let new = id_of(id)?;
-    let changes = read_changes(alloc, text).ok()?;
+    let entries = entries_of(alloc, case, b"node ")?;
     if entries.is_empty() {
-        return put_changed(alloc, None, &changes, new, out);
+        return put_read(alloc, None, text, new, out);
     }
     let old = Roster::build(alloc, entries).ok()?;
-    put_changed(alloc, Some(&old), &changes, new, out)
+    put_read(alloc, Some(&old), text, new, out)
 }

@@ -1,7 +1,7 @@
 // Questions about a graph.
 ghost use Rattle.std.specs.Prelude.{◌<◌, All, IsTrue, length};
 
-use crate::words::{positions_of, put_number, put_positions};
+use crate::words::{place_of, positions_of, put_number, put_positions};
 use mtn_ancestry::{Graph, ParentList, Pos, uncommon};
 use mtn_base::Id;
 use mtn_case_trees::{id_of, number_of, put_id};
@@ -67,34 +67,29 @@ fn are_within(graph: &Graph, of: &[Pos]) -> bool
     of.iter().all(|at| at.0 < len)
 }
 
-/// The positions that a question of several comes to.
-fn of_several(alloc: Global, graph: &Graph, word: &[u8], of: &[Pos]) -> Option<Vec<Pos>> {
+// The words of questions, those of several positions first.
+const WORDS: &str = "ancestors descendents common erase toposort is_ancestor uncommon find id";
+
+/// Answers a question of several positions.
+fn put_several(
+    alloc: Global,
+    graph: &Graph,
+    word: usize,
+    of: &[Pos],
+    out: &mut Vec<u8>,
+) -> Option<()> {
     if !are_within(graph, of) {
         return None;
     }
-    match word {
-        b"ancestors" => graph
-            .ancestors(alloc, of)
-            .ok()?
-            .as_slice()
-            .to_vec(alloc)
-            .ok(),
-        b"descendents" => graph
-            .descendents(alloc, of)
-            .ok()?
-            .as_slice()
-            .to_vec(alloc)
-            .ok(),
-        b"common" if !of.is_empty() => graph.common(alloc, of).ok()?.as_slice().to_vec(alloc).ok(),
-        b"erase" => graph
-            .erase_ancestors(alloc, of)
-            .ok()?
-            .as_slice()
-            .to_vec(alloc)
-            .ok(),
-        b"toposort" => graph.toposort(alloc, of).ok(),
-        _ => None,
-    }
+    let found = match word {
+        0 => graph.ancestors(alloc, of),
+        1 => graph.descendents(alloc, of),
+        2 if !of.is_empty() => graph.common(alloc, of),
+        3 => graph.erase_ancestors(alloc, of),
+        4 => return put_positions(&graph.toposort(alloc, of).ok()?, out).ok(),
+        _ => return None,
+    };
+    put_positions(found.ok()?.as_slice(), out).ok()
 }
 
 fn put_uncommon(
@@ -111,8 +106,7 @@ fn put_uncommon(
     let sets = uncommon(alloc, graph, left, right).ok()?;
     put_positions(sets.0.as_slice(), out).ok()?;
     out.extend_from_slice(b" |").ok()?;
-    put_positions(sets.1.as_slice(), out).ok()?;
-    out.push(b'\n').ok()
+    put_positions(sets.1.as_slice(), out).ok()
 }
 
 fn put_is_ancestor(
@@ -127,44 +121,65 @@ fn put_is_ancestor(
         return None;
     }
     let said: &[u8] = if graph.is_ancestor(alloc, older, newer).ok()? {
-        b"yes\n"
+        b"yes"
     } else {
-        b"no\n"
+        b"no"
     };
     out.extend_from_slice(said).ok()
 }
 
-/// Answers what is found by an id or a position.
-fn put_found(graph: &Graph, word: &[u8], digit: &[u8], out: &mut Vec<u8>) -> Option<()> {
-    match word {
-        b"find" => match graph.find(id_of(digit)?) {
-            Some(at) => put_number(at.0, out).ok()?,
-            None => out.extend_from_slice(b"nothing").ok()?,
-        },
-        _ => match graph.id(Pos(u64::from(number_of(digit)?))) {
-            Some(id) => put_id(id, out).ok()?,
-            None => out.extend_from_slice(b"nothing").ok()?,
-        },
+fn put_position(graph: &Graph, digit: &[u8], out: &mut Vec<u8>) -> Option<()> {
+    match graph.find(id_of(digit)?) {
+        Some(at) => put_number(at.0, out).ok(),
+        None => out.extend_from_slice(b"nothing").ok(),
     }
-    out.push(b'\n').ok()
 }
 
-/// Answers a question about the graph of a case: `len`, `find DIGIT`, `id POSITION`, `is_ancestor OLDER NEWER`, `uncommon LEFT
-/// RIGHT`, and of several positions `ancestors`, `descendents`, `common`, `erase` and `toposort`.
-pub fn answer(alloc: Global, case: &[u8], words: &[&[u8]], out: &mut Vec<u8>) -> Option<()> {
+fn put_id_at(graph: &Graph, digit: &[u8], out: &mut Vec<u8>) -> Option<()> {
+    match graph.id(Pos(u64::from(number_of(digit)?))) {
+        Some(id) => put_id(id, out).ok(),
+        None => out.extend_from_slice(b"nothing").ok(),
+    }
+}
+
+/// Answers a question of two positions.
+fn put_pair(
+    alloc: Global,
+    graph: &mut Graph,
+    word: usize,
+    first: Pos,
+    second: Pos,
+    out: &mut Vec<u8>,
+) -> Option<()> {
+    match word {
+        5 => put_is_ancestor(alloc, graph, first, second, out),
+        _ => put_uncommon(alloc, graph, first, second, out),
+    }
+}
+
+/// Answers a question of positions.
+fn put_of(
+    alloc: Global,
+    graph: &mut Graph,
+    word: usize,
+    of: &[Pos],
+    out: &mut Vec<u8>,
+) -> Option<()> {
+    match of {
+        [first, second] if word > 4 => put_pair(alloc, graph, word, *first, *second, out),
+        _ => put_several(alloc, graph, word, of, out),
+    }
+}
+
+/// Answers a question about the graph of a case: `find DIGIT`, `id POSITION`, `is_ancestor OLDER NEWER`, `uncommon LEFT RIGHT`,
+/// and of several positions `ancestors`, `descendents`, `common`, `erase` and `toposort`.
+pub fn answer(alloc: Global, case: &[u8], args: &[&[u8]], out: &mut Vec<u8>) -> Option<()> {
     let mut graph = graph_of(alloc, case)?;
-    let (word, rest) = words.split_first()?;
-    match *word {
-        b"find" | b"id" => return put_found(&graph, word, rest.first()?, out),
-        _ => {}
+    let (word, rest) = args.split_first()?;
+    match place_of(word, WORDS) {
+        7 => put_position(&graph, rest.first()?, out)?,
+        8 => put_id_at(&graph, rest.first()?, out)?,
+        word => put_of(alloc, &mut graph, word, &positions_of(alloc, rest)?, out)?,
     }
-    let of = positions_of(alloc, rest)?;
-    match (*word, of.as_slice()) {
-        (b"is_ancestor", [older, newer]) => put_is_ancestor(alloc, &graph, *older, *newer, out),
-        (b"uncommon", [left, right]) => put_uncommon(alloc, &mut graph, *left, *right, out),
-        _ => {
-            put_positions(&of_several(alloc, &graph, word, &of)?, out).ok()?;
-            out.push(b'\n').ok()
-        }
-    }
+    out.push(b'\n').ok()
 }

@@ -1,5 +1,6 @@
 // Small histories: revisions, their trees and their marks.
 use crate::graphs::push;
+use crate::words::words_of;
 use mtn_ancestry::{Graph, ParentList, Pos, PosSet, uncommon};
 use mtn_case_trees::{entries_of, id_of};
 use mtn_marking::{MarkMap, MarkedRoster, mark_one, mark_root, mark_two};
@@ -62,9 +63,14 @@ impl History {
         self.trees.get(at.0 as usize)
     }
 
+    /// The position of the next revision.
+    pub fn end(&self) -> Pos {
+        Pos(self.trees.len() as u64)
+    }
+
     /// The marks of a tree over those of its parents.
     fn marks_of(&mut self, alloc: Global, tree: &Roster, parents: ParentList) -> Option<MarkMap> {
-        let at = Pos(self.trees.len() as u64);
+        let at = self.end();
         match parents {
             ParentList::Zero => mark_root(alloc, tree, at).ok(),
             ParentList::One(p) => { mark_one(alloc, self.trees.get(p.0 as usize)?, tree, at).ok() }
@@ -79,10 +85,7 @@ impl History {
 
     /// Appends the revision of a line.
     fn add_line(&mut self, alloc: Global, case: &[u8], line: &[u8]) -> Option<()> {
-        let mut words = Vec::new(alloc);
-        for word in line.split(|byte| *byte == b' ') {
-            words.push(word).ok()?;
-        }
+        let words = words_of(alloc, line)?;
         let (name, rest) = words.split_first()?;
         let mut prefix = name.to_vec(alloc).ok()?;
         prefix.push(b' ').ok()?;

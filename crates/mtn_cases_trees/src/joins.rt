@@ -30,24 +30,40 @@ fn put_outcome(joined: Result<Roster, JoinError>, out: &mut Vec<u8>) -> Option<(
     }
 }
 
-/// Prints the tree that joins those of the case, or the path at which they cannot be joined.
-pub fn put_joined(
+fn tree_of(alloc: Global, case: &[u8], word: &[u8]) -> Option<Roster> {
+    Roster::build(alloc, entries_of(alloc, case, word)?).ok()
+}
+
+fn put_edges(
     alloc: Global,
-    case: &[u8],
-    id: &[u8],
-    left_word: &[u8],
-    right_word: &[u8],
+    left: Roster,
+    right: Roster,
+    new: Id,
+    words: [&[u8]; 2],
     out: &mut Vec<u8>,
 ) -> Option<()> {
-    let left = Roster::build(alloc, entries_of(alloc, case, b"left ")?).ok()?;
-    let right = Roster::build(alloc, entries_of(alloc, case, b"right ")?).ok()?;
-    let new = id_of(id)?;
-    let only_left = set_of(alloc, left_word)?;
-    let only_right = set_of(alloc, right_word)?;
-    if !common_are_known(&left, &right, new, &only_left, &only_right) {
-        return out
-            .extend_from_slice(b"births that joining does not take\n")
-            .ok();
+    let only_left = set_of(alloc, words[0])?;
+    let only_right = set_of(alloc, words[1])?;
+    if common_are_known(&left, &right, new, &only_left, &only_right) {
+        put_outcome(join(alloc, left, right, new, &only_left, &only_right), out)
+    } else {
+        out.extend_from_slice(b"births that joining does not take\n")
+            .ok()
     }
-    put_outcome(join(alloc, left, right, new, &only_left, &only_right), out)
+}
+
+/// Prints the tree that joins those of the case, or the path at which they cannot be joined.
+pub fn put_joined(alloc: Global, case: &[u8], args: &[&[u8]], out: &mut Vec<u8>) -> Option<()> {
+    let [id, left, right] = args else {
+        return None;
+    };
+    let new = id_of(id)?;
+    put_edges(
+        alloc,
+        tree_of(alloc, case, b"left ")?,
+        tree_of(alloc, case, b"right ")?,
+        new,
+        [*left, *right],
+        out,
+    )
 }

@@ -28,38 +28,39 @@ mod words;
 
 use std::alloc::Global;
 use std::io::{self, Read, Write};
+use words::{place_of, words_of};
 
-/// Answers a line about a history, if it asks.
-fn of_history(
+// The words that begin a line that asks.
+const WORDS: &str = "tree graph line apply join map marks roster make";
+
+/// Answers a line of one of these words, if it is one of them.
+fn of_word(
     alloc: Global,
     case: &[u8],
-    words: &[&[u8]],
+    word: usize,
+    args: &[&[u8]],
     text: &[u8],
     out: &mut Vec<u8>,
 ) -> Option<()> {
-    match words {
-        [b"marks", id] => marks::put_marks_of(alloc, case, id, out),
-        [b"roster", id] => marks::put_roster_of(alloc, case, id, out),
-        [b"make", id, parents @ ..] => marks::put_made(alloc, case, id, parents, text, out),
+    match word {
+        0 => trees::answer(alloc, case, args, out),
+        1 => graphs::answer(alloc, case, args, out),
+        2 => long::answer(alloc, args.first()?, out),
+        3 => changes::put_applied(alloc, case, args.first()?, text, out),
+        4 => joins::put_joined(alloc, case, args, out),
+        5 => maps::put_map(alloc, case, out),
+        6 => marks::put_marks_of(alloc, case, args.first()?, out),
+        7 => marks::put_roster_of(alloc, case, args.first()?, out),
+        8 => marks::put_made(alloc, case, args, text, out),
         _ => Some(()),
     }
 }
 
 /// Answers a line, if it asks.
 fn answer(alloc: Global, case: &[u8], line: &[u8], text: &[u8], out: &mut Vec<u8>) -> Option<()> {
-    let mut words = Vec::new(alloc);
-    for word in line.split(|byte| *byte == b' ') {
-        words.push(word).ok()?;
-    }
-    match words.as_slice() {
-        [b"tree", rest @ ..] => trees::answer(alloc, case, rest, out),
-        [b"graph", rest @ ..] => graphs::answer(alloc, case, rest, out),
-        [b"line", at] => long::answer(alloc, at, out),
-        [b"apply", id] => changes::put_applied(alloc, case, id, text, out),
-        [b"join", id, left, right] => joins::put_joined(alloc, case, id, left, right, out),
-        [b"map"] => maps::put_map(alloc, case, out),
-        rest => of_history(alloc, case, rest, text, out),
-    }
+    let words = words_of(alloc, line)?;
+    let (word, args) = words.split_first()?;
+    of_word(alloc, case, place_of(word, WORDS), args, text, out)
 }
 
 /// Answers a line behind the text that stands before it, to which it may add.

@@ -94,42 +94,52 @@ fn put_over(
     }
 }
 
+/// The same over two revisions of the case.
+fn put_over_two(
+    alloc: Global,
+    history: &mut History,
+    sides: [&[u8]; 2],
+    id: Id,
+    text: &[u8],
+    out: &mut Vec<u8>,
+) -> Option<()> {
+    let first = history.graph.find(id_of(sides[0])?)?;
+    let second = history.graph.find(id_of(sides[1])?)?;
+    let sets = sets_of(alloc, &mut history.graph, first, second)?;
+    let only_left = uncommon_of(alloc, &history.graph, sets.0)?;
+    let only_right = uncommon_of(alloc, &history.graph, sets.1)?;
+    let basis = Basis::Two {
+        left: history.tree(sides[0])?,
+        right: history.tree(sides[1])?,
+        only_left: &only_left,
+        only_right: &only_right,
+    };
+    put_over(alloc, &basis, id, history.end(), text, out)
+}
+
 /// Prints what a text makes over revisions of the case.
 pub fn put_made(
     alloc: Global,
     case: &[u8],
-    id: &[u8],
-    parents: &[&[u8]],
+    args: &[&[u8]],
     text: &[u8],
     out: &mut Vec<u8>,
 ) -> Option<()> {
     let mut history = History::read(alloc, case)?;
+    let (id, parents) = args.split_first()?;
     let new = id_of(id)?;
-    let at = Pos(history.trees.len() as u64);
+    let end = history.end();
     match parents {
-        [] => put_over(alloc, &Basis::Root, new, at, text, out),
+        [] => put_over(alloc, &Basis::Root, new, end, text, out),
         [parent] => put_over(
             alloc,
             &Basis::One(history.tree(parent)?),
             new,
-            at,
+            end,
             text,
             out,
         ),
-        [left, right] => {
-            let first = history.graph.find(id_of(left)?)?;
-            let second = history.graph.find(id_of(right)?)?;
-            let sets = sets_of(alloc, &mut history.graph, first, second)?;
-            let only_left = uncommon_of(alloc, &history.graph, sets.0)?;
-            let only_right = uncommon_of(alloc, &history.graph, sets.1)?;
-            let basis = Basis::Two {
-                left: history.tree(left)?,
-                right: history.tree(right)?,
-                only_left: &only_left,
-                only_right: &only_right,
-            };
-            put_over(alloc, &basis, new, at, text, out)
-        }
+        [left, right] => put_over_two(alloc, &mut history, [*left, *right], new, text, out),
         _ => None,
     }
 }

@@ -1,4 +1,5 @@
 // Questions about a tree.
+use crate::words::place_of;
 use mtn_base::{NodeName, Path};
 use mtn_case_trees::{entries_of, name_of, put_entry, put_name};
 use mtn_roster::{BuildError, Entry, Roster};
@@ -31,47 +32,51 @@ fn put_path(path: Option<Path>, out: &mut Vec<u8>) -> Option<()> {
     out.push(b'\n').ok()
 }
 
+// The words of questions.
+const WORDS: &str = "build walk manifest at entry path children";
+
 /// Answers about a node.
 fn of_node(
     alloc: Global,
     tree: &Roster,
-    word: &[u8],
+    word: usize,
     name: &NodeName,
     out: &mut Vec<u8>,
 ) -> Option<()> {
     match word {
-        b"entry" => put_found(tree.entry(name), out),
-        b"path" => put_path(tree.path_of(alloc, name).ok()?, out),
-        b"children" => put_names(&tree.children(alloc, name).ok()?, out),
+        4 => put_found(tree.entry(name), out),
+        5 => put_path(tree.path_of(alloc, name).ok()?, out),
+        6 => put_names(&tree.children(alloc, name).ok()?, out),
         _ => None,
     }
 }
 
-/// Answers about the whole tree.
-fn of_all(alloc: Global, tree: &Roster, word: &[u8], out: &mut Vec<u8>) -> Option<()> {
+/// Answers about the node at a path.
+fn at_path(alloc: Global, tree: &Roster, text: &[u8], out: &mut Vec<u8>) -> Option<()> {
+    let path = Path::read(alloc, text).ok()?;
+    put_found(tree.at_path(&path), out)
+}
+
+fn of_tree(alloc: Global, tree: &Roster, word: usize, arg: &[u8], out: &mut Vec<u8>) -> Option<()> {
     match word {
-        b"walk" => put_names(&tree.walk(alloc).ok()?, out),
-        b"manifest" => mtn_manifest::write(tree, out).ok(),
-        _ => None,
+        0 => out.extend_from_slice(b"sane\n").ok(),
+        1 => put_names(&tree.walk(alloc).ok()?, out),
+        2 => mtn_manifest::write(tree, out).ok(),
+        3 => at_path(alloc, tree, arg, out),
+        _ => of_node(alloc, tree, word, &name_of(alloc, arg)?, out),
     }
 }
 
-fn of_tree(alloc: Global, tree: &Roster, words: &[&[u8]], out: &mut Vec<u8>) -> Option<()> {
-    match words {
-        [b"build"] => out.extend_from_slice(b"sane\n").ok(),
-        [b"at"] => put_found(tree.at_path(&Path::root(alloc)), out),
-        [b"at", path] => put_found(tree.at_path(&Path::read(alloc, path).ok()?), out),
-        [word] => of_all(alloc, tree, word, out),
-        [word, name] => of_node(alloc, tree, word, &name_of(alloc, name)?, out),
-        _ => None,
-    }
-}
-
-/// Answers a question about the tree of a case: `build` (whether it is sane), `walk`, `manifest`, `at PATH`, `entry NODE`,
+/// Answers a question about the tree of a case: `build` (whether it is sane), `walk`, `manifest`, `at PATH` (without one the root), `entry NODE`,
 /// `path NODE` and `children NODE`.
-pub fn answer(alloc: Global, case: &[u8], words: &[&[u8]], out: &mut Vec<u8>) -> Option<()> {
+pub fn answer(alloc: Global, case: &[u8], args: &[&[u8]], out: &mut Vec<u8>) -> Option<()> {
+    let word = place_of(args.first()?, WORDS);
+    let arg: &[u8] = match args.get(1) {
+        Some(arg) => arg,
+        None => b"",
+    };
     match Roster::build(alloc, entries_of(alloc, case, b"node ")?) {
-        Ok(tree) => of_tree(alloc, &tree, words, out),
+        Ok(tree) => of_tree(alloc, &tree, word, arg, out),
         Err(BuildError::Insane) => out.extend_from_slice(b"insane\n").ok(),
         Err(BuildError::NoMemory) => None,
     }

@@ -5,6 +5,24 @@ use mtn_case_trees::{number_of, put_entry};
 use mtn_roster::Roster;
 use std::alloc::Global;
 
+/// The words of a line.
+pub fn words_of<'a>(alloc: Global, line: &'a [u8]) -> Option<Vec<&'a [u8]>> {
+    let mut words = Vec::new(alloc);
+    for word in line.split(|byte| *byte == b' ') {
+        words.push(word).ok()?;
+    }
+    Some(words)
+}
+
+/// The place of a word among words with a blank between two; their number where it is none of them.
+pub fn place_of(word: &[u8], words: &str) -> usize {
+    words
+        .as_bytes()
+        .split(|byte| *byte == b' ')
+        .take_while(|it| *it != word)
+        .count()
+}
+
 /// The positions that words spell.
 pub fn positions_of(alloc: Global, words: &[&[u8]]) -> Option<Vec<Pos>> {
     let mut all = Vec::new(alloc);

@@ -4,7 +4,9 @@
 mod canonical;
 mod conflicts;
 mod decide;
+mod resolve;
 
 pub use canonical::changes_of;
 pub use conflicts::{find, made, none, written};
 pub use decide::{choose, decided, living};
+pub use resolve::{resolutions, resolved};

@@ -1,12 +1,11 @@
 //! The top call.
 ghost use Rattle.std.specs.Prelude.{◌≡◌, IfOk};
-ghost use Rattle.mtn_cli.specs.Run.{Outcomes, Scripts, StaysLawful, is_read};
-ghost use Rattle.mtn_cli.specs.Step.{Step};
-ghost use Rattle.mtn_cli.specs.Store.{IsLine, ShowsDamage, is_merging, is_spelled, unbounded};
+ghost use Rattle.mtn_cli.specs.Run.{OrderFree, Outcomes, Scripts, StaysLawful, is_read};
+ghost use Rattle.mtn_cli.specs.Store.{IsLine, ShowsDamage, is_merging, is_spelled};
+ghost use Rattle.mtn_cli.specs.Words.{Reads, command_of};
 ghost use Rattle.mtn_frame.specs.Frame.{Completes, HasCauses, LeavesRecords, Meets, Survives, TellsDamage, Writes};
-ghost use Rattle.mtn_frame.specs.Payload.{takes_last as takes_payload};
-ghost use Rattle.mtn_frame.specs.Script.{Does, IsScript, is_session as session_words};
-ghost use Rattle.mtn_frame.specs.Top.{Runs, fed, in_grammar, is_merge, reads};
+ghost use Rattle.mtn_frame.specs.Script.{is_session as session_words};
+ghost use Rattle.mtn_frame.specs.Top.{in_grammar, is_merge};
 ghost use Rattle.mtn_history.specs.Stands.{Stands};
 
 use mtn_base::{Bytes, NoMemory};
@@ -49,6 +48,7 @@ pub fn run<R: Threads + Sync, I: Ident, S: Source, O: Sink, K: Keeper>(
         (record { contents = K.contents keeper.old; left = S.left source.old; written = O.written sink.old })
         (record { contents = K.contents keeper.new; left = S.left source.new; written = O.written sink.new })
         (K.leaves keeper.old) (K.leaves keeper.new) }
+    ensures order_free { OrderFree (I.meaning ident.now) words.now }
 {
     mtn_cli::run(rt, alloc, words, ident, source, sink, keeper)
 }
