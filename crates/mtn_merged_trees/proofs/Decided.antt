@@ -1,6 +1,6 @@
 -- What a merge decides of two revisions of a grown history is of their trees.
-use Rattle.std.specs.Prelude.{IsSome, IsTrue, option_map, option_and_then}
-use Rattle.std.proofs.Common.{◌≡◌, ◌≢◌, ◌⊎◌, ◌↔◌, ℕ, Bool, true, false, List, Option, Some, None, refl, sym, ◌∙◌, ap, subst, ⊎_elim, inl, inr}
+use Rattle.std.specs.Prelude.{IsSome, option_map, option_and_then}
+use Rattle.std.proofs.Common.{◌≡◌, ◌≢◌, ◌⊎◌, ℕ, Bool, true, false, List, Option, Some, None, refl, sym, ◌∙◌, ap, subst, ⊎_elim, inl, inr}
 use Rattle.mtn_base.specs.Comps.{IsComp}
 use Rattle.mtn_base.specs.declared.id.Id.{Id}
 use Rattle.mtn_base.specs.declared.name.NodeName.{NodeName}
@@ -14,7 +14,6 @@ use Rattle.mtn_roster.specs.Tree.{entry_of, attr_of, is_dir, is_dir_body}
 use Rattle.mtn_roster.specs.declared.entry.Body.{Body}
 use Rattle.mtn_roster.specs.declared.entry.Body.TheVariants.{Dir, File}
 use Rattle.mtn_roster.specs.declared.entry.Entry.{Entry}
-use Rattle.mtn_roster.specs.declared.entry.Slot.{Slot}
 use Rattle.mtn_roster.specs.declared.entry.Slot.TheVariants.{Below}
 use Rattle.mtn_decide.specs.declared.decision.AttrChoice.{AttrChoice}
 use Rattle.mtn_decide.specs.declared.decision.ContentChoice.{ContentChoice}

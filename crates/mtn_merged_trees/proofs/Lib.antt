@@ -3,3 +3,8 @@ pub mod Merged
 pub mod Twinned
 pub mod Decided
 pub mod Clear
+pub mod Resolved
+pub mod Limits
+pub mod Again
+pub mod Held
+pub mod Contents

@@ -1,22 +1,20 @@
 -- The nodes of the tree that decisions make, and their paths.
 use Rattle.std.specs.Prelude.{map, reverse, option_map, option_and_then, find}
 use Rattle.std.specs.Option.{option_map_or}
-use Rattle.std.proofs.Common.{◌≡◌, ℕ, Bool, true, false, cond, List, [], ◌∷◌, Option, Some, None, refl, sym, ◌∙◌, ap, subst}
+use Rattle.std.proofs.Common.{◌≡◌, ℕ, Bool, true, false, cond, List, [], ◌∷◌, Some, refl, sym, ◌∙◌, ap, subst}
 use Rattle.mtn_base.specs.Names.{same_name, same_bytes}
 use Rattle.mtn_base.specs.declared.id.Id.{Id}
 use Rattle.mtn_base.specs.declared.name.NodeName.{NodeName}
 use Rattle.mtn_roster.specs.declared.entry.Attr.{Attr}
 use Rattle.mtn_roster.specs.declared.entry.Entry.{Entry}
-use Rattle.mtn_roster.specs.declared.entry.Slot.{Slot}
 use Rattle.mtn_roster.specs.declared.entry.Slot.TheVariants.{Root, Below}
 use Rattle.mtn_roster.specs.Tree.{Tree, entry_of, at_slot, child_of, node_up, node_at, path_of, attr_of, is_dir_body, IsSane}
 use Rattle.mtn_base.proofs.Finding.{found, finds_some}
-use Rattle.mtn_roster.proofs.Forest.{IsForest, same_some, at_slot-is, at_slot-of, node_below, node_there}
+use Rattle.mtn_roster.proofs.Forest.{IsForest, at_slot-is, at_slot-of, node_below, node_there}
 use Rattle.mtn_roster.proofs.Looking.{entry_of-in_order}
 use Rattle.mtn_roster.proofs.Ordered.{forest_of}
 use Rattle.mtn_roster.proofs.Pathing.{path_leads, path_of-at}
 use Rattle.mtn_base.proofs.Tests.{same_name-is, same_name-self}
-use Rattle.mtn_decide.specs.declared.decision.AttrChoice.{AttrChoice}
 use Rattle.mtn_decide.specs.declared.decision.AttrDecision.{AttrDecision}
 use Rattle.mtn_decide.specs.declared.decision.ContentChoice.{ContentChoice}
 use Rattle.mtn_decide.specs.declared.decision.ContentChoice.TheVariants.{Absent, Fixed as FixedContent, Clash as ContentClash}

@@ -1,7 +1,6 @@
 -- The tree that decisions of the sides make shows what the changesets to it need.
 use Rattle.std.specs.Prelude.{IsSome, option_map}
-use Rattle.std.proofs.Common.{◌≡◌, ◌⊎◌, ℕ, Bool, true, false, List, Option, Some, None, refl, sym, ◌∙◌, ap, subst, ⊎_elim, inl, inr}
-use Rattle.mtn_base.specs.Comps.{IsComp}
+use Rattle.std.proofs.Common.{◌≡◌, ◌⊎◌, ℕ, Bool, true, false, List, Option, Some, None, refl, sym, ◌∙◌, ap, subst, ⊎_elim}
 use Rattle.mtn_base.specs.declared.id.Id.{Id}
 use Rattle.mtn_base.specs.declared.name.NodeName.{NodeName}
 use Rattle.mtn_roster.specs.declared.entry.Entry.{Entry}
@@ -12,10 +11,10 @@ use Rattle.mtn_changeset_laws.specs.Laws.{NoneBornIn}
 use Rattle.mtn_decide.specs.declared.decision.AttrChoice.{AttrChoice}
 use Rattle.mtn_decide.specs.declared.decision.Decision.{Decision}
 use Rattle.mtn_decide.specs.Decisions.{Merge, IsInOrder, decision_of, choice_of}
-use Rattle.mtn_conflicts.specs.Result.{decided_slot, decided_value, decided_entry, new_name, new_slot, new_entry, result_of, tree_before, ParentsAreDirs, NoneBornIn as NoneDecidedIn}
+use Rattle.mtn_conflicts.specs.Result.{decided_slot, decided_value, new_slot, result_of, ParentsAreDirs, NoneBornIn as NoneDecidedIn}
 use Rattle.mtn_conflicts.proofs.Clear.{IsTidy}
 use Rattle.mtn_conflicts.proofs.Before.{slot_is}
-use Rattle.mtn_between.specs.Laws.{IsSpellable, KindsAgree}
+use Rattle.mtn_between.specs.Laws.{IsSpellable}
 use Rattle.mtn_between.specs.Merging.{HasKey, IsMerged}
 use Rattle.mtn_merged_trees.specs.Sides.{AreOfSides}
 use Rattle.mtn_merged_trees.proofs.Made.{attrs_are, whole, IsOf, made_of, kind_is, kept_name, reborn_name, path_kept}

@@ -3,14 +3,14 @@ use Rattle.std.proofs.Common.{◌≡◌, ◌⊎◌, ℕ, Bool, true, false, List
 use Rattle.mtn_base.specs.declared.id.Id.{Id}
 use Rattle.mtn_base.specs.declared.name.NodeName.{NodeName}
 use Rattle.mtn_roster.specs.declared.entry.Entry.{Entry}
-use Rattle.mtn_roster.specs.Tree.{Tree, entry_of, node_at, path_of}
+use Rattle.mtn_roster.specs.Tree.{Tree, entry_of, node_at}
 use Rattle.mtn_changeset_laws.specs.Laws.{NoneBornIn}
 use Rattle.mtn_decide.specs.declared.decision.Decision.{Decision}
-use Rattle.mtn_decide.specs.Decisions.{Merge, IsInOrder, decision_of}
-use Rattle.mtn_conflicts.specs.Result.{decided_entry, new_name, new_entry, result_of, tree_before, ParentsAreDirs, NoneBornIn as NoneDecidedIn}
+use Rattle.mtn_decide.specs.Decisions.{Merge, IsInOrder}
+use Rattle.mtn_conflicts.specs.Result.{new_name, new_entry, result_of, ParentsAreDirs, NoneBornIn as NoneDecidedIn}
 use Rattle.mtn_conflicts.proofs.Clear.{IsTidy}
 use Rattle.mtn_between.specs.Twins.{AreTwins, AreTwinsAt, IsTwinOf}
-use Rattle.mtn_merged_trees.proofs.Made.{IsOf, kept_name, reborn_name, stands, decided_path}
+use Rattle.mtn_merged_trees.proofs.Made.{kept_name, reborn_name, stands, decided_path}
 
 -- a tree has no node of an id that is no birth
 unknown : (old : Tree) (x : Id) → NoneBornIn old x → (n : NodeName) → n.birth ≡ x → entry_of old n ≡ None

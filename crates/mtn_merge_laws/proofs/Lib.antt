@@ -1,0 +1,11 @@
+pub mod Looks
+pub mod OneMerge
+pub mod OneConflicts
+pub mod Decoding
+pub mod OneReading
+pub mod OneOverride
+pub mod Built
+pub mod SomeVerdict
+pub mod SomeMerge
+pub mod SomeConflicts
+pub mod SomeOverride
