@@ -20,7 +20,7 @@ use Rattle.mtn_step.specs.Step.{Steps, done, id_line}
 use Rattle.mtn_step.specs.declared.call.Call.TheVariants.{PutRevision}
 
 -- an error comes from its cause
-reason_told : (told : Option Contents) (p : Pending) (before now : ℕ) (e : HistoryError) → (e ≡ Store Failed → Rose before now) →
+pub reason_told : (told : Option Contents) (p : Pending) (before now : ℕ) (e : HistoryError) → (e ≡ Store Failed → Rose before now) →
     IfSome told (λ c. IsMetaOf (with_all c p.batch) (record { count = p.count; is_new = p.is_new }) → IfStoreDamage e (IsDamage (with_all c p.batch))) → Counts p told → HasReason (drafted p told) before now (Err e)
 reason_told told p before now (Refused cause) rose damaged counts = tt
 reason_told told p before now (Store Failed) rose damaged counts = rose refl

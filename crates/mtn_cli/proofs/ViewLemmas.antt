@@ -29,12 +29,12 @@ use Rattle.mtn_cli.specs.Drafts.{Counts, Drafted, Drafts, HasReason, Reason, dra
 abbrev IsOwnDamage : Option Contents → Pending → StoreError → Type 0
 IsOwnDamage now p e = IfSome now (λ c. IsCounted p c → IfDamage e (IsDamage (with_all c p.batch)))
 
-never : (f : List ℕ → List ℕ) (c : Contents) (p : Pending) (s : State) (e : StoreError) → IsDraft f c p s → IfDamage e (IsDamage (with_all c p.batch)) → IfDamage e (λ _. ⊥)
+pub never : (f : List ℕ → List ℕ) (c : Contents) (p : Pending) (s : State) (e : StoreError) → IsDraft f c p s → IfDamage e (IsDamage (with_all c p.batch)) → IfDamage e (λ _. ⊥)
 never f c p s Failed draft damage = tt
 never f c p s NoMemory draft damage = tt
 never f c p s (Damaged d) draft damage = no_damage f (with_all c p.batch) s d (draft_stands f c p s draft) damage
 
-reason_of : (now : Option Contents) (p : Pending) (e : StoreError) (faults0 faults1 : ℕ) → (e ≡ Failed → Rose faults0 faults1) → IsOwnDamage now p e → Counts p now → Reason (drafted p now) faults0 faults1 e
+pub reason_of : (now : Option Contents) (p : Pending) (e : StoreError) (faults0 faults1 : ℕ) → (e ≡ Failed → Rose faults0 faults1) → IsOwnDamage now p e → Counts p now → Reason (drafted p now) faults0 faults1 e
 reason_of now p Failed faults0 faults1 rose damage counts = rose refl
 reason_of now p NoMemory faults0 faults1 rose damage counts = tt
 reason_of None p (Damaged d) faults0 faults1 rose damage counts = tt

@@ -1,6 +1,6 @@
 -- A command over a draft that was opened, and is not put yet, is a command over the keeper.
-use Rattle.std.proofs.Common.{◌≡◌, ◌≤◌, ◌⊎◌, inl, inr, ℕ, true, false, List, [], ◌∷◌, length, Option, Some, None, Result, Ok, Err, refl, sym, ap, ◌∙◌, subst, arith}
-use Rattle.std.specs.Prelude.{IfSome}
+use Rattle.std.proofs.Common.{◌≡◌, ◌≤◌, ◌⊎◌, inl, inr, ℕ, Bool, true, false, List, [], ◌∷◌, length, Option, Some, None, Result, Ok, Err, refl, sym, ap, ◌∙◌, subst, arith}
+use Rattle.std.specs.Prelude.{IfSome, ⊤}
 use Rattle.mtn_model.specs.Outcome.{Outcome}
 use Rattle.mtn_model.specs.State.{State}
 use Rattle.mtn_model.specs.Table.{Contents}
@@ -9,6 +9,7 @@ use Rattle.mtn_ports.specs.Kept.{Same, Stays, with_all}
 use Rattle.mtn_ports.specs.declared.batch.Put.{Put}
 use Rattle.mtn_ports.proofs.KeptLemmas.{stays_trans}
 use Rattle.mtn_frame.specs.Works.{Works}
+use Rattle.mtn_frame.specs.declared.works.Reply.{Reply}
 use Rattle.mtn_frame.specs.declared.works.Worked.{Worked}
 use Rattle.mtn_frame.specs.declared.works.WorkError.{WorkError}
 use Rattle.mtn_frame.specs.declared.works.WorkError.TheVariants as work
@@ -25,7 +26,7 @@ use Rattle.mtn_history.specs.Stands.{Stands, IsDraft}
 use Rattle.mtn_history.proofs.FileLemmas.{draft_stands}
 use Rattle.mtn_history.proofs.MetaLemmas.{no_damage, shown}
 use Rattle.mtn_step.specs.Step.{refused}
-use Rattle.mtn_cli.specs.Drafts.{Counts, drafted, Drafts, Drafted, Reason, HasReason}
+use Rattle.mtn_cli.specs.Drafts.{Counts, drafted, Drafts, Drafted, HasReason, HasReplyReason, IsQuiet, Reason, Replied, Replies, reply_of}
 use Rattle.mtn_cli.specs.Store.{IsLine, IsTold, ShowsDamage}
 
 pub reason_of : (told : Option Contents) (before now : ℕ) (e : StoreError) → (e ≡ Failed → Rose before now) → IfSome told (λ c. IfDamage e (IsDamage c)) → Reason told before now e
@@ -38,8 +39,8 @@ wider told a b c d Failed lo hi rose = omega arith
 wider told a b c d NoMemory lo hi reason = tt
 wider told a b c d (Damaged x) lo hi reason = reason
 
-wider_reason : (told : Option Contents) (a b c d : ℕ) (r : Result (List ℕ) HistoryError) → a ≤ b → c ≤ d → HasReason told b c r → HasReason told a d r
-wider_reason told a b c d (Ok text) lo hi reason = tt
+wider_reason : (told : Option Contents) (a b c d : ℕ) (r : Result Reply HistoryError) → a ≤ b → c ≤ d → HasReplyReason told b c r → HasReplyReason told a d r
+wider_reason told a b c d (Ok reply) lo hi reason = tt
 wider_reason told a b c d (Err (Refused cause)) lo hi reason = tt
 wider_reason told a b c d (Err (Store e)) lo hi reason = wider told a b c d e lo hi reason
 
@@ -82,9 +83,18 @@ pub no_puts : (puts : List Put) → length puts ≡ 0 → puts ≡ []
 no_puts [] none = refl
 no_puts (p ∷ ps) none = absurd (omega (arith, none))
 
-module _ (f : List ℕ → List ℕ) {M : Type 0} (Knows : M → Contents → Type 0) {K : Type 0} (contents : K → Option Contents) (leaves : K → Contents → Type 0) (faults asked : K → ℕ) (Outcomes : State → Outcome → Type 0) where
+-- conflicts put nothing
+abbrev PutsNone : Bool → Pending → Result Reply HistoryError → Type 0
+PutsNone merges after (Ok reply) = reply.conflicts ≡ true → (merges ≡ true) × (after.batch ≡ [])
+PutsNone merges after (Err e) = ⊤
+
+none_put : (merges : Bool) (pending before after : Pending) (r : Result Reply HistoryError) → pending.batch ≡ [] → before ≡ pending → IsQuiet merges before after r → PutsNone merges after r
+none_put merges pending before after (Ok reply) none is quiet = λ on. let q = quiet on in (q.0, ap (λ (p : Pending). p.batch) (q.1 ∙ is) ∙ none)
+none_put merges pending before after (Err e) none is quiet = tt
+
+module _ (f : List ℕ → List ℕ) {M : Type 0} (Knows : M → Contents → Type 0) {K : Type 0} (contents : K → Option Contents) (leaves : K → Contents → Type 0) (faults asked : K → ℕ) (merges : Bool) (Outcomes : State → Outcome → Type 0) where
   abbrev Target : K → K → M → Result Worked WorkError → Type 0
-  Target old new m r = Works (Stands f) (ShowsDamage f) IsLine Knows contents leaves faults asked old new m true false Outcomes (λ s n. ⊥) r
+  Target old new m r = Works (Stands f) (ShowsDamage f) IsLine Knows contents leaves faults asked old new m true merges Outcomes (λ s n. ⊥) r
 
   -- what an error means over records that stand for a state
   abbrev Erred : State → HistoryError → Type 0
@@ -92,33 +102,35 @@ module _ (f : List ℕ → List ℕ) {M : Type 0} (Knows : M → Contents → Ty
   Erred s (Store e) = IfDamage e (λ _. ⊥)
 
   -- what is known where a draft was opened and the command worked on it
-  pub record Over (old new : K) (after : Pending) (r : Result (List ℕ) HistoryError) : Type 0 where
+  pub record Over (old new : K) (after : Pending) (r : Result Reply HistoryError) : Type 0 where
     pub stays : Stays contents leaves faults old new
-    pub done : (c : Contents) (s : State) → contents new ≡ Some c → Stands f c s → Drafted f c s (Outcomes s) r after
-    pub reason : HasReason (contents new) (faults old) (faults new) r
+    pub done : (c : Contents) (s : State) → contents new ≡ Some c → Stands f c s → Replied f c s (Outcomes s) r after
+    pub reason : HasReplyReason (contents new) (faults old) (faults new) r
+    pub quiet : PutsNone merges after r
 
-  pub over : (old opened begun new : K) (pending before after : Pending) (r : Result (List ℕ) HistoryError) → Stays contents leaves faults old opened →
+  pub over : (old opened begun new : K) (pending before after : Pending) (r : Result Reply HistoryError) → Stays contents leaves faults old opened →
       ((c : Contents) (s : State) → contents opened ≡ Some c → Stands f c s → IsDraft f c pending s) → pending.batch ≡ [] →
       IfSome (contents opened) (λ c. IsMetaOf c (record { count = pending.count; is_new = pending.is_new })) → begun ≡ opened → before ≡ pending →
-      Drafts f contents leaves faults begun new before after Outcomes r → Over old new after r
+      Replies f contents leaves faults begun new before after merges Outcomes r → Over old new after r
   over old opened begun new pending before after r stays opens none counted same is drafts =
       let to_begun : Stays contents leaves faults old begun = subst (Stays contents leaves faults old) (sym same) stays in
       record {
         stays = stays_trans contents leaves faults old begun new to_begun drafts.stays;
         done = λ c s now stands. drafts.done c s now (subst (λ (p : Pending). IsDraft f c p s) (sym is) (opens c s (ap contents (sym same) ∙ drafts.stays.same c now) stands));
         reason = wider_reason (contents new) (faults old) (faults begun) (faults new) (faults new) r to_begun.later (omega arith)
-            (subst (λ told. HasReason told (faults begun) (faults new) r) (nothing_over before (contents new) (ap (λ (p : Pending). p.batch) is ∙ none))
+            (subst (λ told. HasReplyReason told (faults begun) (faults new) r) (nothing_over before (contents new) (ap (λ (p : Pending). p.batch) is ∙ none))
             (drafts.reason (counts_of (contents opened) (contents new) pending before none is (λ c now. ap contents (sym same) ∙ drafts.stays.same c now) counted)));
+        quiet = none_put merges pending before after r none is drafts.quiet;
       }
 
-  -- the command answered a text
-  pub answered : (old new : K) (m : M) (after : Pending) (text : List ℕ) (batch : List Put) → batch ≡ after.batch → Over old new after (Ok text) →
-      IfSome (contents new) (λ c. Knows m (with_all c after.batch)) → Target old new m (Ok (record { reply = record { conflicts = false; text = text }; batch = batch }))
-  answered old new m after text batch is work known = subst (λ (ps : List Put). Target old new m (Ok (record { reply = record { conflicts = false; text = text }; batch = ps }))) (sym is) record {
+  -- the command answered
+  pub answered : (old new : K) (m : M) (after : Pending) (reply : Reply) (batch : List Put) → batch ≡ after.batch → Over old new after (Ok reply) →
+      IfSome (contents new) (λ c. Knows m (with_all c after.batch)) → Target old new m (Ok (record { reply = reply; batch = batch }))
+  answered old new m after reply batch is work known = subst (λ (ps : List Put). Target old new m (Ok (record { reply = reply; batch = ps }))) (sym is) record {
     stays = work.stays;
     done = λ c s now stands. let did = work.done c s now stands in (did.0, did.1, draft_stands f c after did.0 did.2);
     knows = λ c now. at_told (contents new) (λ x. Knows m (with_all x after.batch)) c now known;
-    reason = (refl, λ on. cc);
+    reason = (refl, work.quiet);
     few_reads = λ c s n now stands none. absurd none;
   }
 
@@ -182,9 +194,21 @@ module _ (f : List ℕ → List ℕ) {M : Type 0} (Knows : M → Contents → Ty
       erred old new m e out is work.stays (λ c s now stands. erred_over s c e after (work.done c s now stands)) work.reason known
 
   -- the same where the keeper is given back
-  pub answered_at : (old new final : K) (m : M) (after : Pending) (text : List ℕ) (batch : List Put) → final ≡ new → batch ≡ after.batch → Over old new after (Ok text) →
-      IfSome (contents new) (λ c. Knows m (with_all c after.batch)) → Target old final m (Ok (record { reply = record { conflicts = false; text = text }; batch = batch }))
-  answered_at old new final m after text batch ends is work known = subst (λ k. Target old k m (Ok (record { reply = record { conflicts = false; text = text }; batch = batch }))) (sym ends) (answered old new m after text batch is work known)
+  pub answered_at : (old new final : K) (m : M) (after : Pending) (reply : Reply) (batch : List Put) → final ≡ new → batch ≡ after.batch → Over old new after (Ok reply) →
+      IfSome (contents new) (λ c. Knows m (with_all c after.batch)) → Target old final m (Ok (record { reply = reply; batch = batch }))
+  answered_at old new final m after reply batch ends is work known = subst (λ k. Target old k m (Ok (record { reply = reply; batch = batch }))) (sym ends) (answered old new m after reply batch is work known)
 
   pub failed_at : (old new final : K) (m : M) (after : Pending) (e : HistoryError) (out : WorkError) → final ≡ new → IsTold e out → Over old new after (Err e) → IfSome (contents new) (Knows m) → Target old final m (Err out)
   failed_at old new final m after e out ends is work known = subst (λ k. Target old k m (Err out)) (sym ends) (failed old new m after e out is work known)
+
+-- a command that answers a text replies
+pub replies_of : (f : List ℕ → List ℕ) {K : Type 0} (contents : K → Option Contents) (leaves : K → Contents → Type 0) (faults : K → ℕ) (old new : K) (before after : Pending) (merges : Bool) (Outcomes : State → Outcome → Type 0)
+    (r : Result (List ℕ) HistoryError) → Drafts f contents leaves faults old new before after Outcomes r → Replies f contents leaves faults old new before after merges Outcomes (reply_of r)
+replies_of f contents leaves faults old new before after merges Outcomes (Ok text) drafts = record { stays = drafts.stays; done = drafts.done; reason = λ counts. tt; quiet = λ on. absurd cc }
+replies_of f contents leaves faults old new before after merges Outcomes (Err e) drafts = record { stays = drafts.stays; done = drafts.done; reason = drafts.reason; quiet = tt }
+
+-- the same by another name of the result
+pub replies_as : (f : List ℕ → List ℕ) {K : Type 0} (contents : K → Option Contents) (leaves : K → Contents → Type 0) (faults : K → ℕ) (old new : K) (before after : Pending) (merges : Bool) (Outcomes : State → Outcome → Type 0)
+    (r : Result (List ℕ) HistoryError) (q : Result Reply HistoryError) → q ≡ reply_of r → Drafts f contents leaves faults old new before after Outcomes r → Replies f contents leaves faults old new before after merges Outcomes q
+replies_as f contents leaves faults old new before after merges Outcomes r q is drafts =
+    subst (Replies f contents leaves faults old new before after merges Outcomes) (sym is) (replies_of f contents leaves faults old new before after merges Outcomes r drafts)

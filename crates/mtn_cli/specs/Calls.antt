@@ -1,5 +1,5 @@
 -- Which commands there are, and which words each takes.
-use Rattle.std.specs.Prelude.{List, [], ◌∷◌, Option, Some, None, ℕ, Bool, ◌&&◌, not, nat_lt, nat_le, length, codes, bytes_eq, option_map, if◌then◌else◌}
+use Rattle.std.specs.Prelude.{List, [], ◌∷◌, Option, Some, None, ℕ, Bool, true, false, is_none, ◌&&◌, not, nat_lt, nat_le, length, codes, bytes_eq, option_map, if◌then◌else◌}
 use Rattle.std.specs.List.{list_all}
 use Rattle.std.specs.Str.{is_utf8}
 use Rattle.std.specs.Option.{option_and_then}
@@ -8,7 +8,7 @@ use Rattle.mtn_base.specs.Hex.{read_id}
 use Rattle.mtn_base.specs.Paths.{pieces_of}
 use Rattle.mtn_base.specs.declared.id.Id.{Id}
 use Rattle.mtn_step.specs.declared.call.Call.{Call}
-use Rattle.mtn_step.specs.declared.call.Call.TheVariants.{PutFile, PutRevision, GetFile, GetRevision, GetManifestOf, GetRoster, GetContentChanged, GetCorrespondingPath, Ask, Graph}
+use Rattle.mtn_step.specs.declared.call.Call.TheVariants.{PutFile, PutRevision, GetFile, GetRevision, GetManifestOf, GetRoster, GetContentChanged, GetCorrespondingPath, Ask, Graph, Merge, ShowConflicts}
 use Rattle.mtn_answers.specs.declared.query.Query.{Query}
 use Rattle.mtn_answers.specs.declared.query.Query.TheVariants.{Parents, Children, Ancestors, Descendents, CommonAncestors, EraseAncestors, Toposort, AncestryDifference, Leaves, Roots}
 use Rattle.mtn_cli.specs.declared.words.Command.{Command}
@@ -67,6 +67,13 @@ abbrev pub id_and_ids : {T : Type 0} → (Id → List Id → T) → List (List �
 id_and_ids make [] = None
 id_and_ids make (word ∷ rest) = option_and_then (λ id. option_map (make id) (ids rest)) (read_id word)
 
+-- two ids
+abbrev pub two_ids : {T : Type 0} → (Id → Id → T) → List (List ℕ) → Option T
+two_ids make [] = None
+two_ids make (a ∷ []) = None
+two_ids make (a ∷ b ∷ []) = option_and_then (λ x. option_map (make x) (read_id b)) (read_id a)
+two_ids make (_ ∷ _ ∷ _ ∷ _) = None
+
 -- a query of the graph, one line each
 abbrev pub query_named : List ℕ → List (List ℕ) → Option Query
 query_named name words =
@@ -94,12 +101,19 @@ call_named name words =
     else if bytes_eq name (codes "get_content_changed") then content_changed words
     else if bytes_eq name (codes "get_corresponding_path") then corresponding_path words
     else if bytes_eq name (codes "graph") then option_map (λ _. Graph) (no_words words)
+    else if bytes_eq name (codes "merge") then two_ids (λ a b. Merge a b false) words
+    else if bytes_eq name (codes "show_conflicts") then two_ids ShowConflicts words
     else option_map Ask (query_named name words)
 
--- no command has an option yet
+-- a command with the flag `resolve`, one line each
+abbrev pub call_resolving : List ℕ → List (List ℕ) → Option Call
+call_resolving name words = if bytes_eq name (codes "merge") then two_ids (λ a b. Merge a b true) words else None
+
+-- the only option that a command takes is the flag
 abbrev pub call_with : List OptionWord → List ℕ → List (List ℕ) → Option Call
 call_with [] name words = call_named name words
-call_with (_ ∷ _) name words = None
+call_with (o ∷ []) name words = if is_none o.value then call_resolving name words else None
+call_with (_ ∷ _ ∷ _) name words = None
 
 abbrev pub call_of : List (List ℕ) → Option Call
 call_of words = option_and_then (λ (c : Command). call_with c.options c.name c.positionals) (command_of words)

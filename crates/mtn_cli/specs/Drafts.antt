@@ -1,5 +1,7 @@
 -- What the function behind a command ensures, the same words for each.
-use Rattle.std.specs.Prelude.{◌≡◌, List, Option, Some, Result, Ok, Err, ℕ, ⊤, IfSome, option_map}
+use Rattle.std.specs.Prelude.{◌≡◌, List, Option, Some, Result, Ok, Err, ℕ, Bool, true, false, ⊤, IfSome, option_map}
+use Rattle.mtn_frame.specs.Works.{replied}
+use Rattle.mtn_frame.specs.declared.works.Reply.{Reply}
 use Rattle.mtn_model.specs.Outcome.{Outcome}
 use Rattle.mtn_model.specs.State.{State}
 use Rattle.mtn_model.specs.Table.{Contents}
@@ -57,3 +59,30 @@ pub record Drafts (f : List ℕ → List ℕ) {K : Type 0} (contents : K → Opt
   pub stays : Stays contents leaves faults old new
   pub done : (c : Contents) (s : State) → contents new ≡ Some c → IsDraft f c before s → Drafted f c s (Outcomes s) result after
   pub reason : Counts before (contents new) → HasReason (drafted before (contents new)) (faults old) (faults new) result
+
+-- the reply of a command that answered a text
+abbrev pub reply_of : Result (List ℕ) HistoryError → Result Reply HistoryError
+reply_of (Ok text) = Ok (record { conflicts = false; text = text })
+reply_of (Err e) = Err e
+
+-- the same where a command may find conflicts
+abbrev pub Replied : (List ℕ → List ℕ) → Contents → State → (Outcome → Type 0) → Result Reply HistoryError → Pending → Type 0
+Replied f c s Is (Ok reply) p = (t : State) × Is (replied reply t) × IsDraft f c p t
+Replied f c s Is (Err e) p = Drafted f c s Is (Err e) p
+
+abbrev pub HasReplyReason : Option Contents → ℕ → ℕ → Result Reply HistoryError → Type 0
+HasReplyReason told before now (Ok reply) = ⊤
+HasReplyReason told before now (Err e) = HasReason told before now (Err e)
+
+-- conflicts come from a merge alone, and leave what is pending
+abbrev pub IsQuiet : Bool → Pending → Pending → Result Reply HistoryError → Type 0
+IsQuiet merges before after (Ok reply) = reply.conflicts ≡ true → (merges ≡ true) × (after ≡ before)
+IsQuiet merges before after (Err e) = ⊤
+
+-- what a command that may find conflicts does over a draft
+pub record Replies (f : List ℕ → List ℕ) {K : Type 0} (contents : K → Option Contents) (leaves : K → Contents → Type 0) (faults : K → ℕ) (old new : K)
+    (before after : Pending) (merges : Bool) (Outcomes : State → Outcome → Type 0) (result : Result Reply HistoryError) : Type 0 where
+  pub stays : Stays contents leaves faults old new
+  pub done : (c : Contents) (s : State) → contents new ≡ Some c → IsDraft f c before s → Replied f c s (Outcomes s) result after
+  pub reason : Counts before (contents new) → HasReplyReason (drafted before (contents new)) (faults old) (faults new) result
+  pub quiet : IsQuiet merges before after result

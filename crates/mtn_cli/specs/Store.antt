@@ -1,5 +1,5 @@
 -- The commands of a store, as the frame sees them.
-use Rattle.std.specs.Prelude.{◌≡◌, ◌⊎◌, List, Result, Ok, Err, ℕ, Bool, false, is_some}
+use Rattle.std.specs.Prelude.{◌≡◌, ◌⊎◌, List, Option, Some, Result, Ok, Err, ℕ, Bool, true, false, is_some}
 use Rattle.mtn_base.specs.declared.refusal.Refusal.{Refusal}
 use Rattle.mtn_model.specs.State.{State}
 use Rattle.mtn_model.specs.Table.{Contents}
@@ -10,6 +10,8 @@ use Rattle.mtn_frame.specs.declared.works.WorkError.{WorkError}
 use Rattle.mtn_frame.specs.declared.works.WorkError.TheVariants as work
 use Rattle.mtn_history.specs.Damage.{IsDamage, IsShown}
 use Rattle.mtn_history.specs.Stands.{Stands}
+use Rattle.mtn_step.specs.declared.call.Call.{Call}
+use Rattle.mtn_step.specs.declared.call.Call.TheVariants.{Merge}
 use Rattle.mtn_history.specs.declared.errors.Damage.{Damage}
 use Rattle.mtn_history.specs.declared.errors.HistoryError.{HistoryError}
 use Rattle.mtn_history.specs.declared.errors.HistoryError.TheVariants.{Refused, Store}
@@ -19,9 +21,14 @@ use Rattle.mtn_history.specs.declared.errors.StoreError.TheVariants.{Failed, Dam
 abbrev pub is_spelled : List (List ℕ) → Bool
 is_spelled words = is_some (call_of words)
 
--- no command merges yet
+-- a command that may find conflicts
+abbrev pub may_conflict : Option Call → Bool
+may_conflict (Some (Merge a b resolves)) = true
+may_conflict _ = false
+
+-- words of such a command
 abbrev pub is_merging : List (List ℕ) → Bool
-is_merging words = false
+is_merging words = may_conflict (call_of words)
 
 -- how many records a command asks for is not bounded yet
 abbrev pub unbounded : Bounds

@@ -1,10 +1,10 @@
 // The commands, and the words of each.
 ghost use Rattle.std.specs.Prelude.{◌≡◌, IfOk, is_some};
-ghost use Rattle.mtn_cli.specs.Calls.{call_named as call_by_name, call_of, content_changed as content_call, corresponding_path as corresponding_call, id_and_ids, ids as ids_of, no_words as nothing, one_id as id_of, query_named as query_by_name, read_path as path_of, some_ids as some_of};
+ghost use Rattle.mtn_cli.specs.Calls.{call_named as call_by_name, call_of, call_resolving as call_by_flag, call_with as call_by_options, content_changed as content_call, corresponding_path as corresponding_call, id_and_ids, ids as ids_of, no_words as nothing, one_id as id_of, query_named as query_by_name, read_path as path_of, some_ids as some_of, two_ids as pair_of};
 ghost use Rattle.mtn_base.specs.Hex.{read_id};
 ghost use Rattle.mtn_cli.specs.Words.{Reads};
 
-use crate::words::{WordsError, step_words};
+use crate::words::{OptionWord, WordsError, step_words};
 use mtn_base::{Bytes, Id, List, NoMemory, Path, PathError};
 use mtn_graph_queries::Query;
 use mtn_step::Call;
@@ -15,12 +15,50 @@ pub fn read_words(alloc: Global, words: &[Bytes]) -> Result<Call, WordsError>
     ensures { Reads (call_of words.now) result }
 {
     let command = step_words(alloc, words)?;
-    if !command.options.as_slice().is_empty() {
-        return Err(WordsError::Usage);
-    }
     match std::str::from_utf8(command.name.as_slice()) {
-        Ok(name) => call_named(alloc, name, command.positionals.as_slice()),
+        Ok(name) => call_with(
+            alloc,
+            command.options.as_slice(),
+            name,
+            command.positionals.as_slice(),
+        ),
         Err(_) => Err(WordsError::Usage),
+    }
+}
+
+// A command with options: the only one that any takes is the flag `resolve`.
+fn call_with(
+    alloc: Global,
+    options: &[OptionWord],
+    name: &str,
+    words: &[Bytes],
+) -> Result<Call, WordsError>
+    ensures { Reads (call_by_options options.now name.now words.now) result }
+{
+    match options {
+        [] => call_named(alloc, name, words),
+        [option] => {
+            if option.value.is_none() {
+                call_resolving(name, words)
+            } else {
+                Err(WordsError::Usage)
+            }
+        }
+        _ => Err(WordsError::Usage),
+    }
+}
+
+// A command with the flag `resolve`.
+fn call_resolving(name: &str, words: &[Bytes]) -> Result<Call, WordsError>
+    ensures { Reads (call_by_flag name.now words.now) result }
+{
+    match name {
+        "merge" => two_ids(words).map(|(a, b)| Call::Merge {
+            a,
+            b,
+            resolves: true,
+        }),
+        _ => Err(WordsError::Usage),
     }
 }
 
@@ -49,6 +87,12 @@ fn call_named(alloc: Global, name: &str, words: &[Bytes]) -> Result<Call, WordsE
         "get_content_changed" => content_changed(alloc, words),
         "get_corresponding_path" => corresponding_path(alloc, words),
         "graph" => no_words(words).map(|()| Call::Graph),
+        "merge" => two_ids(words).map(|(a, b)| Call::Merge {
+            a,
+            b,
+            resolves: false,
+        }),
+        "show_conflicts" => two_ids(words).map(|(a, b)| Call::ShowConflicts { a, b }),
         _ => query_named(alloc, name, words).map(|query| Call::Ask { query }),
     }
 }
@@ -85,6 +129,19 @@ fn one_id(words: &[Bytes]) -> Result<Id, WordsError>
 {
     match words {
         [word] => Id::read_hex(word.as_slice()).ok_or(WordsError::Usage),
+        _ => Err(WordsError::Usage),
+    }
+}
+
+fn two_ids(words: &[Bytes]) -> Result<(Id, Id), WordsError>
+    ensures { Reads (pair_of (λ a b. (a, b)) words.now) result }
+{
+    match words {
+        [a, b] => {
+            let a = id_of_word(a)?;
+            let b = id_of_word(b)?;
+            Ok((a, b))
+        }
         _ => Err(WordsError::Usage),
     }
 }

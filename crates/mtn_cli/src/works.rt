@@ -1,8 +1,8 @@
 // A command over a draft of the keeper.
-ghost use Rattle.std.specs.Prelude.{◌≡◌, IfSome, true, false};
-ghost use Rattle.mtn_cli.specs.Drafts.{Drafts};
+ghost use Rattle.std.specs.Prelude.{◌≡◌, IfSome, Some, true};
+ghost use Rattle.mtn_cli.specs.Drafts.{Replies, reply_of};
 ghost use Rattle.mtn_cli.specs.Step.{Step};
-ghost use Rattle.mtn_cli.specs.Store.{IsLine, ShowsDamage, is_merging, is_spelled, unbounded};
+ghost use Rattle.mtn_cli.specs.Store.{IsLine, ShowsDamage, is_merging, is_spelled, may_conflict, unbounded};
 ghost use Rattle.mtn_frame.specs.Script.{BoundsJob, Does};
 ghost use Rattle.mtn_frame.specs.Works.{Works, is_merging as job_merging, is_spelled as job_spelled};
 ghost use Rattle.mtn_history.specs.Memory.{Knows};
@@ -20,8 +20,10 @@ use crate::get_file::get_file;
 use crate::get_manifest_of::get_manifest_of;
 use crate::get_revision::get_revision;
 use crate::get_roster::get_roster;
+use crate::merge::merge;
 use crate::put_file::put_file;
 use crate::put_revision::put_revision;
+use crate::show_conflicts::show_conflicts;
 use crate::words::WordsError;
 use mtn_base::{Bytes, Cause, Refusal};
 use mtn_frame::{Job, Reply, WorkError, Worked};
@@ -31,6 +33,19 @@ use mtn_step::Call;
 use std::alloc::Global;
 use std::mem;
 
+// The reply of a command that answered a text.
+fn told(worked: Result<Bytes, HistoryError>) -> Result<Reply, HistoryError>
+    ensures { result ≡ reply_of worked }
+{
+    match worked {
+        Ok(text) => Ok(Reply {
+            conflicts: false,
+            text,
+        }),
+        Err(error) => Err(error),
+    }
+}
+
 // The command's work over a draft, one arm a command.
 fn on_draft<I: Ident, K: Keeper>(
     alloc: Global,
@@ -38,26 +53,28 @@ fn on_draft<I: Ident, K: Keeper>(
     ident: &I,
     payload: &[u8],
     draft: &mut Draft<'_, K>,
-) -> Result<Bytes, HistoryError>
+) -> Result<Reply, HistoryError>
     ensures same_reference { draft.new.keeper.ghost_name ≡ draft.old.keeper.ghost_name }
-    ensures drafts { Drafts (I.meaning ident.now) K.contents K.leaves K.faults draft.old.keeper.now draft.new.keeper.now draft.old.pending draft.new.pending
-        (Steps (I.meaning ident.now) call.now payload.now) result }
+    ensures replies { Replies (I.meaning ident.now) K.contents K.leaves K.faults draft.old.keeper.now draft.new.keeper.now draft.old.pending draft.new.pending
+        (may_conflict (Some call.now)) (Steps (I.meaning ident.now) call.now payload.now) result }
 {
     match call {
-        Call::PutFile => put_file(alloc, ident, payload, draft),
-        Call::PutRevision => put_revision(alloc, ident, payload, draft),
-        Call::GetFile { id } => get_file(alloc, ident, *id, payload, draft),
-        Call::GetRevision { id } => get_revision(alloc, ident, *id, payload, draft),
-        Call::GetManifestOf { id } => get_manifest_of(ident, *id, payload, draft),
-        Call::GetRoster { id } => get_roster(ident, *id, payload, draft),
+        Call::PutFile => told(put_file(alloc, ident, payload, draft)),
+        Call::PutRevision => told(put_revision(alloc, ident, payload, draft)),
+        Call::GetFile { id } => told(get_file(alloc, ident, *id, payload, draft)),
+        Call::GetRevision { id } => told(get_revision(alloc, ident, *id, payload, draft)),
+        Call::GetManifestOf { id } => told(get_manifest_of(ident, *id, payload, draft)),
+        Call::GetRoster { id } => told(get_roster(ident, *id, payload, draft)),
         Call::GetContentChanged { id, path } => {
-            get_content_changed(ident, *id, path, payload, draft)
+            told(get_content_changed(ident, *id, path, payload, draft))
         }
         Call::GetCorrespondingPath { id, path, other } => {
-            get_corresponding_path(ident, *id, path, *other, payload, draft)
+            told(get_corresponding_path(ident, *id, path, *other, payload, draft))
         }
-        Call::Ask { query } => ask(alloc, ident, query, payload, draft),
-        Call::Graph => graph(alloc, ident, payload, draft),
+        Call::Ask { query } => told(ask(alloc, ident, query, payload, draft)),
+        Call::Graph => told(graph(alloc, ident, payload, draft)),
+        Call::Merge { a, b, resolves } => merge(alloc, ident, *a, *b, *resolves, payload, draft),
+        Call::ShowConflicts { a, b } => told(show_conflicts(alloc, ident, *a, *b, payload, draft)),
     }
 }
 
@@ -84,7 +101,7 @@ fn work_on<I: Ident, K: Keeper>(
 ) -> Result<Worked, WorkError>
     requires { IfSome (K.contents keeper.old) (Knows memory.old) }
     ensures { Works (Stands (I.meaning ident.now)) (ShowsDamage (I.meaning ident.now)) IsLine Knows K.contents K.leaves K.faults K.reads keeper.old keeper.new memory.new
-        true false (Steps (I.meaning ident.now) call.now payload.now) (λ s n. ⊥) result }
+        true (may_conflict (Some call.now)) (Steps (I.meaning ident.now) call.now payload.now) (λ s n. ⊥) result }
 {
     let pending = match Pending::open(alloc, memory, keeper) {
         Ok(pending) => pending,
@@ -96,13 +113,10 @@ fn work_on<I: Ident, K: Keeper>(
     let (keeper, pending, remembered) = draft.into_parts();
     let _ = keeper;
     match worked {
-        Ok(text) => {
+        Ok(reply) => {
             *memory = remembered;
             Ok(Worked {
-                reply: Reply {
-                    conflicts: false,
-                    text,
-                },
+                reply,
                 batch: pending.batch,
             })
         }

@@ -8,4 +8,7 @@ pub mod Built
 pub mod SomeVerdict
 pub mod SomeMerge
 pub mod SomeConflicts
+pub mod Texts
+pub mod Telling
+pub mod SomeReading
 pub mod SomeOverride

@@ -1,7 +1,7 @@
 //! Laws of merges for what commands come to, over the definitions alone. Nothing here runs.
 //!
 //! A merge of two revisions of a history decides one thing, has one list of conflicts each, and resolutions are read and
-//! checked in one way; and there is something that it decides, a list for each, and an answer to resolutions. The crates above rely on this:
+//! checked in one way; and there is such a thing, a list, a reading and an answer for each. The crates above rely on this:
 //! a command that merges has exactly one outcome.
 #![tactic(auto)]
 
@@ -53,6 +53,11 @@ pub fn some_merge()
 /// Decisions in order have a list of conflicts each.
 pub fn some_conflicts()
     ensures { (m : Merge) → IsInOrder m → (c : Conflicts) × AreConflictsOf m c }
+{}
+
+/// A text spells resolutions, or has a fault that is none of memory.
+pub fn some_reading()
+    ensures { (text : List ℕ) → ((rs : List Resolution) × IsResolutionsText text rs × AreStanzas (header ∷ map stanza_of rs)) ⊎ ((e : ResolveTextError) × (e ≢ NoMemory) × IsResolutionsFault text e) }
 {}
 
 /// Resolutions fit decisions, or have a fault that is none of memory.

@@ -3,9 +3,9 @@ use Rattle.std.specs.FinMap.{get}
 use Rattle.std.proofs.Common.{◌≡◌, ℕ, List, false, sym, ap, ◌∙◌, subst}
 use Rattle.mtn_base.specs.declared.refusal.Cause.TheVariants.{UnknownFile, UnknownRevision}
 use Rattle.mtn_model.specs.Outcome.{Outcome}
-use Rattle.mtn_step.specs.Step.{found, id_line, unless, Steps}
+use Rattle.mtn_step.specs.Step.{found, id_line, unless, PutsRevision, Steps}
 use Rattle.mtn_step.specs.declared.call.Call.{Call}
-use Rattle.mtn_step.specs.declared.call.Call.TheVariants.{PutFile, PutRevision, GetFile, GetRevision, GetManifestOf, GetRoster, GetContentChanged, GetCorrespondingPath, Ask, Graph}
+use Rattle.mtn_step.specs.declared.call.Call.TheVariants.{PutFile, PutRevision, GetFile, GetRevision, GetManifestOf, GetRoster, GetContentChanged, GetCorrespondingPath, Ask, Graph, Merge, ShowConflicts}
 use Rattle.mtn_step_laws.proofs.Outcomes.{one_of_step}
 use Rattle.mtn_replay.specs.Files.{file_refusal, with_file}
 use Rattle.mtn_replay.specs.Texts.{text_under}
@@ -14,6 +14,7 @@ use Rattle.mtn_renaming.specs.Order.{IsSameUpToOrder}
 use Rattle.mtn_answers.specs.Views.{corresponding_at, manifest_at, IsContentChanged, IsRoster}
 use Rattle.mtn_order.specs.Free.{in_log_order, IsOrderFree, IsSameOutcome}
 use Rattle.mtn_order.proofs.Framing.{asked_free, graphed_free, is_outcome, same_found, same_unless, viewed_free}
+use Rattle.mtn_order.proofs.Plans.{merge_free, shows_free}
 use Rattle.mtn_order.proofs.Revisions.{puts_free}
 use Rattle.mtn_order.proofs.States.{same_file_refusal, same_with_file}
 use Rattle.mtn_order.proofs.Texts.{same_text}
@@ -45,6 +46,8 @@ step_free f (GetCorrespondingPath id path other) payload free s t o same does =
     viewed_free f (λ h answer. answer ≡ corresponding_at h id path other) (λ h g to back is answer e. e ∙ sym (same_corresponding h g to back is id path other)) s t o same does
 step_free f (Ask query) payload free s t o same does = asked_free f query free s t o same does
 step_free f Graph payload free s t o same does = graphed_free f s t o same does
+step_free f (Merge a b resolves) payload free s t o same does = merge_free f a b resolves payload (PutsRevision f) (puts_free f) s t o same does
+step_free f (ShowConflicts a b) payload free s t o same does = shows_free f a b s t o same does
 
 -- so any two outcomes are the same
 pub steps_same : (f : List ℕ → List ℕ) (call : Call) (payload : List ℕ) → in_log_order call ≡ false → (s t : State) (o p : Outcome) → IsSameUpToOrder f s t → Steps f call payload s o → Steps f call payload t p → IsSameOutcome f o p

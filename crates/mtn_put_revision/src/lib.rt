@@ -21,3 +21,4 @@ mod uncommon;
 mod unfit;
 
 pub use put::{MAX_LOG, put_revision};
+pub use unfit::roster_held;

@@ -29,8 +29,8 @@ fn last_held<K: Keeper>(draft: &mut Draft<'_, K>) -> StoreError
     }
 }
 
-// The roster's record at a position.
-fn roster_held<K: Keeper>(draft: &mut Draft<'_, K>, at: Pos) -> StoreError
+/// The roster's record at a position, of a store that stands for no state, as the caller found.
+pub fn roster_held<K: Keeper>(draft: &mut Draft<'_, K>, at: Pos) -> StoreError
     requires below { at < draft.old.pending.count }
     ensures same_reference { draft.new.keeper.ghost_name ≡ draft.old.keeper.ghost_name }
     ensures stays { Stays K.contents K.leaves K.faults draft.old.keeper.now draft.new.keeper.now }

@@ -12,16 +12,21 @@ use Rattle.mtn_base.specs.Refusals.{refusal_text}
 use Rattle.mtn_base.specs.declared.id.Id.{Id}
 use Rattle.mtn_base.specs.declared.refusal.Cause.{Cause}
 use Rattle.mtn_base.specs.declared.refusal.Cause.TheVariants.{UnknownFile, UnknownRevision}
+use Rattle.mtn_basic_io.specs.Spelling.{spelling}
+use Rattle.mtn_conflicts.specs.ConflictText.{conflict_stanzas}
+use Rattle.mtn_conflicts.specs.declared.lists.Conflicts.{Conflicts}
 use Rattle.mtn_history_laws.specs.History.{Revision}
 use Rattle.mtn_model.specs.Outcome.{Outcome}
 use Rattle.mtn_model.specs.State.{State}
 use Rattle.mtn_model.specs.declared.status.Status.TheVariants as status
+use Rattle.mtn_plans.specs.Plans.{Looks, Merges, Plan}
+use Rattle.mtn_plans.specs.declared.outcome.Outcome.TheVariants.{Conflicted, Merged}
 use Rattle.mtn_replay.specs.Accepting.{Decides}
 use Rattle.mtn_replay.specs.Files.{file_refusal, with_file}
 use Rattle.mtn_replay.specs.Lawful.{IsHistory}
 use Rattle.mtn_replay.specs.Texts.{text_under}
 use Rattle.mtn_step.specs.declared.call.Call.{Call}
-use Rattle.mtn_step.specs.declared.call.Call.TheVariants.{PutFile, PutRevision, GetFile, GetRevision, GetManifestOf, GetRoster, GetContentChanged, GetCorrespondingPath, Ask, Graph}
+use Rattle.mtn_step.specs.declared.call.Call.TheVariants.{PutFile, PutRevision, GetFile, GetRevision, GetManifestOf, GetRoster, GetContentChanged, GetCorrespondingPath, Ask, Graph, Merge, ShowConflicts}
 
 -- an id's digits and LF
 abbrev pub id_line : List ℕ → List ℕ
@@ -85,6 +90,33 @@ line_text line = encode_lower line.id.0 ++ flat_map (λ (parent : Id). 32 ∷ en
 abbrev pub Graphed : List Revision → State → Outcome → Type 0
 Graphed h s o = (lines : List Line) × IsGraph h lines × (o ≡ done s (flat_map line_text lines))
 
+-- the conflicts that keep a merge from being made; the state is left
+abbrev pub conflicted : State → List ℕ → Outcome
+conflicted old output = record { state = old; output = output; status = status.Conflicts }
+
+abbrev pub conflict_text : Id → Id → Conflicts → List ℕ
+conflict_text left right conflicts = spelling (conflict_stanzas left right conflicts)
+
+-- what a text of a revision comes to once it is made, as by putting it
+abbrev pub Ending : Type 1
+Ending = List ℕ → State → Outcome → Type 0
+
+-- what is done by the plan of a merge
+abbrev pub Ended : Ending → State → Outcome → Plan → Type 0
+Ended ends s o (Err cause) = o ≡ refused cause s
+Ended ends s o (Ok (Conflicted left right conflicts)) = o ≡ conflicted s (conflict_text left right conflicts)
+Ended ends s o (Ok (Merged text)) = ends text s o
+
+-- what is answered by the plan that shows conflicts
+abbrev pub Shown : State → Outcome → Plan → Type 0
+Shown s o (Err cause) = o ≡ refused cause s
+Shown s o (Ok (Conflicted left right conflicts)) = o ≡ done s (conflict_text left right conflicts)
+Shown s o (Ok (Merged text)) = ⊥
+
+-- there is a plan of this kind, and this is done by it
+abbrev pub Planned : (Plan → Type 0) → (Plan → Type 0) → Type 0
+Planned Is Does = (plan : Plan) × Is plan × Does plan
+
 -- The outcome of a command over a state, one line a command; f is what the ident makes of a text.
 abbrev pub Steps : (List ℕ → List ℕ) → Call → List ℕ → State → Outcome → Type 0
 Steps f PutFile payload s o = o ≡ unless (file_refusal f s payload) s (with_file f s payload) (id_line (f payload))
@@ -97,6 +129,8 @@ Steps f (GetContentChanged id path) payload s o = OfHistory f s (λ h. Viewed (I
 Steps f (GetCorrespondingPath id path other) payload s o = OfHistory f s (λ h. Viewed (λ answer. answer ≡ corresponding_at h id path other) s o)
 Steps f (Ask query) payload s o = OfHistory f s (λ h. Asked h query s (first_unknown h (ids_of query)) o)
 Steps f Graph payload s o = OfHistory f s (λ h. Graphed h s o)
+Steps f (Merge a b resolves) payload s o = OfHistory f s (λ h. Planned (Merges f s.files h a b resolves payload) (Ended (PutsRevision f) s o))
+Steps f (ShowConflicts a b) payload s o = OfHistory f s (λ h. Planned (Looks h a b) (Shown s o))
 
 -- whether a command takes a payload, one line a command
 abbrev pub takes_payload : Call → Bool
@@ -110,3 +144,5 @@ takes_payload (GetContentChanged id path) = false
 takes_payload (GetCorrespondingPath id path other) = false
 takes_payload (Ask query) = false
 takes_payload Graph = false
+takes_payload (Merge a b resolves) = resolves
+takes_payload (ShowConflicts a b) = false

@@ -27,6 +27,11 @@ pub enum Call {
     Ask { query: Query },
     /// `graph`: answers each revision with its parents.
     Graph,
+    /// `merge [--resolve] ID ID`: accepts the merge of two revisions, with the payload as resolutions if the option says so, and
+    /// answers its id, or the conflicts.
+    Merge { a: Id, b: Id, resolves: bool },
+    /// `show_conflicts ID ID`: answers the conflicts of a merge.
+    ShowConflicts { a: Id, b: Id },
 }
 
 impl Call {
@@ -43,6 +48,8 @@ impl Call {
             Call::GetContentChanged { .. } => false,
             Call::GetCorrespondingPath { .. } => false,
             Call::Ask { .. } | Call::Graph => false,
+            Call::Merge { resolves, .. } => *resolves,
+            Call::ShowConflicts { .. } => false,
         }
     }
 }

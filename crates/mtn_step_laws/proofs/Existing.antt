@@ -1,5 +1,5 @@
 -- A command has an outcome.
-use Rattle.std.proofs.Common.{◌≡◌, ◌≢◌, ◌≤◌, ◌<◌, ℕ, List, length, Option, Some, None, refl, inl, inr}
+use Rattle.std.proofs.Common.{◌≡◌, ◌≢◌, ◌≤◌, ◌<◌, ℕ, List, length, Option, Some, None, Ok, Err, refl, inl, inr}
 use Rattle.std.proofs.lemmas.Bool.{cases_lt}
 use Rattle.mtn_answers.specs.Queries.{first_unknown, ids_of}
 use Rattle.mtn_answers.specs.Views.{TextAnswer, IsContentChanged, IsRoster, corresponding_at, manifest_at}
@@ -19,10 +19,14 @@ use Rattle.mtn_replay.specs.Accepting.{Decides, IsTooLong, IsUnread, IsDecided, 
 use Rattle.mtn_replay.specs.Lawful.{IsLawful}
 use Rattle.mtn_replay.specs.Texts.{text_under}
 use Rattle.mtn_replay.proofs.Histories.{history_is_grown}
-use Rattle.mtn_step.specs.Step.{Asked, OfHistory, Steps, Viewed, told}
+use Rattle.mtn_plans.specs.Plans.{Looks, LooksAtSides, Merges, Plan, Unless}
+use Rattle.mtn_plans.specs.Sides.{left_of, right_of, side_refusal}
+use Rattle.mtn_plans.specs.declared.outcome.Outcome.TheVariants.{Conflicted, Merged}
+use Rattle.mtn_step.specs.Step.{Asked, Ended, OfHistory, PutsRevision, Shown, Steps, Viewed, told}
 use Rattle.mtn_step.specs.declared.call.Call.{Call}
-use Rattle.mtn_step.specs.declared.call.Call.TheVariants.{PutFile, PutRevision, GetFile, GetRevision, GetManifestOf, GetRoster, GetContentChanged, GetCorrespondingPath, Ask, Graph}
+use Rattle.mtn_step.specs.declared.call.Call.TheVariants.{PutFile, PutRevision, GetFile, GetRevision, GetManifestOf, GetRoster, GetContentChanged, GetCorrespondingPath, Ask, Graph, Merge, ShowConflicts}
 use Rattle.mtn_step_laws.proofs.Revisions.{spells_or_fault}
+use Rattle.mtn_step_laws.proofs.SomePlan.{some_looked, some_plan}
 
 -- a fault that is none of memory has a cause
 cause_of : (e : ChangeTextError) → e ≢ error.NoMemory → (c : Cause) × (fault_cause e ≡ Some c)
@@ -53,9 +57,26 @@ module _ (f : List ℕ → List ℕ) (s : State) (lawful : IsLawful f s) where
   asked query (Some id) e = (_, refl)
   asked query None e = let answer = some_answer lawful.history grown query e in (_, (answer.0, answer.1, refl))
 
+  some_put : (text : List ℕ) → (o : Outcome) × PutsRevision f text s o
+  some_put text = let d = some_decision text in (_, record { refusal = d.0; after = d.1; decides = d.2; is = refl })
+
+  some_ended : (plan : Plan) → (o : Outcome) × Ended (PutsRevision f) s o plan
+  some_ended (Err cause) = (_, refl)
+  some_ended (Ok (Conflicted l r c)) = (_, refl)
+  some_ended (Ok (Merged text)) = some_put text
+
+  some_shown : (a b : Id) (plan : Plan) → Looks lawful.history a b plan → (o : Outcome) × Shown s o plan
+  some_shown a b (Err cause) is = (_, refl)
+  some_shown a b (Ok (Conflicted l r c)) is = (_, refl)
+  some_shown a b (Ok (Merged text)) is = absurd (no_text (side_refusal lawful.history a b) is)
+    where
+      no_text : (o : Option Cause) → Unless o (LooksAtSides lawful.history (left_of a b) (right_of a b)) (Ok (Merged text)) → ⊥
+      no_text (Some c) e = cc
+      no_text None e = let z = e.is in cc
+
   pub some_of_step : (call : Call) (payload : List ℕ) → (o : Outcome) × Steps f call payload s o
   some_of_step PutFile payload = (_, refl)
-  some_of_step PutRevision payload = let d = some_decision payload in (_, record { refusal = d.0; after = d.1; decides = d.2; is = refl })
+  some_of_step PutRevision payload = some_put payload
   some_of_step (GetFile id) payload = (_, refl)
   some_of_step (GetRevision id) payload = (_, refl)
   some_of_step (GetManifestOf id) payload = viewed (λ h answer. answer ≡ manifest_at h id) (manifest_at lawful.history id, refl)
@@ -64,3 +85,11 @@ module _ (f : List ℕ → List ℕ) (s : State) (lawful : IsLawful f s) where
   some_of_step (GetCorrespondingPath id path other) payload = viewed (λ h answer. answer ≡ corresponding_at h id path other) (corresponding_at lawful.history id path other, refl)
   some_of_step (Ask query) payload = let a = asked query (first_unknown lawful.history (ids_of query)) refl in (a.0, (lawful.history, lawful.log, a.1))
   some_of_step Graph payload = let g = some_graph lawful.history grown in (_, (lawful.history, lawful.log, (g.0, g.1, refl)))
+  some_of_step (Merge a b resolves) payload =
+      let plan = some_plan f s.files lawful.history grown a b resolves payload in
+      let o = some_ended plan.0 in
+      (o.0, (lawful.history, lawful.log, (plan.0, plan.1, o.1)))
+  some_of_step (ShowConflicts a b) payload =
+      let plan = some_looked f s.files lawful.history grown a b in
+      let o = some_shown a b plan.0 plan.1 in
+      (o.0, (lawful.history, lawful.log, (plan.0, plan.1, o.1)))

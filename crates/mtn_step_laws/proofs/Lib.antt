@@ -1,8 +1,10 @@
 pub mod Decided
+pub mod OnePlan
+pub mod SomePlan
+pub mod Swapped
 pub mod Outcomes
 pub mod Decoding
 pub mod Telling
-pub mod Texts
 pub mod Revisions
 pub mod Existing
 pub mod TreeEntries

@@ -27,8 +27,9 @@ use Rattle.mtn_changes.specs.declared.order.Fault.{Fault}
 use Rattle.mtn_changes.specs.declared.order.Fault.TheVariants as one
 use Rattle.mtn_changes.proofs.Decoded.{one_head}
 use Rattle.mtn_replay.specs.Lawful.{Spells}
-use Rattle.mtn_step_laws.proofs.Telling.{read_change, read_head, tell_most, tell_test}
-use Rattle.mtn_step_laws.proofs.Texts.{stanzas_or_place}
+use Rattle.mtn_merge_laws.proofs.Telling.{tell_most, tell_test}
+use Rattle.mtn_step_laws.proofs.Telling.{read_change, read_head}
+use Rattle.mtn_merge_laws.proofs.Texts.{stanzas_or_place}
 
 -- what a list of stanzas comes to
 abbrev pub IsDecided : List (List LineText) → Type 0

@@ -1,10 +1,11 @@
 //! Laws of what commands do, over the definitions of `mtn_step` alone. Nothing here runs.
 //!
 //! The crates above, and readers, rely on this: over a lawful state a command has exactly one outcome, so that
-//! what it does is a function of the state.
+//! what it does is a function of the state; and a merge is the same in both orders of its words.
 #![tactic(auto)]
 
-ghost use Rattle.std.specs.Prelude.{◌≡◌, ◌≢◌, ◌⊎◌, ℕ, List, Some};
+ghost use Rattle.std.specs.Prelude.{◌≡◌, ◌≢◌, ◌⊎◌, ℕ, Bool, List, Some};
+ghost use Rattle.mtn_base.specs.declared.id.Id.{Id};
 ghost use Rattle.mtn_base.specs.declared.name.NodeName.{NodeName};
 ghost use Rattle.mtn_changes.specs.RevisionText.{IsRevisionFault};
 ghost use Rattle.mtn_changes.specs.declared.change.Revision.{Revision};
@@ -19,6 +20,7 @@ ghost use Rattle.mtn_roster.specs.declared.entry.Entry.{Entry};
 ghost use Rattle.mtn_step.specs.Step.{Steps};
 ghost use Rattle.mtn_step.specs.declared.call.Call.{Call};
 ghost use Rattle.mtn_step_laws.specs.Entries.{IsLawfulEntry};
+ghost use Rattle.mtn_step_laws.specs.Held.{IsHeldIn};
 
 /// Over a lawful state a command has no more than one outcome.
 pub fn one_outcome()
@@ -38,4 +40,12 @@ pub fn some_fault()
 /// Over a lawful log each entry of each tree has a lawful component, a lawful path of birth and lawful keys.
 pub fn lawful_entries()
     ensures { (f : List ℕ → List ℕ) (files : Table) (log : List Logged) (h : List Made) → IsHistory f files log h → (r : ℕ) (n : NodeName) (e : Entry) → entry_at h r n ≡ Some e → IsLawfulEntry e }
+{}
+
+/// A merge has one outcome in both orders of the words, where both revisions are held, and so has what is shown of it.
+pub fn sides_in_any_order()
+    ensures merge { (f : List ℕ → List ℕ) (s : State) (a b : Id) (resolves : Bool) (payload : List ℕ) (o : Outcome) → IsHeldIn f s a → IsHeldIn f s b →
+        Steps f (Call.Merge a b resolves) payload s o → Steps f (Call.Merge b a resolves) payload s o }
+    ensures show_conflicts { (f : List ℕ → List ℕ) (s : State) (a b : Id) (payload : List ℕ) (o : Outcome) → IsHeldIn f s a → IsHeldIn f s b →
+        Steps f (Call.ShowConflicts a b) payload s o → Steps f (Call.ShowConflicts b a) payload s o }
 {}

@@ -1,32 +1,39 @@
 -- Each command by its own clause.
+use Rattle.mtn_cli.proofs.WorksLemmas.{replies_as}
 use Rattle.mtn_cli.proofs.works.on_draft.Goals as goal
 
-pub returns-in-PutFile-clause-drafts : goal.returns-in-PutFile-clause-drafts
-returns-in-PutFile-clause-drafts g c = rw c.in-PutFile.is c.put_file.ensures.drafts
+pub returns-in-PutFile-clause-replies : goal.returns-in-PutFile-clause-replies
+returns-in-PutFile-clause-replies g c = rw c.in-PutFile.is (replies_as _ _ _ _ _ _ _ _ _ _ c.put_file.result c.told.result c.told.ensures c.put_file.ensures.drafts)
 
-pub returns-in-PutRevision-clause-drafts : goal.returns-in-PutRevision-clause-drafts
-returns-in-PutRevision-clause-drafts g c = rw c.in-PutRevision.is c.put_revision.ensures.drafts
+pub returns-in-PutRevision-clause-replies : goal.returns-in-PutRevision-clause-replies
+returns-in-PutRevision-clause-replies g c = rw c.in-PutRevision.is (replies_as _ _ _ _ _ _ _ _ _ _ c.put_revision.result c.told-in-PutRevision.result c.told-in-PutRevision.ensures c.put_revision.ensures.drafts)
 
-pub returns-in-GetFile-clause-drafts : goal.returns-in-GetFile-clause-drafts
-returns-in-GetFile-clause-drafts g c = rw c.in-GetFile.is c.get_file.ensures.drafts
+pub returns-in-GetFile-clause-replies : goal.returns-in-GetFile-clause-replies
+returns-in-GetFile-clause-replies g c = rw c.in-GetFile.is (replies_as _ _ _ _ _ _ _ _ _ _ c.get_file.result c.told-in-GetFile.result c.told-in-GetFile.ensures c.get_file.ensures.drafts)
 
-pub returns-in-GetRevision-clause-drafts : goal.returns-in-GetRevision-clause-drafts
-returns-in-GetRevision-clause-drafts g c = rw c.in-GetRevision.is c.get_revision.ensures.drafts
+pub returns-in-GetRevision-clause-replies : goal.returns-in-GetRevision-clause-replies
+returns-in-GetRevision-clause-replies g c = rw c.in-GetRevision.is (replies_as _ _ _ _ _ _ _ _ _ _ c.get_revision.result c.told-in-GetRevision.result c.told-in-GetRevision.ensures c.get_revision.ensures.drafts)
 
-pub returns-in-GetManifestOf-clause-drafts : goal.returns-in-GetManifestOf-clause-drafts
-returns-in-GetManifestOf-clause-drafts g c = rw c.in-GetManifestOf.is c.get_manifest_of.ensures.drafts
+pub returns-in-GetManifestOf-clause-replies : goal.returns-in-GetManifestOf-clause-replies
+returns-in-GetManifestOf-clause-replies g c = rw c.in-GetManifestOf.is (replies_as _ _ _ _ _ _ _ _ _ _ c.get_manifest_of.result c.told-in-GetManifestOf.result c.told-in-GetManifestOf.ensures c.get_manifest_of.ensures.drafts)
 
-pub returns-in-GetRoster-clause-drafts : goal.returns-in-GetRoster-clause-drafts
-returns-in-GetRoster-clause-drafts g c = rw c.in-GetRoster.is c.get_roster.ensures.drafts
+pub returns-in-GetRoster-clause-replies : goal.returns-in-GetRoster-clause-replies
+returns-in-GetRoster-clause-replies g c = rw c.in-GetRoster.is (replies_as _ _ _ _ _ _ _ _ _ _ c.get_roster.result c.told-in-GetRoster.result c.told-in-GetRoster.ensures c.get_roster.ensures.drafts)
 
-pub returns-in-GetContentChanged-clause-drafts : goal.returns-in-GetContentChanged-clause-drafts
-returns-in-GetContentChanged-clause-drafts g c = rw c.in-GetContentChanged.is c.get_content_changed.ensures.drafts
+pub returns-in-GetContentChanged-clause-replies : goal.returns-in-GetContentChanged-clause-replies
+returns-in-GetContentChanged-clause-replies g c = rw c.in-GetContentChanged.is (replies_as _ _ _ _ _ _ _ _ _ _ c.get_content_changed.result c.told-in-GetContentChanged.result c.told-in-GetContentChanged.ensures c.get_content_changed.ensures.drafts)
 
-pub returns-in-GetCorrespondingPath-clause-drafts : goal.returns-in-GetCorrespondingPath-clause-drafts
-returns-in-GetCorrespondingPath-clause-drafts g c = rw c.in-GetCorrespondingPath.is c.get_corresponding_path.ensures.drafts
+pub returns-in-GetCorrespondingPath-clause-replies : goal.returns-in-GetCorrespondingPath-clause-replies
+returns-in-GetCorrespondingPath-clause-replies g c = rw c.in-GetCorrespondingPath.is (replies_as _ _ _ _ _ _ _ _ _ _ c.get_corresponding_path.result c.told-in-GetCorrespondingPath.result c.told-in-GetCorrespondingPath.ensures c.get_corresponding_path.ensures.drafts)
 
-pub returns-in-Ask-clause-drafts : goal.returns-in-Ask-clause-drafts
-returns-in-Ask-clause-drafts g c = rw c.in-Ask.is c.ask.ensures.drafts
+pub returns-in-Ask-clause-replies : goal.returns-in-Ask-clause-replies
+returns-in-Ask-clause-replies g c = rw c.in-Ask.is (replies_as _ _ _ _ _ _ _ _ _ _ c.ask.result c.told-in-Ask.result c.told-in-Ask.ensures c.ask.ensures.drafts)
 
-pub returns-in-Graph-clause-drafts : goal.returns-in-Graph-clause-drafts
-returns-in-Graph-clause-drafts g c = rw c.in-Graph.is c.graph.ensures.drafts
+pub returns-in-Graph-clause-replies : goal.returns-in-Graph-clause-replies
+returns-in-Graph-clause-replies g c = rw c.in-Graph.is (replies_as _ _ _ _ _ _ _ _ _ _ c.graph.result c.told-in-Graph.result c.told-in-Graph.ensures c.graph.ensures.drafts)
+
+pub returns-in-ShowConflicts-clause-replies : goal.returns-in-ShowConflicts-clause-replies
+returns-in-ShowConflicts-clause-replies g c = rw c.in-ShowConflicts.is (replies_as _ _ _ _ _ _ _ _ _ _ c.show_conflicts.result c.told-in-ShowConflicts.result c.told-in-ShowConflicts.ensures c.show_conflicts.ensures.drafts)
+
+pub returns-in-Merge-clause-replies : goal.returns-in-Merge-clause-replies
+returns-in-Merge-clause-replies g c = rw c.in-Merge.is c.merge.ensures.replies

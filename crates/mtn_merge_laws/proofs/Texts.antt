@@ -1,8 +1,6 @@
 -- Each text is the printed form of stanzas, or stops at a place to begin one.
-use Rattle.std.specs.Prelude.{slice_index}
 use Rattle.std.proofs.Common.{◌≡◌, ◌≤◌, ◌<◌, ◌+◌, ◌⊎◌, ℕ, zero, suc, List, length, take, get_or, Option, Some, None, refl, sym, ap, ◌∙◌, inl, inr, subst, arith}
 use Rattle.std.proofs.lemmas.List.{take_all}
-use Rattle.mtn_basic_io.specs.Begun.{IsPlace}
 use Rattle.mtn_basic_io.specs.Spelling.{LineText, AreStanzas, spelling}
 use Rattle.mtn_basic_io.specs.Steps.{Reads, Stops, answer, run, start, step}
 use Rattle.mtn_basic_io.specs.declared.error.ReadError.TheVariants.{NotText, NoMemory}

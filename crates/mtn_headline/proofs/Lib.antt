@@ -1,0 +1,3 @@
+pub mod Ids
+pub mod Ordering
+pub mod Merged

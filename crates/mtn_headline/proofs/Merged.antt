@@ -1,0 +1,292 @@
+-- A merge in order is decided by its lists.
+use Rattle.std.specs.Prelude.{IsSome, map, nat_lt, bytes_eq, if◌then◌else◌, find, filter_map, is_none, slice_get, option_map}
+use Rattle.std.specs.FinMap.{get}
+use Rattle.std.proofs.lemmas.Bool.{cases_lt}
+use Rattle.std.proofs.lemmas.Bool.Decides.{nat_tests}
+use Rattle.std.proofs.lemmas.Option.{same_Some}
+use Rattle.std.proofs.Common.{◌≡◌, ◌≢◌, ◌⊎◌, ◌≤◌, ◌<◌, ℕ, Bool, true, false, List, [], ◌∷◌, ◌++◌, length, Option, Some, None, Ok, Err, inl, inr, refl, sym, ap, ◌∙◌, subst, arith}
+use Rattle.mtn_base.specs.Hex.{id_of}
+use Rattle.mtn_base.specs.declared.id.Id.{Id}
+use Rattle.mtn_base.specs.Names.{same_bytes}
+use Rattle.mtn_base.specs.declared.refusal.Cause.{Cause}
+use Rattle.mtn_base.specs.declared.refusal.Cause.TheVariants.{Collision, ManifestDiffers, TextTooLong, UnknownFile}
+use Rattle.mtn_base.proofs.Finding.{found}
+use Rattle.mtn_base.proofs.Members.{taken, place_of as place_in}
+use Rattle.mtn_basic_io.specs.Spelling.{AreStanzas, spelling}
+use Rattle.mtn_between.specs.Laws.{IsContentIn}
+use Rattle.mtn_between.specs.Merging.{IsMerged}
+use Rattle.mtn_changes.specs.declared.change.Revision.{Revision as Spelled}
+use Rattle.mtn_changes.specs.declared.error.ChangeTextError.TheVariants as error
+use Rattle.mtn_changes.specs.RevisionText.{revision_stanzas}
+use Rattle.mtn_changes.proofs.OneValue.{no_revision_fault, same_revision}
+use Rattle.mtn_changeset_laws.specs.Changes.{or_else}
+use Rattle.mtn_changeset_laws.specs.Laws.{IsFresh, NoneBornIn}
+use Rattle.mtn_changeset_laws.proofs.Stepping.{unborn_at}
+use Rattle.mtn_conflicts.specs.declared.lists.Conflicts.{Conflicts}
+use Rattle.mtn_conflicts.specs.Lists.{AreConflictsOf, IsNone}
+use Rattle.mtn_conflicts.specs.Result.{result_of}
+use Rattle.mtn_decide.specs.Decisions.{Merge}
+use Rattle.mtn_history_laws.specs.History.{Revision, tree_at, IsGrown}
+use Rattle.mtn_manifest.specs.Manifest.{manifest_of}
+use Rattle.mtn_merged_trees.proofs.Again.{edges_again, long_again, manifest_again, many_again, shown_again}
+use Rattle.mtn_merged_trees.proofs.Contents.{contents_again, result_held}
+use Rattle.mtn_merging.specs.MergeEdges.{merge_edges}
+use Rattle.mtn_merging.proofs.Accepted.{accepted_is, edges_lawful, made_is, tree_is}
+use Rattle.mtn_model.specs.Outcome.{Outcome}
+use Rattle.mtn_model.specs.State.{Logged, State}
+use Rattle.mtn_order.proofs.Texts.{text_none}
+use Rattle.mtn_plans.specs.Given.{IsChecked, IsGiven, unknown_pick}
+use Rattle.mtn_plans.specs.Plans.{Ends, IsUnborn, Merges, Plan, PlansPayload, PlansSides, Unless, limit_refusal, merge_revision, merge_text, merged_or, text_refusal}
+use Rattle.mtn_plans.specs.Sides.{IsMergeAt, left_of, right_of, side_refusal}
+use Rattle.mtn_plans.specs.declared.outcome.Outcome.TheVariants.{Conflicted, Merged}
+use Rattle.mtn_replay.specs.Accepting.{Decides, IsDecided, fault_cause, logged_beside, refusal_beside}
+use Rattle.mtn_replay.specs.Lawful.{IsHistory, IsLawful, IsNext, Spells}
+use Rattle.mtn_replay.specs.Making.{is_above, log_full, made, made_tree, other_manifest, parent_tree, place_of, refusal_of, too_long, too_many, tree_refusal, unknown_file}
+use Rattle.mtn_replay.specs.Texts.{text_under}
+use Rattle.mtn_replay.proofs.Histories.{history_is_grown, history_more, one_history}
+use Rattle.std.specs.Cmp.Lexicographic.{bytes_decides}
+use Rattle.mtn_replay.proofs.Places.{no_place, within as inside}
+use Rattle.mtn_replay.proofs.Steps.{unmapped}
+use Rattle.mtn_marking.proofs.Zips.{got_at}
+use Rattle.mtn_resolve.specs.declared.resolution.Resolution.{Resolution}
+use Rattle.mtn_resolve.specs.Overriding.{overridden, pick_in}
+use Rattle.mtn_resolve.specs.Texts.{AreResolutions}
+use Rattle.mtn_roster.specs.Tree.{Tree, IsSane}
+use Rattle.mtn_step.specs.Step.{Ended, OfHistory, Planned, PutsRevision, Steps, conflict_text, conflicted, done, id_line, unless}
+use Rattle.mtn_step.specs.declared.call.Call.TheVariants.{Merge as MergeCall}
+use Rattle.mtn_step_laws.proofs.OnePlan.{one_plan}
+use Rattle.mtn_headline.specs.Merging.{IsMergeInOrder, IsMergedBy, IsNewRevision, IsWithinLimits, MakesIds}
+use Rattle.mtn_headline.proofs.Ids.{IsId, merge_stanzas}
+use Rattle.mtn_headline.proofs.Ordering.{lesser}
+
+-- resolutions that are given are lawful
+lawful_given : (resolves : Bool) (payload : List ℕ) (rs : List Resolution) → IsGiven resolves payload (Ok rs) → AreResolutions [] rs
+lawful_given false payload rs e = let q : rs ≡ [] = cc in subst (AreResolutions []) (sym q) tt
+lawful_given true payload rs e = e.1.reads.lawful
+
+no_cause : (c : Cause) → fault_cause error.NoMemory ≡ Some c → ⊥
+no_cause c e = cc
+
+module _ (f : List ℕ → List ℕ) (s : State) (h : List Revision) (a b : Id) (resolves : Bool) (payload : List ℕ) (o : Outcome) (is : IsHistory f s.files s.log h)
+    (order : IsMergeInOrder s h a b resolves payload) (d : Conflicts) (are : AreConflictsOf (overridden order.resolutions order.merge) d) where
+  abbrev l : Id
+  l = left_of a b
+
+  abbrev r : Id
+  r = right_of a b
+
+  abbrev decisions : Merge
+  decisions = overridden order.resolutions order.merge
+
+  -- the plan of a merge whose ends are these
+  planned : (plan : Plan) → Ends f h l r decisions plan → Merges f s.files h a b resolves payload plan
+  planned plan ends = subst (λ u. Unless u (PlansPayload f h l r s.files resolves payload) plan) (sym order.sides) (
+    Ok order.resolutions,
+    order.given,
+    record {
+      merge = order.merge;
+      decides = order.decides;
+      conflicts = order.before;
+      are = order.are;
+      refusal = None;
+      checked = order.checked;
+      ends = ends;
+    },
+  )
+
+  -- what is done is done by that plan
+  by_plan : (plan : Plan) → Ends f h l r decisions plan → Steps f (MergeCall a b resolves) payload s o → Ended (PutsRevision f) s o plan
+  by_plan plan ends does =
+      let same : does.0 ≡ h = one_history f s.files s.log does.0 h does.1 is in
+      let there : Planned (Merges f s.files h a b resolves payload) (Ended (PutsRevision f) s o) = subst (λ g. Planned (Merges f s.files g a b resolves payload) (Ended (PutsRevision f) s o)) same does.2 in
+      subst (Ended (PutsRevision f) s o) (one_plan f s.files s.log h is a b resolves payload there.0 plan there.1 (planned plan ends)) there.2
+
+  pub in_conflict : Steps f (MergeCall a b resolves) payload s o → ¬ IsNone d → o ≡ conflicted s (conflict_text l r d)
+  in_conflict does some = by_plan (Ok (Conflicted l r d)) (record { conflicts = d; are = are; ends = inl (record { some = some; is = refl }) }) does
+
+  module _ (ids : MakesIds f) (lawful : IsLawful f s) (none : IsNone d) (x : Id) (ux : IsUnborn h l r x) (within : IsWithinLimits f s h l r (result_of decisions x)) where
+    grown : IsGrown h
+    grown = history_is_grown f s.files s.log h is
+
+    abbrev t : Tree
+    t = result_of decisions x
+
+    abbrev text : List ℕ
+    text = merge_text f h l r t
+
+    abbrev new : Id
+    new = id_of (f text)
+
+    abbrev u : Tree
+    u = result_of decisions new
+
+    abbrev p : ℕ
+    p = order.decides.left
+
+    abbrev q : ℕ
+    q = order.decides.right
+
+    put : Steps f (MergeCall a b resolves) payload s o → PutsRevision f text s o
+    put does = subst (λ plan. Ended (PutsRevision f) s o plan) (ap (λ z. merged_or z text) within.limits)
+        (by_plan (merged_or (limit_refusal f h l r t) text) (record { conflicts = d; are = are; ends = inr (record { none = none; tree = t; makes = (x, ux, refl); is = refl }) }) does)
+
+    -- ---- the limits
+
+    parts : (too_many t ≡ None) × ((too_long t ≡ None) × (text_refusal text ≡ None))
+    parts = let m = both (too_many t) (or_else (too_long t) (text_refusal text)) within.limits in (m.0, both (too_long t) (text_refusal text) m.1)
+      where
+        both : (v w : Option Cause) → or_else v w ≡ None → (v ≡ None) × (w ≡ None)
+        both None w e = (refl, e)
+        both (Some c) w e = absurd cc
+
+    short : length text ≤ 67108864
+    short = elim (cases_lt 67108864 (length text)) [
+      | inl lt ↦ absurd (too_large lt)
+      | inr le ↦ le
+    ]
+      where
+        too_large : 67108864 < length text → ⊥
+        too_large lt =
+            let test : nat_lt 67108864 (length text) ≡ true = grind (arith, nat_tests) in
+            let z : Some (TextTooLong (length text)) ≡ None = ap (λ w. if w then Some (TextTooLong (length text)) else None) (sym test) ∙ parts.1.1 in cc
+
+    -- ---- a text that is held
+
+    some_held : text_under s.log (f text) ≡ Some text → (k : ℕ) × (m : Logged) × (slice_get s.log k ≡ Some m) × (m.text ≡ text)
+    some_held e = go (find (λ (m : Logged). same_bytes m.id (f text)) s.log) refl e
+      where
+        go : (z : Option Logged) → find (λ (m : Logged). same_bytes m.id (f text)) s.log ≡ z → option_map (λ (m : Logged). m.text) z ≡ Some text → (k : ℕ) × (m : Logged) × (slice_get s.log k ≡ Some m) × (m.text ≡ text)
+        go None e g = absurd cc
+        go (Some m) e g =
+            let at = place_in s.log m (found (λ (m : Logged). same_bytes m.id (f text)) s.log m e).at in
+            let k = taken s.log at.0 at.1 in
+            (at.0, m, k.1 ∙ ap Some (sym (k.3 m) ∙ at.2 m), same_Some m.text text g)
+
+    spelled_held : text_under s.log (f text) ≡ Some text → (read : Spelled) × Spells text read
+    spelled_held e =
+        let m = some_held e in
+        let v = inside h m.0 (subst (λ n. m.0 < n) (sym is.long) ((got_at s.log m.0 m.1 m.2).0)) in
+        let next = is.each m.0 m.1 v.0 m.2 v.1 in
+        (next.read, subst (λ (x : List ℕ). Spells x next.read) m.3 next.spells)
+
+    -- ---- a new text
+
+    module _ (fresh : place_of h new ≡ None) where
+      unborn_left : NoneBornIn (tree_at h p) new
+      unborn_left = unborn_at h p new grown.born (no_place h new fresh)
+
+      unborn_right : NoneBornIn (tree_at h q) new
+      unborn_right = unborn_at h q new grown.born (no_place h new fresh)
+
+      x_left : NoneBornIn (tree_at h p) x
+      x_left = subst (λ z. NoneBornIn z x) (tree_is f s.files s.log h is l p order.decides.at_left) ux.0
+
+      x_right : NoneBornIn (tree_at h q) x
+      x_right = subst (λ z. NoneBornIn z x) (tree_is f s.files s.log h is r q order.decides.at_right) ux.1
+
+      shown : IsMerged (tree_at h p) (tree_at h q) new (is_above h (Some l)) (is_above h (Some r)) u
+      shown = shown_again f s.files s.log h is l r p q order.decides.at_left order.decides.at_right order.merge order.before d order.resolutions order.decides.order order.decides.decides order.checked.0 are none
+          new (no_place h new fresh) (lawful_given resolves payload order.resolutions order.given)
+
+      edges : merge_edges h l r t ≡ merge_edges h l r u
+      edges = edges_again f s.files s.log h is l r p q order.decides.at_left order.decides.at_right order.merge order.before d order.resolutions order.decides.order order.decides.decides order.checked.0 are none
+          x new x_left x_right unborn_left unborn_right
+
+      manifests : manifest_of t ≡ manifest_of u
+      manifests = manifest_again f s.files s.log h is l r p q order.decides.at_left order.decides.at_right order.merge order.before d order.resolutions order.decides.order order.decides.decides order.checked.0 are none
+          x new x_left x_right unborn_left unborn_right
+
+      many : too_many t ≡ too_many u
+      many = many_again f s.files s.log h is l r p q order.decides.at_left order.decides.at_right order.merge order.before d order.resolutions order.decides.order order.decides.decides order.checked.0 are none
+          x new x_left x_right unborn_left unborn_right
+
+      long : too_long t ≡ too_long u
+      long = long_again f s.files s.log h is l r p q order.decides.at_left order.decides.at_right order.merge order.before d order.resolutions order.decides.order order.decides.decides order.checked.0 are none
+          x new x_left x_right unborn_left unborn_right
+
+      picks : find (λ (i : Id). is_none (get s.files i.0)) (filter_map pick_in order.resolutions) ≡ None
+      picks = unmapped UnknownFile (find (λ (i : Id). is_none (get s.files i.0)) (filter_map pick_in order.resolutions)) order.checked.1
+
+      contents : unknown_file s.files (merge_edges h l r u) ≡ None
+      contents = contents_again f s.files s.log h is l r p q order.decides.at_left order.decides.at_right order.merge order.decides.order order.decides.decides order.resolutions picks order.before d order.checked.0 are none new unborn_left unborn_right
+
+      held : (content : Id) → IsContentIn u content → IsSome (get s.files content.0)
+      held = result_held f s.files s.log h is l r p q order.decides.at_left order.decides.at_right order.merge order.decides.order order.decides.decides order.resolutions picks order.before d order.checked.0 are none new unborn_left unborn_right
+
+      revisions : merge_revision f h l r t ≡ merge_revision f h l r u
+      revisions = λ i. record { manifest = id_of (f (spelling (manifests i))); edges = edges i }
+
+      spells : Spells text (merge_revision f h l r u)
+      spells = record {
+        reads = record {
+          lawful = edges_lawful f s.files s.log h is l r p q order.decides.at_left order.decides.at_right u (lesser h grown a b p order.decides.at_left order.sides) shown.sane shown.spellable;
+          spelled = ap (λ (z : Spelled). spelling (revision_stanzas z)) revisions;
+        };
+        stanzas = merge_stanzas f ids s.files lawful.files s.log h is l r p q u (id_of (f (spelling (manifest_of u)))) order.decides.at_left order.decides.at_right shown.sane held
+            (ids (spelling (manifest_of u)));
+      }
+
+      none_of_tree : too_many u ≡ None
+      none_of_tree = sym many ∙ parts.0
+
+      refusal_none : log_full h ≡ None → refusal_of f s.files h new (merge_revision f h l r u) ≡ None
+      refusal_none room =
+          accepted_is f s.files s.log h is l r p q order.decides.at_left order.decides.at_right u new (no_place h new fresh) shown (id_of (f (spelling (manifest_of u))))
+          ∙ ap (λ v. or_else v (tree_refusal f s.files (merge_revision f h l r u) u)) room
+          ∙ ap (λ v. or_else v (or_else (too_long u) (or_else (unknown_file s.files (merge_edges h l r u)) (other_manifest f u (id_of (f (spelling (manifest_of u)))))))) none_of_tree
+          ∙ ap (λ v. or_else v (or_else (unknown_file s.files (merge_edges h l r u)) (other_manifest f u (id_of (f (spelling (manifest_of u))))))) (sym long ∙ parts.1.0)
+          ∙ ap (λ v. or_else v (other_manifest f u (id_of (f (spelling (manifest_of u)))))) contents
+          ∙ ap (λ z. if z then None else Some (ManifestDiffers (id_of (f (spelling (manifest_of u)))))) ((bytes_decides (f (spelling (manifest_of u))) (f (spelling (manifest_of u)))).1 refl)
+
+      revision : Revision
+      revision = made h new (merge_edges h l r u)
+
+      next : log_full h ≡ None → IsNext f s.files h (record { id = f text; text = text }) (made h new (merge_edges h l r u))
+      next room = record { short = short; id = refl; fresh = fresh; read = merge_revision f h l r u; spells = spells; accepted = refusal_none room; made = refl }
+
+      tree : made_tree h new (merge_edges h l r u) ≡ u
+      tree = made_is f s.files s.log h is l r p q order.decides.at_left order.decides.at_right u new (no_place h new fresh) shown
+
+      made_new : log_full h ≡ None → text_under s.log (f text) ≡ None → o ≡ unless None s (logged_beside None f s text) (id_line (f text)) → IsNewRevision f h decisions text o
+      made_new room under e = record {
+        status = ap (λ (z : Outcome). z.status) e;
+        output = ap (λ (z : Outcome). z.output) e;
+        revision = made h new (merge_edges h l r u);
+        history = subst (λ (z : Outcome). IsHistory f z.state.files z.state.log (h ++ made h new (merge_edges h l r u) ∷ [])) (sym e)
+            (history_more f s.files s.log h (record { id = f text; text = text }) (made h new (merge_edges h l r u)) is (next room));
+        id = refl;
+        tree = tree;
+        sane = subst IsSane (sym tree) shown.sane;
+      }
+
+    -- ---- what is decided of the text
+
+    no_long : {Z : Type 0} → 67108864 < length text → Z
+    no_long lt = absurd (omega (arith, lt, short))
+
+    readable : (v : Spelled) → Spells text v → (refusal : Option Cause) (after : State) → Decides f s text refusal after →
+        (refusal ≡ refusal_beside (text_under s.log (f text)) f s.files h text v) × (after ≡ logged_beside (text_under s.log (f text)) f s text)
+    readable v told refusal after (inl z) = no_long z.long
+    readable v told refusal after (inr (inl z)) =
+        absurd (no_cause z.cause (ap fault_cause (sym (no_revision_fault text v z.fault told.stanzas told.reads z.faulty)) ∙ z.named))
+    readable v told refusal after (inr (inr z)) =
+        let same = same_revision text z.read v z.spells.stanzas told.stanzas z.spells.reads told.reads in
+        let one = one_history f s.files s.log z.history h z.spelled is in
+        (z.is ∙ ap (λ (y : Spelled). refusal_beside (text_under s.log (f text)) f s.files z.history text y) same ∙ ap (λ (g : List Revision). refusal_beside (text_under s.log (f text)) f s.files g text v) one, z.after)
+
+    pub is_merged : Steps f (MergeCall a b resolves) payload s o → IsMergedBy f s h decisions text o
+    is_merged does = by within.room (put does)
+      where
+        by : (text_under s.log (f text) ≡ Some text) ⊎ ((text_under s.log (f text) ≡ None) × (log_full h ≡ None)) → PutsRevision f text s o → IsMergedBy f s h decisions text o
+        by (inl under) z =
+            let there = spelled_held under in
+            let told = readable there.0 there.1 z.refusal z.after z.decides in
+            let refusal : z.refusal ≡ None = told.0 ∙ ap (λ v. refusal_beside v f s.files h text there.0) under ∙ ap (λ y. if y then None else Some (Collision (id_of (f text)))) ((bytes_decides text text).1 refl) in
+            let after : z.after ≡ s = told.1 ∙ ap (λ v. logged_beside v f s text) under in
+            inl (z.is ∙ ap (λ v. unless v s z.after (id_line (f text))) refusal ∙ ap (λ (y : State). unless None s y (id_line (f text))) after)
+        by (inr under) z =
+            let fresh = text_none f s.files s.log h (id_of (f text)) is under.0 in
+            let told = readable (merge_revision f h l r u) (spells fresh) z.refusal z.after z.decides in
+            let refusal : z.refusal ≡ None = told.0 ∙ ap (λ v. refusal_beside v f s.files h text (merge_revision f h l r u)) under.0 ∙ refusal_none fresh under.1 in
+            let after : z.after ≡ logged_beside None f s text = told.1 ∙ ap (λ v. logged_beside v f s text) under.0 in
+            inr (made_new fresh under.1 under.0 (z.is ∙ ap (λ v. unless v s z.after (id_line (f text))) refusal ∙ ap (λ (y : State). unless None s y (id_line (f text))) after))

@@ -1,0 +1,32 @@
+//! What a merge comes to, in the words of its conflicts: a law over the definitions of commands. Nothing here runs.
+//!
+//! The crate above relies on this: a merge that is in order changes nothing and answers exactly its conflicts where a list is left,
+//! and otherwise, within the limits, makes the revision whose tree was decided. So its status is Ok exactly where no list is left.
+#![tactic(auto)]
+
+ghost use Rattle.std.specs.Prelude.{◌≡◌, ℕ, Bool, List};
+ghost use Rattle.mtn_base.specs.declared.id.Id.{Id};
+ghost use Rattle.mtn_conflicts.specs.declared.lists.Conflicts.{Conflicts};
+ghost use Rattle.mtn_conflicts.specs.Lists.{AreConflictsOf, IsNone};
+ghost use Rattle.mtn_conflicts.specs.Result.{result_of};
+ghost use Rattle.mtn_history_laws.specs.History.{Revision};
+ghost use Rattle.mtn_headline.specs.Merging.{IsMergeInOrder, IsMergedBy, IsWithinLimits, MakesIds};
+ghost use Rattle.mtn_model.specs.Outcome.{Outcome};
+ghost use Rattle.mtn_model.specs.State.{State};
+ghost use Rattle.mtn_plans.specs.Plans.{IsUnborn, merge_text};
+ghost use Rattle.mtn_plans.specs.Sides.{left_of, right_of};
+ghost use Rattle.mtn_replay.specs.Lawful.{IsHistory, IsLawful};
+ghost use Rattle.mtn_resolve.specs.Overriding.{overridden};
+ghost use Rattle.mtn_step.specs.Step.{Steps, conflict_text, conflicted};
+ghost use Rattle.mtn_step.specs.declared.call.Call.{Call};
+
+/// A merge in order is decided by the lists after its resolutions alone.
+pub fn merges()
+    ensures conflicts { (f : List ℕ → List ℕ) (s : State) (h : List Revision) (a b : Id) (resolves : Bool) (payload : List ℕ) (o : Outcome) → IsHistory f s.files s.log h →
+        Steps f (Call.Merge a b resolves) payload s o → (order : IsMergeInOrder s h a b resolves payload) (d : Conflicts) → AreConflictsOf (overridden order.resolutions order.merge) d →
+        ¬ IsNone d → o ≡ conflicted s (conflict_text (left_of a b) (right_of a b) d) }
+    ensures merged { (f : List ℕ → List ℕ) (s : State) (h : List Revision) (a b x : Id) (resolves : Bool) (payload : List ℕ) (o : Outcome) → MakesIds f → IsLawful f s → IsHistory f s.files s.log h →
+        Steps f (Call.Merge a b resolves) payload s o → (order : IsMergeInOrder s h a b resolves payload) (d : Conflicts) → AreConflictsOf (overridden order.resolutions order.merge) d →
+        IsNone d → IsUnborn h (left_of a b) (right_of a b) x → IsWithinLimits f s h (left_of a b) (right_of a b) (result_of (overridden order.resolutions order.merge) x) →
+        IsMergedBy f s h (overridden order.resolutions order.merge) (merge_text f h (left_of a b) (right_of a b) (result_of (overridden order.resolutions order.merge) x)) o }
+{}

@@ -1,0 +1,11 @@
+pub mod None
+pub mod Comparing
+pub mod Making
+pub mod Plans
+pub mod Each
+pub mod Parents
+pub mod Unborn
+pub mod Picking
+pub mod Finding
+pub mod Damaging
+pub mod Hanging

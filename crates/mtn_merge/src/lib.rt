@@ -1,0 +1,25 @@
+//! Planning a merge of two revisions over a draft: its text, its conflicts, or why it is refused.
+//!
+//! A merge has two *sides*, of which the one with the lesser id is left. What the history decides of them is
+//! overridden by resolutions. Where conflicts are left, they are the answer; otherwise the live nodes make a
+//! tree, over an id that is no birth on either side, and the text of the merge has the canonical changesets
+//! from both sides to it.
+//!
+//! The crate above relies on this: [`plan`], [`plan_with`] and [`look`] answer exactly what the definitions of `mtn_plans` say
+//! over the history that a draft stands on, and leave the draft's state. No body relies on the history: what a
+//! history never has is answered as damage of a record.
+//!
+//! Cost: each side's roster is read once, and the draft remembers it; one walk between the sides; linear in
+//! both trees. The resulting tree is built once.
+#![tactic(auto)]
+
+mod births;
+mod dirs;
+mod given;
+mod made;
+mod planning;
+mod sides;
+mod text;
+
+pub use mtn_plans::Outcome;
+pub use planning::{look, plan, plan_with};

@@ -1,0 +1,75 @@
+// The tree of a merge without conflicts, and its text.
+ghost use Rattle.std.specs.Prelude.{◌≡◌, ◌≢◌, List, None, Err, IfErr, OnOk};
+ghost use Rattle.mtn_changeset_laws.specs.Changes.{or_else};
+ghost use Rattle.mtn_conflicts.specs.Lists.{AreClear};
+ghost use Rattle.mtn_conflicts.specs.Result.{ParentsAreDirs};
+ghost use Rattle.mtn_history.specs.Errors.{IfStoreDamage};
+ghost use Rattle.mtn_history_laws.specs.History.{Revision};
+ghost use Rattle.mtn_put_revision.specs.Finding.{IsRefusal};
+ghost use Rattle.mtn_replay.specs.Making.{too_long, too_many};
+ghost use Rattle.mtn_merge.specs.Plans.{Gives, IsMadeOf};
+ghost use Rattle.mtn_merge.specs.Sides.{IsSideOf};
+
+use crate::births::unborn;
+use crate::sides::Side;
+use crate::text::{Parent, revision_text};
+use mtn_base::{Cause, MAX_TEXT};
+use mtn_conflicts::result;
+use mtn_decide::Decisions;
+use mtn_history::{HistoryError, StoreError};
+use mtn_make_roster::{MakeError, within_limits};
+use mtn_plans::Outcome;
+use mtn_ports::Ident;
+use mtn_roster::Roster;
+use std::alloc::Global;
+
+// That a tree has not too much.
+fn limited(alloc: Global, tree: &Roster) -> Result<(), HistoryError>
+    ensures fine { OnOk result (or_else (too_many tree.now) (too_long tree.now) ≡ None) }
+    ensures refused { IfErr result (IsRefusal (or_else (too_many tree.now) (too_long tree.now))) }
+    ensures sound { IfErr result (λ e. IfStoreDamage e (λ _. ⊥)) }
+    ensures failed { result ≢ Err (HistoryError.Store StoreError.Failed) }
+{
+    match within_limits(alloc, tree) {
+        Ok(()) => Ok(()),
+        Err(MakeError::Refused(cause)) => Err(HistoryError::Refused(cause)),
+        Err(MakeError::Damaged) => Err(HistoryError::Store(StoreError::NoMemory)),
+        Err(MakeError::NoMemory) => Err(HistoryError::Store(StoreError::NoMemory)),
+    }
+}
+
+/// The text of the tree that decisions make, or the first limit that it is not within.
+pub fn merged<I: Ident>(
+    alloc: Global,
+    ident: &I,
+    left: &Side,
+    right: &Side,
+    decisions: &Decisions,
+) -> Result<Outcome, HistoryError>
+    requires clear { AreClear decisions.now }
+    requires dirs { ParentsAreDirs decisions.now.nodes }
+    ensures made { (h : List Revision) → IsSideOf h left.now → IsSideOf h right.now → Gives (IsMadeOf (I.meaning ident.now) h left.now.id right.now.id decisions.now) result }
+    ensures sound { IfErr result (λ e. IfStoreDamage e (λ _. ⊥)) }
+    ensures failed { result ≢ Err (HistoryError.Store StoreError.Failed) }
+{
+    let old_left = left.roster.marked().roster();
+    let old_right = right.roster.marked().roster();
+    let id = unborn(alloc, old_left, old_right, decisions.nodes())?;
+    let tree = result(alloc, decisions, id)?;
+    limited(alloc, &tree)?;
+    let left = Parent {
+        id: left.id,
+        tree: old_left,
+    };
+    let right = Parent {
+        id: right.id,
+        tree: old_right,
+    };
+    let text = revision_text(alloc, ident, &left, &right, &tree)?;
+    if text.as_slice().len() > MAX_TEXT {
+        return Err(HistoryError::Refused(Cause::TextTooLong {
+            length: text.as_slice().len() as u64,
+        }));
+    }
+    Ok(Outcome::Merged { text })
+}

@@ -1,0 +1,220 @@
+// The calls `plan` and `look`.
+ghost use Rattle.std.specs.Prelude.{◌≡◌, ◌<◌, List, ℕ, None, Err, IfOk, IfErr, IfSome, OnOk, option_copied};
+ghost use Rattle.mtn_conflicts.specs.ConflictText.{IsLesser};
+ghost use Rattle.mtn_conflicts.specs.Lists.{AreConflictsOf};
+ghost use Rattle.mtn_conflicts.specs.Result.{ParentsAreDirs};
+ghost use Rattle.mtn_history.specs.Damage.{IsDamage};
+ghost use Rattle.mtn_history.specs.Errors.{IfStoreDamage};
+ghost use Rattle.mtn_history.specs.Marked.{IsCounted};
+ghost use Rattle.mtn_history.specs.Stands.{IsFounded};
+ghost use Rattle.mtn_history_laws.specs.History.{Revision};
+ghost use Rattle.mtn_model.specs.State.{State};
+ghost use Rattle.mtn_plans.specs.Plans.{Ends, Looks, Plans};
+ghost use Rattle.mtn_plans.specs.Sides.{side_refusal};
+ghost use Rattle.mtn_ports.specs.Causes.{Rose};
+ghost use Rattle.mtn_ports.specs.Kept.{Stays, with_all};
+ghost use Rattle.mtn_put_revision.specs.Finding.{IsRefusal};
+ghost use Rattle.mtn_merge.specs.Given.{GivesResolutions, OverridesAll};
+ghost use Rattle.mtn_merge.specs.Plans.{AreOrdered, AreShown, Gives, MergesText};
+ghost use Rattle.mtn_merge.specs.Sides.{IsSideOf};
+
+use crate::dirs::parents_are_dirs;
+use crate::given::{read_resolutions, resolve};
+use crate::made::merged;
+use crate::sides::{Compared, sides_of};
+use mtn_base::Id;
+use mtn_conflicts::conflicts;
+use mtn_history::{Draft, HistoryError, StoreError};
+use mtn_plans::Outcome;
+use mtn_ports::{Ident, Keeper};
+use mtn_put_revision::roster_held;
+use mtn_resolve::Resolutions;
+use std::alloc::Global;
+
+// That two revisions may be merged; UnknownRevision for the first that is not held, or Related.
+fn tell_sides<K: Keeper>(
+    alloc: Global,
+    draft: &mut Draft<'_, K>,
+    a: Id,
+    b: Id,
+) -> Result<(), HistoryError>
+    ensures same_reference { draft.new.keeper.ghost_name ≡ draft.old.keeper.ghost_name }
+    ensures stays { Stays K.contents K.leaves K.faults draft.old.keeper.now draft.new.keeper.now }
+    ensures pending { draft.new.pending ≡ draft.old.pending }
+    ensures told { (f : List ℕ → List ℕ) (s : State) (d : IsFounded f (K.contents draft.new.keeper.now) draft.old.pending s) → OnOk result (side_refusal d.stands.history a b ≡ None) }
+    ensures refused { (f : List ℕ → List ℕ) (s : State) (d : IsFounded f (K.contents draft.new.keeper.now) draft.old.pending s) → IfErr result (IsRefusal (side_refusal d.stands.history a b)) }
+    ensures damaged { IfSome (K.contents draft.new.keeper.now) (λ c. IsCounted draft.old.pending c → IfErr result (λ e. IfStoreDamage e (IsDamage (with_all c draft.old.pending.batch)))) }
+    ensures failed { result ≡ Err (HistoryError.Store StoreError.Failed) → Rose (K.faults draft.old.keeper.now) (K.faults draft.new.keeper.now) }
+{
+    let _ = sides_of(alloc, draft, a, b)?;
+    Ok(())
+}
+
+/// The conflicts of a merge of two revisions, also where there are none; UnknownRevision for the first that is not held, or
+/// Related.
+pub fn look<K: Keeper>(
+    alloc: Global,
+    draft: &mut Draft<'_, K>,
+    a: Id,
+    b: Id,
+) -> Result<Outcome, HistoryError>
+    ensures same_reference { draft.new.keeper.ghost_name ≡ draft.old.keeper.ghost_name }
+    ensures stays { Stays K.contents K.leaves K.faults draft.old.keeper.now draft.new.keeper.now }
+    ensures pending { draft.new.pending ≡ draft.old.pending }
+    ensures looks { (f : List ℕ → List ℕ) (s : State) (d : IsFounded f (K.contents draft.new.keeper.now) draft.old.pending s) → Gives (Looks d.stands.history a b) result }
+    ensures shown { IfOk result AreShown }
+    ensures damaged { IfSome (K.contents draft.new.keeper.now) (λ c. IsCounted draft.old.pending c → IfErr result (λ e. IfStoreDamage e (IsDamage (with_all c draft.old.pending.batch)))) }
+    ensures failed { result ≡ Err (HistoryError.Store StoreError.Failed) → Rose (K.faults draft.old.keeper.now) (K.faults draft.new.keeper.now) }
+{
+    let Compared {
+        left,
+        right,
+        decisions: _,
+        conflicts,
+    } = sides_of(alloc, draft, a, b)?;
+    Ok(Outcome::Conflicted {
+        left: left.id,
+        right: right.id,
+        conflicts,
+    })
+}
+
+// What decisions that no resolution overrides any more come to: conflicts, or the text of their tree.
+fn ends<I: Ident, K: Keeper>(
+    alloc: Global,
+    ident: &I,
+    draft: &mut Draft<'_, K>,
+    compared: Compared,
+) -> Result<Outcome, HistoryError>
+    requires below { compared.left.at < draft.old.pending.count }
+    requires lesser { IsLesser compared.left.id compared.right.id }
+    requires conflicts { AreConflictsOf compared.decisions compared.conflicts }
+    requires dirs { (f : List ℕ → List ℕ) (s : State) (d : IsFounded f (K.contents draft.old.keeper.now) draft.old.pending s) → ParentsAreDirs compared.decisions.nodes }
+    ensures same_reference { draft.new.keeper.ghost_name ≡ draft.old.keeper.ghost_name }
+    ensures stays { Stays K.contents K.leaves K.faults draft.old.keeper.now draft.new.keeper.now }
+    ensures pending { draft.new.pending ≡ draft.old.pending }
+    ensures ends { (h : List Revision) → IsSideOf h compared.left → IsSideOf h compared.right → Gives (Ends (I.meaning ident.now) h compared.left.id compared.right.id compared.decisions) result }
+    ensures ordered { IfOk result AreOrdered }
+    ensures damaged { IfSome (K.contents draft.new.keeper.now) (λ c. IsCounted draft.old.pending c → IfErr result (λ e. IfStoreDamage e (IsDamage (with_all c draft.old.pending.batch)))) }
+    ensures failed { result ≡ Err (HistoryError.Store StoreError.Failed) → Rose (K.faults draft.old.keeper.now) (K.faults draft.new.keeper.now) }
+{
+    let Compared {
+        left,
+        right,
+        decisions,
+        conflicts,
+    } = compared;
+    if !conflicts.none() {
+        return Ok(Outcome::Conflicted {
+            left: left.id,
+            right: right.id,
+            conflicts,
+        });
+    }
+    if !parents_are_dirs(decisions.nodes()) {
+        return Err(HistoryError::Store(roster_held(draft, left.at)));
+    }
+    merged(alloc, ident, &left, &right, &decisions)
+}
+
+// The same sides with the decisions after resolutions, and their conflicts.
+fn overridden<K: Keeper>(
+    alloc: Global,
+    draft: &mut Draft<'_, K>,
+    compared: Compared,
+    resolutions: &Resolutions,
+) -> Result<Compared, HistoryError>
+    requires conflicts { AreConflictsOf compared.decisions compared.conflicts }
+    ensures same_reference { draft.new.keeper.ghost_name ≡ draft.old.keeper.ghost_name }
+    ensures stays { Stays K.contents K.leaves K.faults draft.old.keeper.now draft.new.keeper.now }
+    ensures pending { draft.new.pending ≡ draft.old.pending }
+    ensures overrides { (f : List ℕ → List ℕ) (s : State) → IsFounded f (K.contents draft.new.keeper.now) draft.old.pending s →
+        OverridesAll s.files compared.decisions compared.conflicts resolutions.now result }
+    ensures left { IfOk result (λ x. x.left ≡ compared.left) }
+    ensures right { IfOk result (λ x. x.right ≡ compared.right) }
+    ensures conflicts { IfOk result (λ x. AreConflictsOf x.decisions x.conflicts) }
+    ensures sound { IfErr result (λ e. IfStoreDamage e (λ _. ⊥)) }
+    ensures failed { result ≡ Err (HistoryError.Store StoreError.Failed) → Rose (K.faults draft.old.keeper.now) (K.faults draft.new.keeper.now) }
+{
+    let decisions = resolve(
+        alloc,
+        draft,
+        &compared.decisions,
+        &compared.conflicts,
+        resolutions,
+    )?;
+    let conflicts = conflicts(alloc, &decisions)?;
+    Ok(Compared {
+        left: compared.left,
+        right: compared.right,
+        decisions,
+        conflicts,
+    })
+}
+
+/// What a merge of two revisions comes to: the text of the merged revision, or the conflicts that resolutions leave. It is
+/// refused, in this order, for the first revision that is not held; for two that are related; for the first resolution that
+/// does not fit; for the first content that is picked and not held; and where no conflict is left, for a tree of too many
+/// nodes, a path that is too long, and a text of more than 64 MiB. The draft's state stays.
+pub fn plan<I: Ident, K: Keeper>(
+    alloc: Global,
+    ident: &I,
+    draft: &mut Draft<'_, K>,
+    a: Id,
+    b: Id,
+    resolutions: &Resolutions,
+) -> Result<Outcome, HistoryError>
+    ensures same_reference { draft.new.keeper.ghost_name ≡ draft.old.keeper.ghost_name }
+    ensures stays { Stays K.contents K.leaves K.faults draft.old.keeper.now draft.new.keeper.now }
+    ensures pending { draft.new.pending ≡ draft.old.pending }
+    ensures plans { (s : State) (d : IsFounded (I.meaning ident.now) (K.contents draft.new.keeper.now) draft.old.pending s) →
+        Gives (Plans (I.meaning ident.now) s.files d.stands.history a b resolutions.now) result }
+    ensures ordered { IfOk result AreOrdered }
+    ensures damaged { IfSome (K.contents draft.new.keeper.now) (λ c. IsCounted draft.old.pending c → IfErr result (λ e. IfStoreDamage e (IsDamage (with_all c draft.old.pending.batch)))) }
+    ensures failed { result ≡ Err (HistoryError.Store StoreError.Failed) → Rose (K.faults draft.old.keeper.now) (K.faults draft.new.keeper.now) }
+{
+    let compared = sides_of(alloc, draft, a, b)?;
+    if resolutions.items().is_empty() {
+        return ends(alloc, ident, draft, compared);
+    }
+    let compared = overridden(alloc, draft, compared, resolutions)?;
+    ends(alloc, ident, draft, compared)
+}
+
+// The resolutions of a text, or none where there is no text.
+fn given(alloc: Global, text: Option<&[u8]>) -> Result<Resolutions, HistoryError>
+    ensures { GivesResolutions (option_copied text.entry) result }
+{
+    match text {
+        Some(text) => read_resolutions(alloc, text),
+        None => Ok(Resolutions::new(Vec::new(alloc))),
+    }
+}
+
+/// The same with the resolutions that a text spells, or none where there is no text. TextTooLong and the faults of the text come
+/// behind UnknownRevision and Related.
+pub fn plan_with<I: Ident, K: Keeper>(
+    alloc: Global,
+    ident: &I,
+    draft: &mut Draft<'_, K>,
+    a: Id,
+    b: Id,
+    text: Option<&[u8]>,
+) -> Result<Outcome, HistoryError>
+    ensures same_reference { draft.new.keeper.ghost_name ≡ draft.old.keeper.ghost_name }
+    ensures stays { Stays K.contents K.leaves K.faults draft.old.keeper.now draft.new.keeper.now }
+    ensures pending { draft.new.pending ≡ draft.old.pending }
+    ensures merges { (s : State) (d : IsFounded (I.meaning ident.now) (K.contents draft.new.keeper.now) draft.old.pending s) →
+        Gives (MergesText (I.meaning ident.now) s.files d.stands.history a b (option_copied text.entry)) result }
+    ensures ordered { IfOk result AreOrdered }
+    ensures damaged { IfSome (K.contents draft.new.keeper.now) (λ c. IsCounted draft.old.pending c → IfErr result (λ e. IfStoreDamage e (IsDamage (with_all c draft.old.pending.batch)))) }
+    ensures failed { result ≡ Err (HistoryError.Store StoreError.Failed) → Rose (K.faults draft.old.keeper.now) (K.faults draft.new.keeper.now) }
+{
+    match given(alloc, text) {
+        Ok(resolutions) => plan(alloc, ident, draft, a, b, &resolutions),
+        Err(error) => {
+            tell_sides(alloc, draft, a, b)?;
+            Err(error)
+        }
+    }
+}
