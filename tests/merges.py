@@ -14,9 +14,19 @@ ROOT = (None, None)
 COMPS = ['a', 'b', 'c', '_MTN']
 
 
+def parts(name):
+    """The birth of a node and its path there. A case writes both as one word, in which a revision is a digit."""
+    return name if isinstance(name, tuple) else tuple(name.split(':', 1))
+
+
 def order(name):
-    birth, path = name.split(':', 1)
+    birth, path = parts(name)
     return birth, [comp.encode() for comp in path.split('/')] if path else []
+
+
+def id_value(word):
+    """An id as it is printed; a digit stands for the id of twenty such bytes."""
+    return bracketed(('0' + word) * 20 if len(word) == 1 else word)
 
 
 class History:
@@ -146,6 +156,67 @@ def conflicts(nodes, pending):
     return made
 
 
+class Resolution:
+    """What is resolved of a node: 'drop', 'keep', 'slot', 'content', 'attr_set' or 'attr_clear'; the key of an attribute; and the
+    slot, the content or the value that it gets."""
+
+    def __init__(self, kind, name, key=None, given=None):
+        self.kind, self.name, self.key, self.given = kind, name, key, given
+
+    def stanza(self):
+        node = node_values(self.name)
+        if self.kind == 'slot':
+            above, comp = self.given
+            return [('slot', *node), ('into', *(('[]', '""') if above is None else node_values(above))), ('name', quoted(comp or ''))]
+        if self.kind == 'content':
+            return [('content', *node), ('pick', id_value(self.given))]
+        if self.kind == 'attr_set':
+            return [('attr_set', *node, quoted(self.key)), ('value', quoted(self.given))]
+        return [(self.kind, *node, *([quoted(self.key)] if self.kind == 'attr_clear' else []))]
+
+    def fault(self, nodes, pending, found):
+        """Why it does not fit these decisions and their conflicts; none where it does."""
+        node, given = nodes.get(self.name), self.given
+        if node is None and self.name not in pending or self.kind == 'slot' and given != ROOT and given[0] not in nodes:
+            return 'UnknownNode'
+        if self.kind == 'slot':
+            flat = self.name if given == ROOT else given[0]
+            if flat not in nodes or nodes[flat].content is not None:
+                return 'NotADirectory'
+        if self.kind in ('drop', 'slot'):
+            fits = any(title not in ('attribute', 'content') for title, _ in found)
+        elif self.kind == 'keep':
+            fits = self.name in pending
+        elif self.kind == 'content':
+            fits = node is not None and node.content is not None and len(node.content) == 2
+        else:
+            fits = node is not None and len(node.attributes.get(self.key, ())) == 2
+        return None if fits else 'NotAConflict'
+
+
+def overridden(nodes, pending, resolutions):
+    """The decisions after resolutions, each of which fits the decisions before any."""
+    kinds = {(resolution.kind, resolution.name) for resolution in resolutions}
+    new = {name: decision for name, decision in nodes.items() if ('drop', name) not in kinds}
+    for name, (_, node) in pending.items():
+        if ('keep', name) in kinds:
+            keys = {key: (value,) for key, value in node.attributes.items() if value is not None}
+            new[name] = Decision(((node.parent, node.comp),), (node.content[1:],), keys, True)
+    new = {name: Decision(new[name].slot, new[name].content, dict(new[name].attributes), new[name].reborn) for name in sorted(new, key=order)}
+    for resolution in resolutions:
+        node = new.get(resolution.name)
+        if node is None:
+            continue
+        if resolution.kind == 'slot':
+            node.slot = (resolution.given,)
+        elif resolution.kind == 'content':
+            node.content = (resolution.given,)
+        elif resolution.kind in ('attr_set', 'attr_clear'):
+            node.attributes[resolution.key] = (resolution.given,)
+    left = {name: what for name, what in pending.items() if ('drop', name) not in kinds and ('keep', name) not in kinds}
+    return new, left
+
+
 def slot_words(slot):
     return '- -' if slot == ROOT else ' '.join(slot)
 
@@ -176,7 +247,8 @@ def item_line(title, item):
 
 
 def node_values(name):
-    return bracketed(('0' + name[0]) * 20), quoted(name[2:])
+    birth, path = parts(name)
+    return id_value(birth), quoted(path)
 
 
 def item_stanza(title, item):
@@ -197,15 +269,15 @@ def item_stanza(title, item):
             if title not in ('invalid_name', 'directory_loop'):
                 stanza.append((prefix + 'name', quoted(comp or '')))
         elif side[0] == 'content':
-            stanza.append((prefix + 'content', bracketed(('0' + side[1]) * 20)))
+            stanza.append((prefix + 'content', id_value(side[1])))
         else:
             stanza.append((prefix + 'cleared', quoted(key)) if side[1] is None else (prefix + 'value', quoted(side[1])))
     return stanza
 
 
 def text(left, right, found):
-    sides = [('left', bracketed(('0' + left) * 20)), ('right', bracketed(('0' + right) * 20))]
-    return spell([HEAD, sides] + [item_stanza(*conflict) for conflict in found]).decode().rstrip('\n').split('\n')
+    """The text of conflicts."""
+    return spell([HEAD, [('left', id_value(left)), ('right', id_value(right))]] + [item_stanza(*conflict) for conflict in found])
 
 
 def result(nodes, found, new):
@@ -267,7 +339,7 @@ def answer(lines, line):
     if words[0] == 'none':
         return ['some' if found else 'none']
     if words[0] == 'write':
-        return text(words[1], words[2], found) if words[1] < words[2] else ['no answer']
+        return text(words[1], words[2], found).decode().rstrip('\n').split('\n') if words[1] < words[2] else ['no answer']
     return result(nodes, found, words[3]) or ['no answer']
 
 

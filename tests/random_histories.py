@@ -1,17 +1,22 @@
 #!/usr/bin/env python3
 """Makes random histories, merges among them, and compares each roster that the built program prints with one that is worked
 out here over the whole graph: which revisions set a value, and which of these a later one has not overruled. Nothing here
-looks at the marks of a parent, as the program does. Each history is then accepted in two more orders: every command but those
-that answer in the order of the log answers alike over all three, before and behind one more revision. Takes a first seed and
-how many histories (1 and 3 where not given); ends with 'N passed, M failed'."""
+looks at the marks of a parent, as the program does. Revisions are merged by the program too, in both orders of its words and
+with random resolutions: its conflicts, its refusals and its texts are those of the model in merges.py. Each history is then
+accepted in two more orders: every command but those that answer in the order of the log answers alike over all three, before
+and behind one more revision. Takes a first seed and how many histories (1 and 3 where not given); ends with 'N passed, M
+failed'."""
 import os
 import random
 import sys
 import tempfile
 
+import changesets
+import merges
 import revisions
 import sessions
-from revisions import Store, add_dir, add_file, clear, delete, manifest, patch, rename, revision, roster, set_attr, sha, two, verdict
+from merges import ROOT, Resolution
+from revisions import HEAD, Store, add_dir, add_file, clear, delete, manifest, patch, rename, revision, roster, set_attr, sha, spell, two, verdict
 
 CONTENTS = [b'abc', b'a', b'b', b'c', b'']
 KEYS = ['k', 'l']
@@ -57,6 +62,25 @@ def below(tree, name):
 
 def live(node):
     return {key: value for key, value in node.attributes.items() if value is not None}
+
+
+class Graph(merges.History):
+    """A history as the model of merges takes it, with what it asks again and again worked out once."""
+
+    def __init__(self, history):
+        super().__init__([])
+        self.parents, self.above, self.known = history.parents, history.above, {}
+        for at, tree in history.trees.items():
+            self.trees[at] = {name: changesets.Node(node.parent, None if node.parent is None else node.comp, None if node.content is None else '0' + node.content, node.attributes)
+                              for name, node in tree.items()}
+
+    def ancestors(self, rev):
+        return self.above[rev]
+
+    def is_event(self, rev, scalar):
+        if (rev, scalar) not in self.known:
+            self.known[rev, scalar] = super().is_event(rev, scalar)
+        return self.known[rev, scalar]
 
 
 class History:
@@ -145,15 +169,19 @@ class History:
         stanzas += [set_attr(path, key, value) for path in all_paths for key, value in sorted(live(new[found[path]]).items()) if before(path).get(key) != value]
         return stanzas
 
+    def spelled(self, tree, parents):
+        """The text of a revision, with the shape and the attributes of its tree."""
+        shape = {path: tree[name].content for path, name in paths(tree).items()}
+        attributes = {path: sorted(live(tree[name]).items()) for path, name in paths(tree).items()}
+        edges = [(parent, self.changes(self.trees[parent], tree)) for parent in parents] or [('', self.changes({}, tree))]
+        return revision(shape, *(edges if len(edges) == 1 else two(*edges)), attributes=attributes), shape, attributes
+
     def commit(self, tree, parents):
         for name, node in tree.items():
             # (what is set and cleared in one revision was never there)
             known = {key for parent in parents if name in self.trees[parent] for key in self.trees[parent][name].attributes}
             node.attributes = {key: value for key, value in node.attributes.items() if value is not None or key in known}
-        shape = {path: tree[name].content for path, name in paths(tree).items()}
-        attributes = {path: sorted(live(tree[name]).items()) for path, name in paths(tree).items()}
-        edges = [(parent, self.changes(self.trees[parent], tree)) for parent in parents] or [('', self.changes({}, tree))]
-        text = revision(shape, *(edges if len(edges) == 1 else two(*edges)), attributes=attributes)
+        text, shape, attributes = self.spelled(tree, parents)
         made = sha(text)
         if made in self.trees:
             return
@@ -204,6 +232,93 @@ class History:
         if self.sane(tree) is None or any(name[0] != '' and name not in a and name not in b for name in tree):
             return
         self.commit(tree, [left, right])
+
+    # Merges by the program.
+
+    def try_merge(self):
+        """Merges two revisions by the program; where conflicts are left, with random resolutions too."""
+        left, right = sorted(self.chance.sample(self.ids[-10:], 2)) if len(self.ids) > 1 else self.ids * 2
+        for older, newer in ((left, right), (right, left)):
+            if older in self.above[newer]:
+                self.merged(left, right, 1, ('refused Related %s %s\n' % (older, newer)).encode())
+                return
+        nodes, pending = merges.decided(Graph(self), left, right)
+        found = merges.conflicts(nodes, pending)
+        shown = merges.text(left, right, found)
+        for words in ((left, right), (right, left)):
+            self.store.answers('conflicts of %s and %s' % words, ['show_conflicts', *words], 0, shown.decode())
+        self.settled(left, right, nodes, pending, found, None)
+        for _ in range(4 if found else 1):
+            resolutions = self.resolutions(nodes, pending, found)
+            faults = [(number, resolution.fault(nodes, pending, found)) for number, resolution in enumerate(resolutions, 2)]
+            faults = ['%s %d' % (fault, number) for number, fault in faults if fault is not None]
+            faults += ['UnknownFile ' + resolution.given for resolution in resolutions if resolution.kind == 'content' and resolution.given == sha(b'none')]
+            text = spell([HEAD] + [resolution.stanza() for resolution in resolutions])
+            if faults:
+                self.merged(left, right, 1, ('refused %s\n' % faults[0]).encode(), text)
+            else:
+                new, still = merges.overridden(nodes, pending, resolutions)
+                self.settled(left, right, new, still, merges.conflicts(new, still), text)
+
+    def merged(self, left, right, status, output, resolved=None):
+        """Both orders of the words have this status and this output; without success the store is as it was."""
+        before = self.store.records() if status else None
+        for words in ((left, right), (right, left)):
+            ended = self.store.ask('merge', *([] if resolved is None else ['--resolve']), *words, given=resolved or b'')
+            verdict('merge of %s and %s with %r: %r, not %r' % (*words, resolved, ended, (status, output)), ended == (status, output, b''))
+        verdict('and nothing is kept', before is None or self.store.records() == before)
+
+    def settled(self, left, right, nodes, pending, found, resolved):
+        """Decisions come to these conflicts, or to a revision that is put."""
+        if found:
+            self.merged(left, right, 3, merges.text(left, right, found), resolved)
+            return
+        tree = self.tree_of(nodes)
+        text, _, _ = self.spelled(tree, [left, right])
+        self.merged(left, right, 0, sha(text).encode() + b'\n', resolved)
+        self.store.answers('the text of a merge', ['get_revision', sha(text)], 0, text.decode())
+        self.commit(tree, [left, right])
+
+    def tree_of(self, nodes):
+        """The tree of decisions without conflicts; what is reborn has its name from where it stands now."""
+        def path(name):
+            above, comp = nodes[name].slot[0]
+            return '' if above is None else '/'.join(filter(None, [path(above), comp]))
+        names = {name: ('', path(name)) if decision.reborn else name for name, decision in nodes.items()}
+        tree = {}
+        for name, decision in nodes.items():
+            above, comp = decision.slot[0]
+            attributes = {key: values[0] for key, values in decision.attributes.items()}
+            tree[names[name]] = Node(names[name], None if above is None else names[above], comp or '', None if decision.content is None else decision.content[0], attributes)
+        return tree
+
+    def resolutions(self, nodes, pending, found):
+        """One or two for each of most conflicts, and at times one that speaks of something else; no two speak of the same."""
+        made = []
+        directories = [name for name, decision in nodes.items() if decision.content is None]
+        for title, item in found:
+            if self.chance.random() < 0.9:
+                made += self.resolution(title, item, directories)
+        if self.chance.random() < 0.15:
+            name = self.chance.choice([*nodes, *pending, (sha(b'none'), 'n')])
+            made.append(self.chance.choice([Resolution('drop', name), Resolution('keep', name), Resolution('content', name, given=sha(b'a')), Resolution('attr_clear', name, 'k'),
+                                            Resolution('slot', name, given=(self.chance.choice([*nodes, name]), 'z')), Resolution('slot', name, given=ROOT)]))
+        self.chance.shuffle(made)
+        apart = {('life' if resolution.kind in ('drop', 'keep') else resolution.kind[:4], resolution.name, resolution.key): resolution for resolution in made}
+        return list(apart.values())
+
+    def resolution(self, title, item, directories):
+        if item is None:
+            return [Resolution('slot', self.chance.choice(directories), given=ROOT)] if directories else []
+        name, key, *_ = item
+        place = Resolution('slot', name, given=(self.chance.choice(directories), self.chance.choice('abcdefghijklmnop'))) if directories else Resolution('drop', name)
+        if title == 'attribute':
+            return [Resolution('attr_clear', name, key) if self.chance.random() < 0.3 else Resolution('attr_set', name, key, self.chance.choice(['v', 'x']))]
+        if title == 'content':
+            return [Resolution('content', name, given=sha(b'none') if self.chance.random() < 0.1 else self.some_content())]
+        if title == 'dropped_modified':
+            return self.chance.choice([[Resolution('drop', name)], [Resolution('keep', name)], [Resolution('keep', name), place]])
+        return [Resolution('drop', name) if self.chance.random() < 0.3 else place]
 
     def take_slot(self, tree, node):
         held = tree[node.name]
@@ -306,7 +421,7 @@ class History:
         for at in self.ids + [sha(b'none')]:
             other = chance.choice(self.ids)
             asked += [[word, at] for word in ('get_revision', 'get_manifest_of', 'get_roster', 'parents', 'children', 'ancestors', 'descendents')]
-            asked += [[word, at, other] for word in ('common_ancestors', 'erase_ancestors', 'ancestors', 'descendents')]
+            asked += [[word, at, other] for word in ('common_ancestors', 'erase_ancestors', 'ancestors', 'descendents', 'show_conflicts')]
             for path in sorted(paths(self.trees[at])) if at in self.trees else ['']:
                 asked += [['get_content_changed', at, path], ['get_corresponding_path', at, path, other]]
         return asked
@@ -320,7 +435,8 @@ class History:
         asked = b''.join(sessions.request(*words) for words in self.questions(chance))
         last = self.ids[-1]
         # One more revision is put behind the questions, and one that no order accepts; then they are asked again.
-        grown = asked + sessions.request('put_revision', self.texts[last]) + sessions.request('put_revision', b'no revision') + asked
+        merged = b''.join(sessions.request('merge', at, chance.choice(self.ids)) for at in self.ids)
+        grown = asked + sessions.request('put_revision', self.texts[last]) + sessions.request('put_revision', b'no revision') + merged + asked
         orders = [[at for at in order if at != last] for order in (self.ids, self.another_order(chance), self.another_order(chance))]
         answers = []
         for at, order in enumerate(orders):
@@ -340,7 +456,7 @@ def main():
             history = History(Store(folder, 'seed%d' % number), random.Random(number))
             history.root()
             for _ in range(30):
-                history.chance.choice([history.child, history.child, history.merge])()
+                history.chance.choice([history.child, history.child, history.merge, history.try_merge])()
             verdict('history %d has merges' % number, any(len(parents) == 2 for parents in history.parents.values()))
             history.compare_orders(folder, number)
     print('%d passed, %d failed' % (revisions.passed, revisions.failed))

@@ -22,6 +22,10 @@ Commands:
   get_corresponding_path REV PATH REV
                        prints where the node at PATH of the first revision
                        stands in the second, or nothing where it is not there
+  merge REV REV        accepts the merge of two revisions; prints its id, or the
+                       conflicts. With --resolve the input is resolutions
+  show_conflicts REV REV
+                       prints the conflicts of such a merge
 
 Queries of the graph; each prints ids, one a line, in ascending order unless it
 says log order, which is that of acceptance:
@@ -42,9 +46,9 @@ Many commands at one opening of the store:
   stdio                done request by request; the input is requests, each `l`,
                        its words and `e`, a word its size in decimal, `:` and
                        its bytes, as l8:put_file3:abce. The last word of
-                       put_file and put_revision is their input. The answer to
-                       request N, counted from 0, is N:m:SIZE:OUTPUT and
-                       N:l:1:STATUS
+                       put_file, put_revision and merge --resolve is their
+                       input. The answer to request N, counted from 0, is
+                       N:m:SIZE:OUTPUT and N:l:1:STATUS
 
 FILE is the id of a file, REV that of a revision: 40 lower-case hexadecimal
 digits, the SHA-1 of its bytes, of its text. PATH is components joined by `/`,
@@ -110,6 +114,24 @@ get_corresponding_path REV PATH OTHER
   or nothing where it is not there.
   Refused: UnknownRevision, NoSuchPath.
 
+merge REV REV
+merge --resolve REV REV <RESOLUTIONS
+  Accepts the merge of two revisions, in either order, of which neither is an
+  ancestor of the other: what the history decides of each node, its name, its
+  content and its attributes. With --resolve standard input says what is decided
+  instead of conflicts (docs/FORMATS.md has its form).
+  Prints the id of the merged revision; or, with status 3, the conflicts, and
+  nothing is kept.
+  Refused: the first of UnknownRevision, Related, then of the resolutions
+  TextTooLong, NotText, BadStanza, BadOrder, Repeated, UnknownNode,
+  NotADirectory, NotAConflict, UnknownFile, and where no conflict is left
+  TooManyNodes, PathTooLong, TextTooLong, Collision, LogFull.
+
+show_conflicts REV REV
+  Prints the conflicts that a merge of two revisions has without resolutions,
+  also where it has none, and keeps nothing.
+  Refused: UnknownRevision, Related.
+
 parents REV
   Prints the parents of a revision, ascending.
   Refused: UnknownRevision.
@@ -159,7 +181,7 @@ graph
 stdio <REQUESTS
   Does many commands at one opening of the store. Standard input is requests,
   each `l`, its words and `e`; a word is its size in decimal, `:` and its bytes.
-  The last word of put_file and put_revision is their input.
+  The last word of put_file, put_revision and merge --resolve is their input.
   Prints for request N, counted from 0, N:m:SIZE:OUTPUT and N:l:1:STATUS.
   Refused: BadRequest (with the number, counted from 1, of the first request that
   is not whole and right; nothing is done then).";
