@@ -25,6 +25,12 @@ pub sound_error : {T : Type 0} (told : Option Contents) (p : Pending) (r : Resul
 sound_error None p r e is sound = tt
 sound_error (Some c) p r e is sound = λ counts. subst (λ y. IfErr y (λ x. IfStoreDamage x (IsDamage (with_all c p.batch)))) (sym is) (sound_at c p e sound)
 
+-- what a call comes to that has none
+pub sound_result : {T : Type 0} (told : Option Contents) (p : Pending) (r : Result T HistoryError) → IfErr r (λ e. IfStoreDamage e (λ _. ⊥)) → IfSome told (λ c. IsCounted p c → IfErr r (λ x. IfStoreDamage x (IsDamage (with_all c p.batch))))
+sound_result None p r sound = tt
+sound_result (Some c) p (Ok x) sound = λ counts. tt
+sound_result (Some c) p (Err e) sound = λ counts. sound_at c p e sound
+
 pub not_failed : {T : Type 0} (r : Result T HistoryError) (e : HistoryError) → r ≡ Err e → (e ≡ Store Failed → ⊥) → r ≡ Err (Store Failed) → ⊥
 not_failed r e is never at = never (let same : e ≡ Store Failed = let t = sym is ∙ at in cc in same)
 

@@ -33,10 +33,9 @@ side_place h id side found = ap (place_of h) (sym found.0) ∙ found.1.place
 -- what was compared, under the names that the words have
 pub compared_sides : (h : List Revision) (a b l r : Id) → left_of a b ≡ l → right_of a b ≡ r → side_refusal h a b ≡ related h (left_of a b) (right_of a b) → (res : Result Compared HistoryError) →
     Compares h l r res → FindsSides h a b res
-compared_sides h a b l r il ir known (Ok x) is =
-    (
-      known ∙ ap (λ i. related h i (right_of a b)) il ∙ ap (λ i. related h l i) ir ∙ is.0,
-      subst (λ i. AreCompared h i (right_of a b) x) (sym il) (subst (λ i. AreCompared h l i x) (sym ir) is.1),
-    )
+compared_sides h a b l r il ir known (Ok x) is = (
+  known ∙ ap (λ i. related h i (right_of a b)) il ∙ ap (λ i. related h l i) ir ∙ is.0,
+  subst (λ i. AreCompared h i (right_of a b) x) (sym il) (subst (λ i. AreCompared h l i x) (sym ir) is.1),
+)
 compared_sides h a b l r il ir known (Err (Refused cause)) is = known ∙ ap (λ i. related h i (right_of a b)) il ∙ ap (λ i. related h l i) ir ∙ is
 compared_sides h a b l r il ir known (Err (Store e)) is = tt

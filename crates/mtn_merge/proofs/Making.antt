@@ -77,7 +77,7 @@ module _ (f : List ℕ → List ℕ) (h : List Revision) (left right : Side) (m 
       t,
       makes,
       ap (λ x. Ok (Merged x)) (same ∙ text_is)
-      ∙ sym (ap (λ o. merged_or o (merge_text f h left.id right.id t)) (limit_is ∙ ap (λ (b : Bool). if b then Some (TextTooLong (length text)) else None) e)),
+          ∙ sym (ap (λ o. merged_or o (merge_text f h left.id right.id t)) (limit_is ∙ ap (λ (b : Bool). if b then Some (TextTooLong (length text)) else None) e)),
     )
 
   pub refused_made : (e : HistoryError) → IsRefusal (or_else (too_many t) (too_long t)) e → Gives (IsMadeOf f h left.id right.id m) (Err e)

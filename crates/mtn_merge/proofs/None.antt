@@ -43,7 +43,7 @@ all_living m = ap (λ l. l ++ map reborn_of (filter (λ (p : Pending). is_kept [
 pub not_overridden : (m : Merge) → IsInOrder m → overridden [] m ≡ m
 not_overridden m order =
     let nodes = ap (λ l. ordered name_cmp (λ (d : Decision). d.name) (map (new_node []) l)) (all_living m) ∙ ap (ordered name_cmp (λ (d : Decision). d.name)) (same_nodes m.nodes)
-        ∙ sym (sorted_is name_cmp (λ (d : Decision). d.name) names_total same_name same_name-is same_name-self exact_names m.nodes m.nodes (IsPermutation-refl m.nodes)
-        (rising_differ name_cmp (λ (d : Decision). d.name) names_total same_name same_name-is same_name-self exact_names m.nodes order.names) order.names) in
+    ∙ sym (sorted_is name_cmp (λ (d : Decision). d.name) names_total same_name same_name-is same_name-self exact_names m.nodes m.nodes (IsPermutation-refl m.nodes)
+    (rising_differ name_cmp (λ (d : Decision). d.name) names_total same_name same_name-is same_name-self exact_names m.nodes order.names) order.names) in
     let pending = all_pending m.pending in
     λ i. record { nodes = nodes i; pending = pending i }

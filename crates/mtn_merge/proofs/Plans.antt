@@ -1,24 +1,27 @@
 -- What the calls answer is the plan of the definitions.
-use Rattle.std.proofs.Common.{◌≡◌, ℕ, Bool, true, false, List, [], Option, Some, None, Result, Ok, Err, refl, sym, ◌∙◌, ap, subst, inl, inr}
+use Rattle.std.specs.Prelude.{IfOk}
+use Rattle.std.proofs.Common.{◌≡◌, ◌≢◌, ℕ, Bool, true, false, List, [], Option, Some, None, Result, Ok, Err, refl, sym, ◌∙◌, ap, subst, inl, inr}
 use Rattle.mtn_base.specs.declared.id.Id.{Id}
 use Rattle.mtn_base.specs.declared.refusal.Cause.{Cause}
 use Rattle.mtn_conflicts.specs.Lists.{AreConflictsOf, IsNone}
 use Rattle.mtn_conflicts.specs.declared.lists.Conflicts.{Conflicts}
 use Rattle.mtn_decide.specs.Decisions.{IsInOrder, Merge}
+use Rattle.mtn_history.specs.Errors.{IfStoreDamage}
 use Rattle.mtn_history.specs.declared.errors.HistoryError.{HistoryError}
 use Rattle.mtn_history.specs.declared.errors.HistoryError.TheVariants.{Refused, Store}
+use Rattle.mtn_history.specs.declared.errors.StoreError.TheVariants.{Failed, Damaged, NoMemory}
 use Rattle.mtn_history_laws.specs.History.{Revision}
 use Rattle.mtn_model.specs.Table.{Table}
 use Rattle.mtn_plans.specs.Given.{IsGiven}
 use Rattle.mtn_plans.specs.Plans.{Ends, Looks, Merges, Plan, Plans, PlansPayload, PlansSides, Unless}
 use Rattle.mtn_plans.specs.Sides.{left_of, right_of, side_refusal}
 use Rattle.mtn_plans.specs.declared.outcome.Outcome.{Outcome}
-use Rattle.mtn_plans.specs.declared.outcome.Outcome.TheVariants.{Conflicted}
+use Rattle.mtn_plans.specs.declared.outcome.Outcome.TheVariants.{Merged, Conflicted}
 use Rattle.mtn_put_revision.specs.Finding.{IsRefusal}
 use Rattle.mtn_resolve.specs.declared.resolution.Resolution.{Resolution}
 use Rattle.mtn_merge.proofs.None.{not_overridden}
 use Rattle.mtn_merge.specs.Given.{GivesResolutions, Overrides}
-use Rattle.mtn_merge.specs.Plans.{Gives, IsMadeOf, MergesText}
+use Rattle.mtn_merge.specs.Plans.{AreOrdered, Gives, IsMadeOf, IsText, MergesText}
 use Rattle.mtn_merge.specs.Sides.{AreCompared, FindsSides}
 use Rattle.mtn_merge.specs.declared.sides.Compared.{Compared}
 
@@ -27,6 +30,11 @@ unless_some o cause Is e = subst (λ u. Unless u Is (Err cause)) (sym e) refl
 
 pub unless_none : (o : Option Cause) (Is : Plan → Type 0) (plan : Plan) → o ≡ None → Is plan → Unless o Is plan
 unless_none o Is plan e is = subst (λ u. Unless u Is plan) (sym e) is
+
+pub texts_are_ordered : (r : Result Outcome HistoryError) → IfOk r IsText → IfOk r AreOrdered
+texts_are_ordered (Ok (Merged text)) is = tt
+texts_are_ordered (Ok (Conflicted left right conflicts)) is = absurd is
+texts_are_ordered (Err e) is = tt
 
 pub gives_map : (Is Js : Plan → Type 0) (r : Result Outcome HistoryError) → ((plan : Plan) → Is plan → Js plan) → Gives Is r → Gives Js r
 gives_map Is Js (Ok outcome) f is = f (Ok outcome) is
@@ -118,3 +126,11 @@ module _ (f : List ℕ → List ℕ) (files : Table) (h : List Revision) (a b : 
   pub given_told : (text : Option (List ℕ)) (e : HistoryError) → IsRefusal (side_refusal h a b) e → Gives (MergesText f files h a b text) (Err e)
   given_told (Some text) e is = refused_gives h a b (PlansPayload f h (left_of a b) (right_of a b) files true text) e is
   given_told None e is = refused_gives h a b (PlansPayload f h (left_of a b) (right_of a b) files false []) e is
+
+-- what a text is refused for is no damage and no failure
+pub given_sound : (text : Option (List ℕ)) (e : HistoryError) → GivesResolutions text (Err e) → IfStoreDamage e (λ _. ⊥) × (e ≢ Store Failed)
+given_sound (Some text) (Refused cause) is = (tt, λ same. cc)
+given_sound (Some text) (Store Failed) is = absurd cc
+given_sound (Some text) (Store NoMemory) is = (tt, λ same. cc)
+given_sound (Some text) (Store (Damaged d)) is = absurd cc
+given_sound None e is = absurd is

@@ -29,6 +29,11 @@ abbrev pub AreOrdered : Outcome → Type 0
 AreOrdered (Merged text) = ⊤
 AreOrdered (Conflicted left right conflicts) = IsLesser left right
 
+-- it is no list of conflicts
+abbrev pub IsText : Outcome → Type 0
+IsText (Merged text) = ⊤
+IsText (Conflicted left right conflicts) = ⊥
+
 -- only conflicts are shown
 abbrev pub AreShown : Outcome → Type 0
 AreShown (Merged text) = ⊥

@@ -15,9 +15,7 @@ use mtn_conflicts::Conflicts;
 use mtn_decide::Decisions;
 use mtn_history::{Draft, HistoryError, StoreError};
 use mtn_ports::Keeper;
-use mtn_resolve::{
-    OverrideError, Resolution, ResolveTextError, Resolutions, override_with, read,
-};
+use mtn_resolve::{OverrideError, Resolution, Resolutions, ResolveTextError, override_with, read};
 use std::alloc::Global;
 
 // What a text that spells no resolutions is refused for.

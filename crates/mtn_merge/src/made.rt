@@ -1,5 +1,5 @@
 // The tree of a merge without conflicts, and its text.
-ghost use Rattle.std.specs.Prelude.{◌≡◌, ◌≢◌, List, None, Err, IfErr, OnOk};
+ghost use Rattle.std.specs.Prelude.{◌≡◌, ◌≢◌, List, None, Err, IfErr, IfOk, OnOk};
 ghost use Rattle.mtn_changeset_laws.specs.Changes.{or_else};
 ghost use Rattle.mtn_conflicts.specs.Lists.{AreClear};
 ghost use Rattle.mtn_conflicts.specs.Result.{ParentsAreDirs};
@@ -7,7 +7,7 @@ ghost use Rattle.mtn_history.specs.Errors.{IfStoreDamage};
 ghost use Rattle.mtn_history_laws.specs.History.{Revision};
 ghost use Rattle.mtn_put_revision.specs.Finding.{IsRefusal};
 ghost use Rattle.mtn_replay.specs.Making.{too_long, too_many};
-ghost use Rattle.mtn_merge.specs.Plans.{Gives, IsMadeOf};
+ghost use Rattle.mtn_merge.specs.Plans.{Gives, IsMadeOf, IsText};
 ghost use Rattle.mtn_merge.specs.Sides.{IsSideOf};
 
 use crate::births::unborn;
@@ -49,6 +49,7 @@ pub fn merged<I: Ident>(
     requires clear { AreClear decisions.now }
     requires dirs { ParentsAreDirs decisions.now.nodes }
     ensures made { (h : List Revision) → IsSideOf h left.now → IsSideOf h right.now → Gives (IsMadeOf (I.meaning ident.now) h left.now.id right.now.id decisions.now) result }
+    ensures text { IfOk result IsText }
     ensures sound { IfErr result (λ e. IfStoreDamage e (λ _. ⊥)) }
     ensures failed { result ≢ Err (HistoryError.Store StoreError.Failed) }
 {

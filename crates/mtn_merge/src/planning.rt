@@ -177,8 +177,8 @@ pub fn plan<I: Ident, K: Keeper>(
     if resolutions.items().is_empty() {
         return ends(alloc, ident, draft, compared);
     }
-    let compared = overridden(alloc, draft, compared, resolutions)?;
-    ends(alloc, ident, draft, compared)
+    let settled = overridden(alloc, draft, compared, resolutions)?;
+    ends(alloc, ident, draft, settled)
 }
 
 // The resolutions of a text, or none where there is no text.

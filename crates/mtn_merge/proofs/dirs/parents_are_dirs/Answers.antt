@@ -18,7 +18,7 @@ pub returns-then-hangs_on_file : goal.returns-then-hangs_on_file
 returns-then-hangs_on_file c = (
   λ t. cc,
   λ dirs. absurd (not_dirs c.args.nodes.now c.requires c.node-item.result (split_item c.args.nodes.now c.loop-node.node-index c.node-item.result c.node-item.result c.loop-node-test.true c.node-item.is)
-  (c.hangs_on_file.ensures.0 c.if-hangs_on_file.true) dirs),
+      (c.hangs_on_file.ensures.0 c.if-hangs_on_file.true) dirs),
 )
 
 pub returns : goal.returns

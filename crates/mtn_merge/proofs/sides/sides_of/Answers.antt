@@ -54,12 +54,11 @@ compare-requires-clause-sides g c = λ f s d.
     let told = g.K.Keeper.contents c.side_of-2.new.draft.keeper.now in
     let p = c.args.draft.now.pending in
     let q = c.side_of.new.draft.pending in
-    let z = c.side_of-2.new.draft.pending in
-    (
+    let z = c.side_of-2.new.draft.pending in (
       moved (λ (y : Pending). (f : List ℕ → List ℕ) (s : State) → (d : IsFounded f told y s) → IsSideOf d.stands.history c.in_ok-first.first) p z (sym (c.in_ok-second.ensures.pending ∙ c.in_ok-first.ensures.pending))
-      (λ f s d. (c.in_ok-first.ensures.found f s (back f mid told p s c.in_ok-second.ensures.stays.same d)).1) f s d,
+          (λ f s d. (c.in_ok-first.ensures.found f s (back f mid told p s c.in_ok-second.ensures.stays.same d)).1) f s d,
       moved (λ (y : Pending). (f : List ℕ → List ℕ) (s : State) → (d : IsFounded f told y s) → IsSideOf d.stands.history c.in_ok-second.second) q z (sym c.in_ok-second.ensures.pending)
-      (λ f s d. (c.in_ok-second.ensures.found f s d).1) f s d,
+          (λ f s d. (c.in_ok-second.ensures.found f s d).1) f s d,
     )
 
 pub compare-requires-in-Greater-clause-sides : goal.compare-requires-in-Greater-clause-sides
@@ -68,12 +67,11 @@ compare-requires-in-Greater-clause-sides g c = λ f s d.
     let told = g.K.Keeper.contents c.side_of-2.new.draft.keeper.now in
     let p = c.args.draft.now.pending in
     let q = c.side_of.new.draft.pending in
-    let z = c.side_of-2.new.draft.pending in
-    (
+    let z = c.side_of-2.new.draft.pending in (
       moved (λ (y : Pending). (f : List ℕ → List ℕ) (s : State) → (d : IsFounded f told y s) → IsSideOf d.stands.history c.in_ok-second.second) q z (sym c.in_ok-second.ensures.pending)
-      (λ f s d. (c.in_ok-second.ensures.found f s d).1) f s d,
+          (λ f s d. (c.in_ok-second.ensures.found f s d).1) f s d,
       moved (λ (y : Pending). (f : List ℕ → List ℕ) (s : State) → (d : IsFounded f told y s) → IsSideOf d.stands.history c.in_ok-first.first) p z (sym (c.in_ok-second.ensures.pending ∙ c.in_ok-first.ensures.pending))
-      (λ f s d. (c.in_ok-first.ensures.found f s (back f mid told p s c.in_ok-second.ensures.stays.same d)).1) f s d,
+          (λ f s d. (c.in_ok-first.ensures.found f s (back f mid told p s c.in_ok-second.ensures.stays.same d)).1) f s d,
     )
 
 pub returns-in-Less-clause-stays : goal.returns-in-Less-clause-stays
