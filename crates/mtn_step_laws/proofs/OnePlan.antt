@@ -94,7 +94,6 @@ one_checked files m c rs (Some x) (Some y) (inr f) (inr g) = sym f.1 ∙ g.1
 -- ---- over one history
 
 module _ (f : List ℕ → List ℕ) (files : Table) (log : List Logged) (h : List Revision) (is : IsHistory f files log h) (l r : Id) where
-
   one_at : (m n : Merge) → IsMergeAt h l r m → IsMergeAt h l r n → m ≡ n
   one_at m n a b =
       let left : b.left ≡ a.left = same_Some b.left a.left (sym b.at_left ∙ a.at_left) in
