@@ -86,6 +86,10 @@ def place(name, into, comp):
     return [node('slot', name), node('into', into), ('name', quoted(comp))]
 
 
+def at_root(name):
+    return [node('slot', name), ('into', '[]', '""'), ('name', '""')]
+
+
 def pick(name, content):
     return [node('content', name), ('pick', bracketed(content))]
 
@@ -192,6 +196,8 @@ def orphan():
     row.merges(left, right, {'': None}, [delete('d'), delete('d/f')], [], resolutions(drop(f)))
     row.merge(left, right, 1, 'refused UnknownNode 2\n', resolutions(place(f, (r0, 'd'), 'f')))
     row.merge(left, right, 1, 'refused NotADirectory 3\n', resolutions(place((r0, ''), (r0, ''), 'r'), place(f, f, 'f'), drop((r0, 'd'))))
+    row.merge(left, right, 1, 'refused NotADirectory 3\n', resolutions(drop((r0, '')), at_root(f)))
+    row.merge(left, right, 1, 'refused UnknownNode 3\n', resolutions(at_root((r0, '')), at_root((r0, 'd'))))
     return row
 
 
@@ -211,8 +217,7 @@ def no_root():
     left = row.accepts({'': None, 'old': None}, (r0, [rename('', 'old'), rename('d', '')]))
     right = row.accepts({'': None}, (r0, [delete('d')]))
     row.clashes(left, right, [conflict('missing_root'), orphaned((r0, ''), (r0, 'd'), 'old')])
-    root = spell([HEAD, [node('slot', (r0, '')), ('into', '[]', '""'), ('name', '""')]])
-    row.merges(left, right, {'': None}, [delete(''), rename('old', '')], [], root)
+    row.merges(left, right, {'': None}, [delete(''), rename('old', '')], [], resolutions(at_root((r0, ''))))
     return row
 
 
@@ -234,6 +239,38 @@ def two_contents():
     unknown = 'f' * 40
     row.merge(left, unknown, 1, 'refused UnknownRevision ' + unknown + '\n', b'no text')
     row.merge(left, left, 1, 'refused Related %s %s\n' % (left, left), b'no text')
+    return row
+
+
+def cut_off():
+    row = Row('A text of resolutions that ends behind any of its bytes.')
+    r0 = file_root(row)
+    left = row.accepts(of_file(HA), (r0, [patch('f', H, HA)]))
+    right = row.accepts(of_file(HB), (r0, [patch('f', H, HB)]))
+    f = (r0, 'f')
+    whole = [place(f, (r0, ''), 'g'), set_value(f, 'k', 'v'), clear_value(f, 'l'), pick(f, HC)]
+    texts = {len(resolutions(*whole[:count])): count for count in range(1, len(whole) + 1)}
+    text = resolutions(*whole)
+    for size in range(len(text) + 1):
+        if size in texts:
+            line = 'NotAConflict 2'
+        elif size == 0:
+            line = 'BadOrder 1'
+        elif text[size - 1:size] == b'\n' and text[size - 2:size] != b'\n\n':
+            line = 'BadStanza %d' % (2 + sum(end < size for end in texts))
+        else:
+            line = 'NotText %d' % size
+        if size != len(resolutions()):
+            row.merge(left, right, 1, 'refused ' + line + '\n', text[:size])
+    return row
+
+
+def too_long():
+    row = Row('A text of resolutions of a byte more than 64 MiB.')
+    left = row.accepts({'': None, 'a': H}, ('', [add_dir(''), add_file('a', H)]))
+    right = row.accepts({'': None, 'b': H}, ('', [add_dir(''), add_file('b', H)]))
+    row.merge(left, right, 1, 'refused TextTooLong 67108865\n', b'x' * 67108865)
+    row.merge(left, 'f' * 40, 1, 'refused UnknownRevision ' + 'f' * 40 + '\n', b'x' * 67108865)
     return row
 
 
@@ -308,7 +345,7 @@ def only_dropped():
     return row
 
 
-ROWS = [renamed_and_patched, same_patch, turned_back, patched_back, cleared_attribute, two_loops, orphan, two_roots, no_root, two_contents, two_names, relatives,
+ROWS = [renamed_and_patched, same_patch, turned_back, patched_back, cleared_attribute, two_loops, orphan, two_roots, no_root, two_contents, cut_off, two_names, relatives,
         nothing_clashes, dropped_and_modified, kept_below_nothing, only_dropped]
 
 
@@ -348,7 +385,7 @@ def main():
     if sys.argv[1:2] == ['lines']:
         return lines(sys.argv[2])
     with tempfile.TemporaryDirectory() as folder:
-        for number, made in enumerate(ROWS):
+        for number, made in enumerate(ROWS + [too_long]):
             row, store = made(), Store(folder, 'row%d' % number)
             for words, given, status, output in row.steps:
                 before = store.records()
