@@ -345,8 +345,53 @@ def only_dropped():
     return row
 
 
+def in_an_order(title, order):
+    """A history of five revisions, accepted in this order and asked by every command but those that answer in it."""
+    row = Row(title)
+    both = {**of_file(HA), 'g': H}
+    texts = {'root': revision(of_file(H), ('', [add_dir(''), add_file('f', H)]))}
+    root = sha(texts['root'])
+    texts['a'] = revision(of_file(HA), (root, [patch('f', H, HA)]))
+    texts['b'] = revision({**of_file(H), 'g': H}, (root, [add_file('g', H)]))
+    texts['c'] = revision(of_file(HB), (root, [patch('f', H, HB)]))
+    a, b, c = (sha(texts[name]) for name in 'abc')
+    texts['m'] = revision(both, *two((a, [add_file('g', H)]), (b, [patch('f', H, HA)])))
+    m, f = sha(texts['m']), (root, 'f')
+    listed = lambda ids: ''.join(of + '\n' for of in sorted(ids))
+    parents = {root: [], a: [root], b: [root], c: [root], m: [a, b]}
+    for name in order:
+        row.asks(['put_revision'], 0, sha(texts[name]) + '\n', texts[name])
+    for name, text in texts.items():
+        row.asks(['get_revision', sha(text)], 0, text)
+        row.asks(['parents', sha(text)], 0, listed(parents[sha(text)]))
+    for words, ids in ((['leaves'], [c, m]), (['roots'], [root]), (['children', root], [a, b, c]), (['ancestors', m], [root, a, b]), (['descendents', root], [a, b, c, m]),
+                       (['common_ancestors', m, c], [root]), (['erase_ancestors', m, root, c, b], [c, m])):
+        row.asks(words, 0, listed(ids))
+    row.asks(['graph'], 0, ''.join(' '.join([of, *sorted(parents[of])]) + '\n' for of in sorted(parents)))
+    row.asks(['get_file', HA], 0, b'a')
+    row.asks(['get_manifest_of', m], 0, manifest(both))
+    row.asks(['get_roster', m], 0, roster(('', None, (root, ''), [root], [], []), ('f', HA, f, [root], [a], []), ('g', H, (b, 'g'), [b], [b], [])))
+    row.asks(['get_content_changed', m, 'f'], 0, spell([[('content_mark', bracketed(a))]]))
+    row.asks(['get_corresponding_path', c, 'f', m], 0, spell([[('file', '"f"')]]))
+    has = {a: HA, c: HB, m: HA}
+    for one in (a, m):
+        row.clashes(one, c, lambda l, r: [conflict('content', node('node', f), ('left_content', bracketed(has[l])), ('right_content', bracketed(has[r])))])
+    row.merges(a, b, both, [add_file('g', H)], [patch('f', H, HA)])
+    row.merges(b, c, {**of_file(HB), 'g': H}, [patch('f', H, HB)], [add_file('g', H)])
+    row.asks(['merge', root, m], 1, 'refused Related %s %s\n' % (root, m))
+    return row
+
+
+def in_one_order():
+    return in_an_order('A history of five revisions.', ['root', 'a', 'b', 'm', 'c'])
+
+
+def in_another_order():
+    return in_an_order('The same history in another order answers alike.', ['root', 'c', 'b', 'a', 'm'])
+
+
 ROWS = [renamed_and_patched, same_patch, turned_back, patched_back, cleared_attribute, two_loops, orphan, two_roots, no_root, two_contents, cut_off, two_names, relatives,
-        nothing_clashes, dropped_and_modified, kept_below_nothing, only_dropped]
+        nothing_clashes, dropped_and_modified, kept_below_nothing, only_dropped, in_one_order, in_another_order]
 
 
 def escaped(data):
