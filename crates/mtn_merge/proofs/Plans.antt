@@ -1,6 +1,8 @@
 -- What the calls answer is the plan of the definitions.
-use Rattle.std.specs.Prelude.{IfOk}
-use Rattle.std.proofs.Common.{◌≡◌, ◌≢◌, ℕ, Bool, true, false, List, [], Option, Some, None, Result, Ok, Err, refl, sym, ◌∙◌, ap, subst, inl, inr}
+use Rattle.std.specs.Prelude.{IfOk, ◌==◌}
+use Rattle.std.proofs.Common.{◌≡◌, ◌≢◌, ℕ, suc, Bool, true, false, List, [], ◌∷◌, length, Option, Some, None, Result, Ok, Err, refl, sym, ◌∙◌, ap, subst, inl, inr}
+use Rattle.std.specs.List.{IsDistinct}
+use Rattle.std.proofs.lemmas.Bool.{ne_eqb}
 use Rattle.mtn_base.specs.declared.id.Id.{Id}
 use Rattle.mtn_base.specs.declared.refusal.Cause.{Cause}
 use Rattle.mtn_conflicts.specs.Lists.{AreConflictsOf, IsNone}
@@ -18,6 +20,7 @@ use Rattle.mtn_plans.specs.Sides.{left_of, right_of, side_refusal}
 use Rattle.mtn_plans.specs.declared.outcome.Outcome.{Outcome}
 use Rattle.mtn_plans.specs.declared.outcome.Outcome.TheVariants.{Merged, Conflicted}
 use Rattle.mtn_put_revision.specs.Finding.{IsRefusal}
+use Rattle.mtn_resolve.specs.Subjects.{AreApart}
 use Rattle.mtn_resolve.specs.declared.resolution.Resolution.{Resolution}
 use Rattle.mtn_merge.proofs.None.{not_overridden}
 use Rattle.mtn_merge.specs.Given.{GivesResolutions, Overrides}
@@ -134,3 +137,13 @@ given_sound (Some text) (Store Failed) is = absurd cc
 given_sound (Some text) (Store NoMemory) is = (tt, λ same. cc)
 given_sound (Some text) (Store (Damaged d)) is = absurd cc
 given_sound None e is = absurd is
+
+-- a slice that is told as empty has no item
+pub none_of : {X : Type 0} (xs ys : List X) (b : Bool) → ys ≡ xs → b ≡ (length ys == 0) → b ≡ true → xs ≡ []
+none_of xs [] b same is t = sym same
+none_of xs (y ∷ ys) b same is t = absurd (let some = ne_eqb (suc (length ys)) 0 (λ e. cc) in let e : true ≡ false = sym t ∙ is ∙ some in cc)
+
+pub none_are_apart : (rs : List Resolution) → rs ≡ [] → AreApart rs
+unfolding IsDistinct
+none_are_apart [] is = tt
+none_are_apart (r ∷ rs) is = absurd cc

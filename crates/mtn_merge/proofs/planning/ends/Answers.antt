@@ -1,5 +1,9 @@
-use Rattle.std.proofs.Common.{◌≡◌, ◌∙◌, ℕ, List, Err, true, false, sym, ap, subst}
-use Rattle.mtn_decide.specs.Decisions.{IsInOrder}
+use Rattle.std.specs.Prelude.{IsTrue, map}
+use Rattle.std.proofs.Common.{List, sym, subst}
+use Rattle.mtn_base.specs.Lists.{rises}
+use Rattle.mtn_base.specs.Names.{name_cmp}
+use Rattle.mtn_conflicts.specs.Result.{ParentsAreDirs}
+use Rattle.mtn_decide.specs.declared.decision.Decision.{Decision}
 use Rattle.mtn_history.specs.declared.errors.HistoryError.TheVariants.{Store}
 use Rattle.mtn_put_revision.proofs.Deciding.{error_damage}
 use Rattle.mtn_merge.specs.Plans.{IsMadeOf}
@@ -15,18 +19,18 @@ returns-then-not-none-clause-ends g c = λ h sl sr.
     (λ none. let t = c.none.ensures.1 none in let n = c.if-not-none.true in cc)
 
 pub parents_are_dirs-requires : goal.parents_are_dirs-requires
-parents_are_dirs-requires g c = c.nodes.ensures.order.names
+parents_are_dirs-requires g c = subst (λ (l : List Decision). IsTrue (rises name_cmp (map (λ (d : Decision). d.name) l))) (sym c.nodes.ensures.nodes) c.nodes.ensures.order.names
 
 pub returns-then-not-parents_are_dirs-clause-damaged : goal.returns-then-not-parents_are_dirs-clause-damaged
 returns-then-not-parents_are_dirs-clause-damaged g c =
     error_damage (g.K.Keeper.contents c.roster_held.new.draft.keeper.now) c.args.draft.now.pending (Store c.roster_held.result)
-    (c.roster_held.ensures.damaged (λ f s d. let t = c.parents_are_dirs.ensures.1 (c.requires.dirs f s d) in let n = c.if-not-parents_are_dirs.true in cc))
+    (c.roster_held.ensures.damaged (λ f s d. let t = c.parents_are_dirs.ensures.1 (subst ParentsAreDirs (sym c.nodes.ensures.nodes) (c.requires.dirs f s d)) in let n = c.if-not-parents_are_dirs.true in cc))
 
 pub merged-requires-clause-clear : goal.merged-requires-clause-clear
-merged-requires-clause-clear g c = (c.args.compared.conflicts, c.requires.conflicts, c.none.ensures.0 c.if-not-none.false)
+merged-requires-clause-clear g c = λ κs alive. (c.args.compared.conflicts, c.requires.conflicts, c.none.ensures.0 c.if-not-none.false)
 
 pub merged-requires-clause-dirs : goal.merged-requires-clause-dirs
-merged-requires-clause-dirs g c = c.parents_are_dirs.ensures.0 c.if-not-parents_are_dirs.false
+merged-requires-clause-dirs g c = λ κs alive. subst ParentsAreDirs c.nodes.ensures.nodes (c.parents_are_dirs.ensures.0 c.if-not-parents_are_dirs.false)
 
 pub returns-clause-ends : goal.returns-clause-ends
 returns-clause-ends g c = λ h sl sr.

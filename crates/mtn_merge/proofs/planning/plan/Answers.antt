@@ -1,5 +1,5 @@
 -- The sides, what resolutions leave, and what it ends in.
-use Rattle.std.proofs.Common.{◌≡◌, ◌∙◌, ℕ, List, Err, sym, ap, subst}
+use Rattle.std.proofs.Common.{◌≡◌, ◌∙◌, ℕ, List, [], Err, sym, ap, subst}
 use Rattle.std.proofs.lemmas.Result.{err_from_is_err_and}
 use Rattle.mtn_history.specs.Stands.{IsFounded}
 use Rattle.mtn_history.specs.declared.pending.Pending.{Pending}
@@ -15,7 +15,7 @@ use Rattle.mtn_merge.specs.Sides.{IsSideOf}
 use Rattle.mtn_merge.specs.declared.sides.Side.{Side}
 use Rattle.mtn_merge.proofs.Damaging.{kept_damage, sound_error}
 use Rattle.mtn_merge.proofs.Hanging.{Settles, found_dirs, settled_dirs}
-use Rattle.mtn_merge.proofs.Plans.{not_resolved, resolved, sides_refused, unresolved}
+use Rattle.mtn_merge.proofs.Plans.{none_of, not_resolved, resolved, sides_refused, unresolved}
 use Rattle.mtn_merge.proofs.planning.plan.Goals as goal
 
 pub returns-in_err-compared-clause-plans : goal.returns-in_err-compared-clause-plans
@@ -28,12 +28,12 @@ returns-in_err-compared-clause-plans g c = λ s d.
 
 -- without resolutions
 
-pub ends-requires-then-is_empty-clause-dirs : goal.ends-requires-then-is_empty-clause-dirs
-ends-requires-then-is_empty-clause-dirs g c =
+pub ends-requires-clause-dirs : goal.ends-requires-clause-dirs
+ends-requires-clause-dirs g c = λ κs alive.
     found_dirs (g.K.Keeper.contents c.sides_of.new.draft.keeper.now) c.args.draft.now.pending c.sides_of.new.draft.pending c.args.a c.args.b c.in_ok-compared.compared c.in_ok-compared.ensures.pending c.in_ok-compared.ensures.finds
 
 pub returns-then-is_empty-clause-stays : goal.returns-then-is_empty-clause-stays
-returns-then-is_empty-clause-stays g c = stays_trans g.K.Keeper.contents g.K.Keeper.leaves g.K.Keeper.faults _ _ _ c.in_ok-compared.ensures.stays c.ends-then-is_empty.ensures.stays
+returns-then-is_empty-clause-stays g c = stays_trans g.K.Keeper.contents g.K.Keeper.leaves g.K.Keeper.faults _ _ _ c.in_ok-compared.ensures.stays c.ends.ensures.stays
 
 pub returns-then-is_empty-clause-plans : goal.returns-then-is_empty-clause-plans
 returns-then-is_empty-clause-plans g c = λ s d.
@@ -41,13 +41,14 @@ returns-then-is_empty-clause-plans g c = λ s d.
     let h = d.stands.history in
     let x = c.in_ok-compared.compared in
     let mid = g.K.Keeper.contents c.sides_of.new.draft.keeper.now in
-    let told = g.K.Keeper.contents c.ends-then-is_empty.new.draft.keeper.now in
-    let found = c.in_ok-compared.ensures.finds f s (back f mid told c.args.draft.now.pending s c.ends-then-is_empty.ensures.stays.same d) in
-    unresolved f s.files h c.args.a c.args.b x found.0 found.1 c.in_ok-compared.ensures.conflicts c.args.resolutions.now cc found.1.merge.order c.ends-then-is_empty.result
-    (c.ends-then-is_empty.ensures.ends h found.1.left_side found.1.right_side)
+    let told = g.K.Keeper.contents c.ends.new.draft.keeper.now in
+    let found = c.in_ok-compared.ensures.finds f s (back f mid told c.args.draft.now.pending s c.ends.ensures.stays.same d) in
+    let none : c.args.resolutions.now ≡ [] = none_of c.args.resolutions.now c.items.result.now c.is_empty.result c.items.ensures.items c.is_empty.ensures c.if-is_empty.true in
+    unresolved f s.files h c.args.a c.args.b x found.0 found.1 c.in_ok-compared.ensures.conflicts c.args.resolutions.now none found.1.merge.order c.ends.result
+    (c.ends.ensures.ends h found.1.left_side found.1.right_side)
 
 pub returns-then-is_empty-clause-damaged : goal.returns-then-is_empty-clause-damaged
-returns-then-is_empty-clause-damaged g c = kept_damage (g.K.Keeper.contents c.ends-then-is_empty.new.draft.keeper.now) c.args.draft.now.pending c.sides_of.new.draft.pending c.ends-then-is_empty.result c.in_ok-compared.ensures.pending c.ends-then-is_empty.ensures.damaged
+returns-then-is_empty-clause-damaged g c = kept_damage (g.K.Keeper.contents c.ends.new.draft.keeper.now) c.args.draft.now.pending c.sides_of.new.draft.pending c.ends.result c.in_ok-compared.ensures.pending c.ends.ensures.damaged
 
 -- resolutions that are refused
 
@@ -75,13 +76,13 @@ returns-in_err-settled-clause-damaged g c =
 
 -- with resolutions
 
-pub ends-requires-clause-dirs : goal.ends-requires-clause-dirs
-ends-requires-clause-dirs g c =
+pub ends-requires-2-clause-dirs : goal.ends-requires-2-clause-dirs
+ends-requires-2-clause-dirs g c = λ κs alive.
     settled_dirs (g.K.Keeper.contents c.sides_of.new.draft.keeper.now) (g.K.Keeper.contents c.overridden.new.draft.keeper.now) c.args.draft.now.pending c.sides_of.new.draft.pending c.overridden.new.draft.pending
     c.args.a c.args.b c.in_ok-compared.compared c.in_ok-settled.settled c.args.resolutions.now c.in_ok-compared.ensures.pending c.in_ok-settled.ensures.pending c.in_ok-settled.ensures.stays.same c.in_ok-compared.ensures.finds c.in_ok-settled.ensures.overrides
 
 pub returns-clause-stays : goal.returns-clause-stays
-returns-clause-stays g c = stays_trans g.K.Keeper.contents g.K.Keeper.leaves g.K.Keeper.faults _ _ _ (stays_trans g.K.Keeper.contents g.K.Keeper.leaves g.K.Keeper.faults _ _ _ c.in_ok-compared.ensures.stays c.in_ok-settled.ensures.stays) c.ends.ensures.stays
+returns-clause-stays g c = stays_trans g.K.Keeper.contents g.K.Keeper.leaves g.K.Keeper.faults _ _ _ (stays_trans g.K.Keeper.contents g.K.Keeper.leaves g.K.Keeper.faults _ _ _ c.in_ok-compared.ensures.stays c.in_ok-settled.ensures.stays) c.ends-2.ensures.stays
 
 pub returns-clause-plans : goal.returns-clause-plans
 returns-clause-plans g c = λ s d.
@@ -92,14 +93,14 @@ returns-clause-plans g c = λ s d.
     let p = c.args.draft.now.pending in
     let low = g.K.Keeper.contents c.sides_of.new.draft.keeper.now in
     let mid = g.K.Keeper.contents c.overridden.new.draft.keeper.now in
-    let told = g.K.Keeper.contents c.ends.new.draft.keeper.now in
-    let d2 = back f mid told p s c.ends.ensures.stays.same d in
+    let told = g.K.Keeper.contents c.ends-2.new.draft.keeper.now in
+    let d2 = back f mid told p s c.ends-2.ensures.stays.same d in
     let found = c.in_ok-compared.ensures.finds f s (back f low mid p s c.in_ok-settled.ensures.stays.same d2) in
     let over = moved (λ (q : Pending). Settles mid q x c.args.resolutions.now y) c.sides_of.new.draft.pending p c.in_ok-compared.ensures.pending c.in_ok-settled.ensures.overrides f s d2 in
-    resolved f s.files h c.args.a c.args.b x found.0 found.1 c.in_ok-compared.ensures.conflicts c.args.resolutions.now y.decisions over c.ends.result
-    (subst (λ (l : Side). Gives (Ends f h l.id x.right.id y.decisions) c.ends.result) c.in_ok-settled.ensures.left
-    (subst (λ (r : Side). Gives (Ends f h y.left.id r.id y.decisions) c.ends.result) c.in_ok-settled.ensures.right
-    (c.ends.ensures.ends h (subst (IsSideOf h) (sym c.in_ok-settled.ensures.left) found.1.left_side) (subst (IsSideOf h) (sym c.in_ok-settled.ensures.right) found.1.right_side))))
+    resolved f s.files h c.args.a c.args.b x found.0 found.1 c.in_ok-compared.ensures.conflicts c.args.resolutions.now y.decisions over c.ends-2.result
+    (subst (λ (l : Side). Gives (Ends f h l.id x.right.id y.decisions) c.ends-2.result) c.in_ok-settled.ensures.left
+    (subst (λ (r : Side). Gives (Ends f h y.left.id r.id y.decisions) c.ends-2.result) c.in_ok-settled.ensures.right
+    (c.ends-2.ensures.ends h (subst (IsSideOf h) (sym c.in_ok-settled.ensures.left) found.1.left_side) (subst (IsSideOf h) (sym c.in_ok-settled.ensures.right) found.1.right_side))))
 
 pub returns-clause-damaged : goal.returns-clause-damaged
-returns-clause-damaged g c = kept_damage (g.K.Keeper.contents c.ends.new.draft.keeper.now) c.args.draft.now.pending c.overridden.new.draft.pending c.ends.result (c.in_ok-settled.ensures.pending ∙ c.in_ok-compared.ensures.pending) c.ends.ensures.damaged
+returns-clause-damaged g c = kept_damage (g.K.Keeper.contents c.ends-2.new.draft.keeper.now) c.args.draft.now.pending c.overridden.new.draft.pending c.ends-2.result (c.in_ok-settled.ensures.pending ∙ c.in_ok-compared.ensures.pending) c.ends-2.ensures.damaged

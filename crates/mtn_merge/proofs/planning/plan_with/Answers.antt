@@ -10,23 +10,19 @@ use Rattle.mtn_merge.proofs.planning.plan_with.Goals as goal
 
 pub returns-in-Ok-clause-merges : goal.returns-in-Ok-clause-merges
 returns-in-Ok-clause-merges g c = λ s d.
-    let text = option_copied c.args.text.now in
+    let text = option_copied c.args.text in
     given_merges (g.I.Ident.meaning c.args.ident.now) s.files d.stands.history c.args.a c.args.b text c.in-Ok.resolutions (subst (GivesResolutions text) c.in-Ok.is c.given.ensures) c.plan.result (c.plan.ensures.plans s d)
 
-pub returns-in_err-tell_sides-clause-merges : goal.returns-in_err-tell_sides-clause-merges
-returns-in_err-tell_sides-clause-merges g c = λ s d.
+pub returns-in_err-tell_sides-in-Err-clause-merges : goal.returns-in_err-tell_sides-in-Err-clause-merges
+returns-in_err-tell_sides-in-Err-clause-merges g c = λ s d.
     let f = g.I.Ident.meaning c.args.ident.now in
     let h = d.stands.history in
-    let text = option_copied c.args.text.now in
+    let text = option_copied c.args.text in
     let p = err_from_is_err_and c.from_residual.result c.from_residual.ensures.1 in
     subst (Gives (MergesText f s.files h c.args.a c.args.b text)) (sym (p.1 ∙ ap Err p.2))
-    (given_told f s.files h c.args.a c.args.b text c.in_err-tell_sides.field-0.0 (c.in_err-tell_sides.ensures.refused f s d))
+    (given_told f s.files h c.args.a c.args.b text c.in_err-tell_sides-in-Err.field-0.0 (c.in_err-tell_sides-in-Err.ensures.refused f s d))
 
-pub returns-clause-merges : goal.returns-clause-merges
-returns-clause-merges g c = λ s d.
-    let text = option_copied c.args.text.now in
-    given_refused (g.I.Ident.meaning c.args.ident.now) s.files d.stands.history c.args.a c.args.b text c.in-Err.error (subst (GivesResolutions text) c.in-Err.is c.given.ensures) (c.in_ok-tell_sides.ensures.told (g.I.Ident.meaning c.args.ident.now) s d)
-
-pub returns-clause-damaged : goal.returns-clause-damaged
-returns-clause-damaged g c =
-    sound_error (g.K.Keeper.contents c.tell_sides.new.draft.keeper.now) c.args.draft.now.pending (Err c.in-Err.error) c.in-Err.error refl (given_sound (option_copied c.args.text.now) c.in-Err.error (subst (GivesResolutions (option_copied c.args.text.now)) c.in-Err.is c.given.ensures)).0
+pub returns-in_ok-tell_sides-in-Err-clause-merges : goal.returns-in_ok-tell_sides-in-Err-clause-merges
+returns-in_ok-tell_sides-in-Err-clause-merges g c = λ s d.
+    let text = option_copied c.args.text in
+    given_refused (g.I.Ident.meaning c.args.ident.now) s.files d.stands.history c.args.a c.args.b text c.in-Err.error (subst (GivesResolutions text) c.in-Err.is c.given.ensures) (c.in_ok-tell_sides-in-Err.ensures.told (g.I.Ident.meaning c.args.ident.now) s d)
