@@ -1,20 +1,17 @@
 -- Whether two revisions may be merged, by what each has above it that the other lacks.
-use Rattle.std.specs.Prelude.{Contains, find, is_none, option_map, if◌then◌else◌, IsTrue}
+use Rattle.std.specs.Prelude.{Contains, is_none, option_map, if◌then◌else◌}
 use Rattle.std.specs.Ordering.{is_lt, ordering_reverse}
-use Rattle.std.specs.declared.cmp.Ordering.{Ordering}
 use Rattle.std.specs.declared.cmp.Ordering.TheVariants.{Less, Equal, Greater}
-use Rattle.std.proofs.Common.{◌≡◌, ℕ, Bool, true, false, cond, List, [], ◌∷◌, Option, Some, None, refl, sym, ◌∙◌, ap, subst, inl, inr}
+use Rattle.std.proofs.Common.{◌≡◌, ℕ, Bool, true, false, cond, List, Option, Some, None, refl, ◌∙◌, ap, subst, inl, inr}
 use Rattle.mtn_ancestry.specs.Ancestors.{IsAncestor}
 use Rattle.mtn_ancestry.specs.Ancestors.IsAncestor.{itself}
-use Rattle.mtn_answers.specs.Queries.{first_unknown}
 use Rattle.mtn_base.specs.Ids.{by_id}
 use Rattle.mtn_base.specs.declared.id.Id.{Id}
-use Rattle.mtn_base.specs.declared.refusal.Cause.{Cause}
 use Rattle.mtn_base.specs.declared.refusal.Cause.TheVariants.{Related, UnknownRevision}
 use Rattle.mtn_base.proofs.Orders.{bytes_total, exact_bytes}
 use Rattle.mtn_base.proofs.Tests.{told}
 use Rattle.mtn_changeset_laws.specs.Changes.{or_else}
-use Rattle.mtn_history_laws.specs.History.{Revision, parents_at, IsGrown, IsPlaceOf}
+use Rattle.mtn_history_laws.specs.History.{Revision, parents_at, IsGrown}
 use Rattle.mtn_mark_laws.specs.Rule.{AreUncommon}
 use Rattle.mtn_plans.specs.Sides.{left_of, related, right_of, side_refusal}
 use Rattle.mtn_replay.specs.Making.{is_above, place_of}

@@ -1,8 +1,6 @@
 -- What a draft finds of the sides.
-use Rattle.std.proofs.Common.{◌≡◌, ℕ, List, Option, Some, None, Result, Ok, Err, refl, sym, ap, ◌∙◌, subst}
+use Rattle.std.proofs.Common.{◌≡◌, ℕ, List, Some, Result, Ok, Err, sym, ap, ◌∙◌, subst}
 use Rattle.mtn_base.specs.declared.id.Id.{Id}
-use Rattle.mtn_base.specs.declared.refusal.Cause.{Cause}
-use Rattle.mtn_base.specs.declared.refusal.Cause.TheVariants.{UnknownRevision}
 use Rattle.mtn_history.specs.Marked.{FindsRoster}
 use Rattle.mtn_history.specs.declared.errors.HistoryError.{HistoryError}
 use Rattle.mtn_history.specs.declared.errors.HistoryError.TheVariants.{Refused, Store}

@@ -1,17 +1,13 @@
 -- The tree of a merge and its text, over a history that has the sides.
 use Rattle.std.specs.Prelude.{nat_lt, length, if◌then◌else◌}
-use Rattle.std.specs.Option.{option_map_or, option_and_then}
-use Rattle.std.proofs.Common.{◌≡◌, ◌<◌, ◌≤◌, ℕ, Bool, true, false, List, [], ◌∷◌, Option, Some, None, Result, Ok, Err, refl, sym, ◌∙◌, ap, subst}
+use Rattle.std.specs.Option.{option_map_or}
+use Rattle.std.proofs.Common.{◌≡◌, ◌<◌, ◌≤◌, ℕ, Bool, true, false, List, [], Option, Some, None, Ok, Err, refl, sym, ◌∙◌, ap, subst}
 use Rattle.std.proofs.lemmas.Bool.Decides.{nat_tests}
 use Rattle.std.proofs.Common.{arith}
-use Rattle.mtn_base.specs.Hex.{id_of}
 use Rattle.mtn_base.specs.declared.id.Id.{Id}
 use Rattle.mtn_base.specs.declared.limits.TheConstants.{MAX_TEXT}
 use Rattle.mtn_base.specs.declared.refusal.Cause.{Cause}
 use Rattle.mtn_base.specs.declared.refusal.Cause.TheVariants.{TextTooLong}
-use Rattle.mtn_basic_io.specs.Spelling.{spelling}
-use Rattle.mtn_between.specs.Between.{between}
-use Rattle.mtn_changes.specs.RevisionText.{revision_stanzas}
 use Rattle.mtn_changeset_laws.specs.Changes.{or_else}
 use Rattle.mtn_changeset_laws.specs.Laws.{NoneBornIn}
 use Rattle.mtn_conflicts.specs.Result.{result_of}
@@ -19,11 +15,10 @@ use Rattle.mtn_decide.specs.Decisions.{Merge}
 use Rattle.mtn_history.specs.declared.errors.HistoryError.{HistoryError}
 use Rattle.mtn_history.specs.declared.errors.HistoryError.TheVariants.{Refused, Store}
 use Rattle.mtn_history_laws.specs.History.{Revision, tree_at}
-use Rattle.mtn_manifest.specs.Manifest.{manifest_of}
 use Rattle.mtn_plans.specs.Plans.{IsResult, limit_refusal, merge_text, merged_or, text_refusal}
 use Rattle.mtn_plans.specs.declared.outcome.Outcome.TheVariants.{Merged}
 use Rattle.mtn_put_revision.specs.Finding.{IsRefusal}
-use Rattle.mtn_replay.specs.Making.{parent_tree, place_of, too_long, too_many}
+use Rattle.mtn_replay.specs.Making.{parent_tree, too_long, too_many}
 use Rattle.mtn_roster.specs.Tree.{Tree}
 use Rattle.mtn_merge.specs.Plans.{Gives, IsMadeOf, text_of_sides}
 use Rattle.mtn_merge.specs.Sides.{IsSideOf}

@@ -1,7 +1,6 @@
 -- Without resolutions the decisions are as they were.
 use Rattle.std.specs.Prelude.{filter, map, not}
-use Rattle.std.specs.List.Sorted.{IsPermutation}
-use Rattle.std.proofs.Common.{◌≡◌, false, List, [], ◌∷◌, ◌++◌, refl, sym, ◌∙◌, ap}
+use Rattle.std.proofs.Common.{◌≡◌, List, [], ◌∷◌, ◌++◌, refl, sym, ◌∙◌, ap}
 use Rattle.std.proofs.lemmas.List.{append-nil}
 use Rattle.std.proofs.lemmas.List.Sorted.{IsPermutation-refl}
 use Rattle.mtn_base.specs.Lists.{ordered}

@@ -1,5 +1,5 @@
 -- Births by the numbers in their last eight bytes.
-use Rattle.std.specs.Prelude.{◌≡◌, ℕ, List, drop, Contains}
+use Rattle.std.specs.Prelude.{ℕ, List, drop, Contains}
 use Rattle.std.specs.Int.{w64, from_be_bytes}
 use Rattle.mtn_base.specs.declared.id.Id.{Id}
 

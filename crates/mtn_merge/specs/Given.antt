@@ -9,11 +9,7 @@ use Rattle.mtn_history.specs.declared.errors.HistoryError.{HistoryError}
 use Rattle.mtn_history.specs.declared.errors.HistoryError.TheVariants.{Refused, Store}
 use Rattle.mtn_history.specs.declared.errors.StoreError.TheVariants.{NoMemory}
 use Rattle.mtn_model.specs.Table.{Table}
-use Rattle.mtn_plans.specs.Given.{IsChecked, IsRead, override_cause, text_cause}
-use Rattle.mtn_resolve.specs.declared.error.OverrideError.{OverrideError}
-use Rattle.mtn_resolve.specs.declared.error.OverrideError.TheVariants as one
-use Rattle.mtn_resolve.specs.declared.error.ResolveTextError.{ResolveTextError}
-use Rattle.mtn_resolve.specs.declared.error.ResolveTextError.TheVariants as text
+use Rattle.mtn_plans.specs.Given.{IsChecked, IsRead}
 use Rattle.mtn_resolve.specs.declared.resolution.Resolution.{Resolution}
 use Rattle.mtn_resolve.specs.Overriding.{overridden, pick_in}
 use Rattle.mtn_merge.specs.declared.sides.Compared.{Compared}

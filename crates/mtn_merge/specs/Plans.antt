@@ -2,7 +2,6 @@
 use Rattle.std.specs.Prelude.{◌≡◌, ℕ, true, false, List, [], ◌∷◌, Option, Some, None, Result, Ok, Err, ⊤}
 use Rattle.mtn_base.specs.Hex.{id_of}
 use Rattle.mtn_base.specs.declared.id.Id.{Id}
-use Rattle.mtn_base.specs.declared.refusal.Cause.{Cause}
 use Rattle.mtn_basic_io.specs.Spelling.{spelling}
 use Rattle.mtn_between.specs.Between.{between}
 use Rattle.mtn_changes.specs.RevisionText.{revision_stanzas}

@@ -1,5 +1,5 @@
 use Rattle.std.specs.Prelude.{Contains, option_copied}
-use Rattle.std.proofs.Common.{◌≡◌, ◌∙◌, Some, None, sym, ap, arith}
+use Rattle.std.proofs.Common.{◌∙◌, sym, ap, arith}
 use Rattle.mtn_base.proofs.Members.{taken}
 use Rattle.mtn_base.proofs.Sorting.{no_split}
 use Rattle.mtn_roster.specs.declared.entry.Entry.{Entry}

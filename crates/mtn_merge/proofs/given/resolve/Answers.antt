@@ -1,5 +1,5 @@
 use Rattle.std.specs.Prelude.{option_map}
-use Rattle.std.proofs.Common.{◌≡◌, ◌∙◌, Option, sym, ap, inr}
+use Rattle.std.proofs.Common.{◌∙◌, Option, sym, ap, inr}
 use Rattle.mtn_base.specs.declared.id.Id.{Id}
 use Rattle.mtn_base.specs.declared.refusal.Cause.TheVariants.{UnknownFile}
 use Rattle.mtn_merge.specs.Given.{first_unknown}

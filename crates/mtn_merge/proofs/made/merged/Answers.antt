@@ -1,5 +1,5 @@
 -- The tree of the decisions, and its text.
-use Rattle.std.proofs.Common.{◌≡◌, ◌∙◌, ℕ, List, Err, length, sym, ap, subst, arith}
+use Rattle.std.proofs.Common.{◌∙◌, ℕ, Err, length, sym, ap, subst, arith}
 use Rattle.std.proofs.lemmas.Result.{err_from_is_err_and}
 use Rattle.mtn_base.specs.declared.limits.TheConstants.{MAX_TEXT}
 use Rattle.mtn_base.specs.declared.refusal.Cause.TheVariants.{TextTooLong}

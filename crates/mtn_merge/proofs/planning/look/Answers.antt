@@ -16,4 +16,4 @@ returns-in_err-left-clause-looks g c = λ f s d.
 pub returns-clause-looks : goal.returns-clause-looks
 returns-clause-looks g c = λ f s d.
     let found = c.in_ok-left.ensures.finds f s d in
-    rw (c.in_ok-left.left-is, c.in_ok-left.right-is, c.in_ok-left.conflicts-is) at (looked f s.files d.stands.history c.args.a c.args.b c.in_ok-left.field-0 found.0 found.1 c.in_ok-left.ensures.conflicts)
+    looked f s.files d.stands.history c.args.a c.args.b c.in_ok-left.field-0 found.0 found.1 c.in_ok-left.ensures.conflicts

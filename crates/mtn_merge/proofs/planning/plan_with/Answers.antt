@@ -1,11 +1,9 @@
 use Rattle.std.specs.Prelude.{option_copied}
-use Rattle.std.proofs.Common.{◌≡◌, ◌∙◌, ℕ, List, Option, Ok, Err, sym, ap, subst}
+use Rattle.std.proofs.Common.{◌∙◌, Err, sym, ap, subst}
 use Rattle.std.proofs.lemmas.Result.{err_from_is_err_and}
-use Rattle.mtn_history.proofs.Founding.{back}
 use Rattle.mtn_merge.specs.Given.{GivesResolutions}
 use Rattle.mtn_merge.specs.Plans.{Gives, MergesText}
-use Rattle.mtn_merge.proofs.Damaging.{sound_error}
-use Rattle.mtn_merge.proofs.Plans.{given_merges, given_refused, given_sound, given_told}
+use Rattle.mtn_merge.proofs.Plans.{given_merges, given_refused, given_told}
 use Rattle.mtn_merge.proofs.planning.plan_with.Goals as goal
 
 pub returns-in-Ok-clause-merges : goal.returns-in-Ok-clause-merges

@@ -1,6 +1,5 @@
 -- One is above the other where it is not uncommon.
-use Rattle.std.proofs.Common.{◌≡◌, ℕ, List, true, false, refl, sym, subst}
-use Rattle.std.specs.Prelude.{Contains}
+use Rattle.std.proofs.Common.{true, false, refl, sym, subst}
 use Rattle.mtn_decide.specs.Decisions.{IsInOrder}
 use Rattle.mtn_history.proofs.Founding.{back, grown}
 use Rattle.mtn_marking.specs.Graph.{IsMarkedAt}

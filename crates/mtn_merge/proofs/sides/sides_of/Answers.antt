@@ -1,6 +1,6 @@
 -- Both sides, and the lesser first.
 use Rattle.std.proofs.Common.{◌≡◌, ◌∙◌, ℕ, List, Some, Err, sym, ap, subst}
-use Rattle.std.specs.declared.cmp.Ordering.TheVariants.{Less, Equal, Greater}
+use Rattle.std.specs.declared.cmp.Ordering.TheVariants.{Equal}
 use Rattle.std.proofs.lemmas.Result.{err_from_is_err_and}
 use Rattle.mtn_base.specs.Ids.{by_id}
 use Rattle.mtn_base.specs.declared.id.Id.{Id}
@@ -9,14 +9,11 @@ use Rattle.mtn_conflicts.specs.ConflictText.{IsLesser}
 use Rattle.mtn_history.specs.Stands.{IsFounded}
 use Rattle.mtn_history.specs.declared.pending.Pending.{Pending}
 use Rattle.mtn_history.proofs.Founding.{back, grown}
-use Rattle.mtn_history_laws.specs.History.{Revision}
 use Rattle.mtn_model.specs.State.{State}
-use Rattle.mtn_plans.specs.Sides.{left_of, related, right_of, side_refusal}
+use Rattle.mtn_plans.specs.Sides.{related, right_of}
 use Rattle.mtn_ports.proofs.KeptLemmas.{stays_trans}
 use Rattle.mtn_put_revision.proofs.Grounds.{moved}
-use Rattle.mtn_replay.specs.Making.{place_of}
 use Rattle.mtn_merge.specs.Sides.{Compares, FindsSide, FindsSides, IsSideOf}
-use Rattle.mtn_merge.specs.declared.sides.Side.{Side}
 use Rattle.mtn_merge.proofs.Comparing.{both_known, equal_sides, greater_sides, less_sides, related_itself, same_ids}
 use Rattle.mtn_merge.proofs.Damaging.{kept_damage, lesser_compared, same_damage}
 use Rattle.mtn_merge.proofs.Finding.{compared_sides, first_lost, second_lost, side_place}
