@@ -10,7 +10,7 @@ returns-in_err-look-clause-drafts g c =
     not_shown (g.I.Ident.meaning c.args.ident.now) c.args.a c.args.b c.args.payload.now g.K.Keeper.contents g.K.Keeper.leaves g.K.Keeper.faults c.args.draft.now.keeper.now c.look.new.draft.keeper.now c.args.draft.now.pending c.look.new.draft.pending
     c.in_err-look.ensures.stays c.in_err-look.ensures.pending c.from_residual.result c.in_err-look.field-0.0 (p.1 ∙ ap Err p.2) c.in_err-look.ensures.looks c.in_err-look.ensures.damaged (λ is. c.in_err-look.ensures.failed (ap Err is))
 
-pub returns-in-Conflicted-clause-drafts : goal.returns-in-Conflicted-clause-drafts
-returns-in-Conflicted-clause-drafts g c =
+pub returns-clause-drafts : goal.returns-clause-drafts
+returns-clause-drafts g c =
     shown (g.I.Ident.meaning c.args.ident.now) c.args.a c.args.b c.args.payload.now g.K.Keeper.contents g.K.Keeper.leaves g.K.Keeper.faults c.args.draft.now.keeper.now c.look.new.draft.keeper.now c.args.draft.now.pending c.look.new.draft.pending
-    c.in_ok-look.ensures.stays c.in_ok-look.ensures.pending c.in-Conflicted.left c.in-Conflicted.right c.in-Conflicted.conflicts _ c.in_ok-conflict_text.ensures (rw c.in-Conflicted.is at c.in_ok-look.ensures.looks)
+    c.in_ok-look.ensures.stays c.in_ok-look.ensures.pending c.in-Conflicted.left c.in-Conflicted.right c.in-Conflicted.conflicts _ c.in_ok-conflict_text-in-Conflicted.ensures (rw c.in-Conflicted.is at c.in_ok-look.ensures.looks)
