@@ -1,6 +1,6 @@
 -- A merge that is planned over a draft is its line of the step.
-use Rattle.std.specs.Prelude.{IfSome, IfErr, if◌then◌else◌}
-use Rattle.std.proofs.Common.{◌≡◌, ℕ, Bool, true, false, List, [], Option, Some, None, Result, Ok, Err, refl, sym, ap, ◌∙◌, subst}
+use Rattle.std.specs.Prelude.{IfSome, if◌then◌else◌}
+use Rattle.std.proofs.Common.{◌≡◌, ℕ, Bool, true, false, List, Option, Some, None, Result, Ok, Err, refl, sym, ap, ◌∙◌, subst}
 use Rattle.mtn_base.specs.declared.id.Id.{Id}
 use Rattle.mtn_conflicts.specs.declared.lists.Conflicts.{Conflicts}
 use Rattle.mtn_frame.specs.declared.works.Reply.{Reply}
@@ -10,7 +10,7 @@ use Rattle.mtn_history.specs.Marked.{IsCounted}
 use Rattle.mtn_history.specs.Stands.{IsDraft, IsFounded}
 use Rattle.mtn_history.specs.declared.errors.HistoryError.{HistoryError}
 use Rattle.mtn_history.specs.declared.errors.HistoryError.TheVariants.{Refused, Store}
-use Rattle.mtn_history.specs.declared.errors.StoreError.TheVariants.{Failed, Damaged, NoMemory}
+use Rattle.mtn_history.specs.declared.errors.StoreError.TheVariants.{Failed, NoMemory}
 use Rattle.mtn_history.specs.declared.pending.Pending.{Pending}
 use Rattle.mtn_history.proofs.Founding.{founded}
 use Rattle.mtn_history.proofs.MarkedLemmas.{draft_counts}
@@ -26,9 +26,9 @@ use Rattle.mtn_ports.specs.Causes.{Rose}
 use Rattle.mtn_ports.specs.Kept.{Stays, with_all}
 use Rattle.mtn_ports.proofs.KeptLemmas.{rose_before, stays_trans}
 use Rattle.mtn_put_revision.specs.Accepting.{AcceptsRevision}
-use Rattle.mtn_step.specs.Step.{Ended, PutsRevision, Shown, Steps, conflict_text, conflicted, done, id_line, refused}
+use Rattle.mtn_step.specs.Step.{Ended, PutsRevision, Steps, conflict_text, conflicted, done, id_line, refused}
 use Rattle.mtn_step.specs.declared.call.Call.TheVariants.{Merge, ShowConflicts}
-use Rattle.mtn_cli.specs.Drafts.{Counts, Drafted, Drafts, HasReason, HasReplyReason, Replied, Replies, drafted}
+use Rattle.mtn_cli.specs.Drafts.{Drafted, Drafts, Replies}
 use Rattle.mtn_cli.proofs.RevisionLemmas.{reason_told}
 use Rattle.mtn_cli.proofs.ViewLemmas.{never, reason_of}
 

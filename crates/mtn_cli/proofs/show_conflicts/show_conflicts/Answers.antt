@@ -1,5 +1,5 @@
 -- What is looked at is told.
-use Rattle.std.proofs.Common.{Ok, Err, ap, ◌∙◌}
+use Rattle.std.proofs.Common.{Err, ap, ◌∙◌}
 use Rattle.std.proofs.lemmas.Result.{err_from_is_err_and}
 use Rattle.mtn_cli.proofs.MergeLemmas.{not_shown, shown}
 use Rattle.mtn_cli.proofs.show_conflicts.show_conflicts.Goals as goal
