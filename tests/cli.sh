@@ -48,6 +48,9 @@ row "and has no revision" 1 '' "refused UnknownRevision $abc\n" - get_revision "
 row "nor a manifest" 1 '' "refused UnknownRevision $abc\n" - get_manifest_of "$abc"
 row "nor a roster" 1 '' "refused UnknownRevision $abc\n" - get_roster "$abc"
 row "nor marks" 1 '' "refused UnknownRevision $abc\n" - get_content_changed "$abc" a/b
+row "nor a merge" 1 '' "refused UnknownRevision $abc\n" - merge "$abc" "$nothing"
+row "also with resolutions" 1 'no text' "refused UnknownRevision $nothing\n" - merge --resolve "$nothing" "$abc"
+row "nor conflicts" 1 '' "refused UnknownRevision $abc\n" - show_conflicts "$abc" "$nothing"
 row "nor a place for its root" 1 '' "refused UnknownRevision $abc\n" - get_corresponding_path "$abc" '' "$nothing"
 
 for query in parents children ancestors descendents common_ancestors erase_ancestors toposort ancestry_difference; do
@@ -60,7 +63,7 @@ for query in erase_ancestors toposort leaves roots graph; do
     row "$query of nothing" 0 'unread' '' - $query
 done
 
-for words in '' 'heads' 'put_file x' 'put_file --x' 'put_file --x=' 'put_file --resolve' 'put_file -- x' 'put_file -- --' 'get_file' 'get_revision' 'get_revision ABC' 'get_manifest_of' 'get_manifest_of ABC' "get_manifest_of $abc x" 'get_roster' 'get_roster ABC' "get_roster $abc x" "get_content_changed $abc" "get_content_changed $abc a//b" "get_content_changed $abc ./a" "get_content_changed a $abc" "get_corresponding_path $abc a" "get_corresponding_path $abc a/.. $abc" "get_corresponding_path $abc a ABC" "get_revision $abc $abc" 'get_file ABC' "get_file $abc x" "get_file $abc --" "get_file --x= $abc" 'get_file --' 'PUT_FILE' '-- put_file' parents "parents $abc $abc" children ancestors descendents common_ancestors ancestry_difference 'toposort x' "leaves $abc" "roots $abc" "graph $abc"; do
+for words in '' 'heads' 'put_file x' 'put_file --x' 'put_file --x=' 'put_file --resolve' 'put_file -- x' 'put_file -- --' 'get_file' 'get_revision' 'get_revision ABC' 'get_manifest_of' 'get_manifest_of ABC' "get_manifest_of $abc x" 'get_roster' 'get_roster ABC' "get_roster $abc x" "get_content_changed $abc" "get_content_changed $abc a//b" "get_content_changed $abc ./a" "get_content_changed a $abc" "get_corresponding_path $abc a" "get_corresponding_path $abc a/.. $abc" "get_corresponding_path $abc a ABC" "get_revision $abc $abc" 'get_file ABC' "get_file $abc x" "get_file $abc --" "get_file --x= $abc" 'get_file --' 'PUT_FILE' '-- put_file' parents "parents $abc $abc" children ancestors descendents common_ancestors ancestry_difference 'toposort x' "leaves $abc" "roots $abc" "graph $abc" merge "merge $abc" "merge $abc $abc $abc" "merge $abc ABC" "merge --resolve=yes $abc $abc" "merge --x $abc $abc" "merge --resolve --resolve $abc $abc" "merge $abc $abc --resolve" 'merge --resolve' show_conflicts "show_conflicts $abc" "show_conflicts ABC $abc" "show_conflicts --resolve $abc $abc" "get_file --resolve $abc"; do
     # shellcheck disable=SC2086
     row "outside the grammar: '$words'" 2 'never read' 'usage\n' - $words
 done

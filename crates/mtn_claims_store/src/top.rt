@@ -1,6 +1,6 @@
 //! The top call.
 ghost use Rattle.std.specs.Prelude.{◌≡◌, IfOk};
-ghost use Rattle.mtn_cli.specs.Run.{OrderFree, Outcomes, Scripts, StaysLawful, is_read};
+ghost use Rattle.mtn_cli.specs.Run.{MergesAreDecided, OrderFree, Outcomes, Scripts, StaysLawful, is_read};
 ghost use Rattle.mtn_cli.specs.Store.{IsLine, ShowsDamage, is_merging, is_spelled};
 ghost use Rattle.mtn_cli.specs.Words.{Reads, command_of};
 ghost use Rattle.mtn_frame.specs.Frame.{Completes, HasCauses, LeavesRecords, Meets, Survives, TellsDamage, Writes};
@@ -49,6 +49,7 @@ pub fn run<R: Threads + Sync, I: Ident, S: Source, O: Sink, K: Keeper>(
         (record { contents = K.contents keeper.new; left = S.left source.new; written = O.written sink.new })
         (K.leaves keeper.old) (K.leaves keeper.new) }
     ensures order_free { OrderFree (I.meaning ident.now) words.now }
+    ensures merges { MergesAreDecided (I.meaning ident.now) words.now }
 {
     mtn_cli::run(rt, alloc, words, ident, source, sink, keeper)
 }

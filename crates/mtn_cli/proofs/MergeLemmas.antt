@@ -1,6 +1,6 @@
 -- A merge that is planned over a draft is its line of the step.
-use Rattle.std.specs.Prelude.{IfSome, IfErr, if◌then◌else◌}
-use Rattle.std.proofs.Common.{◌≡◌, ℕ, Bool, true, false, List, [], Option, Some, None, Result, Ok, Err, refl, sym, ap, ◌∙◌, subst}
+use Rattle.std.specs.Prelude.{IfSome, if◌then◌else◌}
+use Rattle.std.proofs.Common.{◌≡◌, ℕ, Bool, true, false, List, Option, Some, None, Result, Ok, Err, refl, sym, ap, ◌∙◌, subst}
 use Rattle.mtn_base.specs.declared.id.Id.{Id}
 use Rattle.mtn_conflicts.specs.declared.lists.Conflicts.{Conflicts}
 use Rattle.mtn_frame.specs.declared.works.Reply.{Reply}
@@ -10,7 +10,7 @@ use Rattle.mtn_history.specs.Marked.{IsCounted}
 use Rattle.mtn_history.specs.Stands.{IsDraft, IsFounded}
 use Rattle.mtn_history.specs.declared.errors.HistoryError.{HistoryError}
 use Rattle.mtn_history.specs.declared.errors.HistoryError.TheVariants.{Refused, Store}
-use Rattle.mtn_history.specs.declared.errors.StoreError.TheVariants.{Failed, Damaged, NoMemory}
+use Rattle.mtn_history.specs.declared.errors.StoreError.TheVariants.{Failed, NoMemory}
 use Rattle.mtn_history.specs.declared.pending.Pending.{Pending}
 use Rattle.mtn_history.proofs.Founding.{founded}
 use Rattle.mtn_history.proofs.MarkedLemmas.{draft_counts}
@@ -26,9 +26,9 @@ use Rattle.mtn_ports.specs.Causes.{Rose}
 use Rattle.mtn_ports.specs.Kept.{Stays, with_all}
 use Rattle.mtn_ports.proofs.KeptLemmas.{rose_before, stays_trans}
 use Rattle.mtn_put_revision.specs.Accepting.{AcceptsRevision}
-use Rattle.mtn_step.specs.Step.{Ended, PutsRevision, Shown, Steps, conflict_text, conflicted, done, id_line, refused}
+use Rattle.mtn_step.specs.Step.{Ended, PutsRevision, Steps, conflict_text, conflicted, done, id_line, refused}
 use Rattle.mtn_step.specs.declared.call.Call.TheVariants.{Merge, ShowConflicts}
-use Rattle.mtn_cli.specs.Drafts.{Counts, Drafted, Drafts, HasReason, HasReplyReason, Replied, Replies, drafted}
+use Rattle.mtn_cli.specs.Drafts.{Drafted, Drafts, Replies}
 use Rattle.mtn_cli.proofs.RevisionLemmas.{reason_told}
 use Rattle.mtn_cli.proofs.ViewLemmas.{never, reason_of}
 
@@ -48,11 +48,25 @@ module _ (f : List ℕ → List ℕ) (a b : Id) (resolves : Bool) (payload : Lis
   abbrev pub GivesOver : Option Contents → Pending → Result Planned HistoryError → Type 0
   GivesOver told p r = (s : State) (d : IsFounded f told p s) → Gives (MergesText f s.files d.stands.history a b (text_of resolves payload)) r
 
+  -- the same with the text by another name
+  pub given_over : (told : Option Contents) (p : Pending) (r : Result Planned HistoryError) (text : Option (List ℕ)) → text ≡ text_of resolves payload →
+      ((s : State) (d : IsFounded f told p s) → Gives (MergesText f s.files d.stands.history a b text) r) → GivesOver told p r
+  given_over told p r text is gives = λ s d. subst (λ (x : Option (List ℕ)). Gives (MergesText f s.files d.stands.history a b x) r) is (gives s d)
+
   outcome : (told : Option Contents) (p : Pending) (s : State) (d : IsFounded f told p s) (plan : Plan) → MergesText f s.files d.stands.history a b (text_of resolves payload) plan →
       (o : Outcome) → Ended (PutsRevision f) s o plan → Outcomes s o
   outcome told p s d plan is o comes = (d.stands.history, d.stands.spelled, (plan, of_text f s.files d.stands.history a b resolves payload plan is, comes))
 
   module _ {K : Type 0} (contents : K → Option Contents) (leaves : K → Contents → Type 0) (faults : K → ℕ) (old mid : K) (before : Pending) (stays : Stays contents leaves faults old mid) where
+    -- memory is wanting
+    pub wants : (new : K) (after : Pending) (result : Result Reply HistoryError) → result ≡ Err (Store NoMemory) → Stays contents leaves faults mid new → Replies f contents leaves faults old new before after true Outcomes result
+    wants new after result is put = subst (Replies f contents leaves faults old new before after true Outcomes) (sym is) record {
+      stays = stays_trans contents leaves faults old mid new stays put;
+      done = λ c s now draft. tt;
+      reason = λ counts. tt;
+      quiet = tt;
+    }
+
     -- conflicts, or a refusal, with nothing put
     module _ (after : Pending) (same : after ≡ before) where
       pub found_conflicts : (left right : Id) (conflicts : Conflicts) (text : List ℕ) → text ≡ conflict_text left right conflicts → GivesOver (contents mid) before (Ok (Conflicted left right conflicts)) →
@@ -128,6 +142,18 @@ module _ (f : List ℕ → List ℕ) (a b : Id) (resolves : Bool) (payload : Lis
           IfSome (contents new) (λ c. IsCounted before c → IfStoreDamage e (IsDamage (with_all c before.batch))) → (e ≡ Store Failed → Rose (faults mid) (faults new)) →
           Replies f contents leaves faults old new before after true Outcomes result
       merge_failed result e is accepts damaged rose = subst (Replies f contents leaves faults old new before after true Outcomes) (sym is) (put_err e accepts damaged rose)
+
+-- what is put over a draft whose pending records are these, and whose text is this
+pub accepts_at : (f : List ℕ → List ℕ) (told : Option Contents) (mid before after : Pending) (said text : List ℕ) (r : Result Id HistoryError) → mid ≡ before → said ≡ text →
+    ((c : Contents) (s : State) → told ≡ Some c → IsDraft f c mid s → AcceptsRevision f c s said r after) →
+    (c : Contents) (s : State) → told ≡ Some c → IsDraft f c before s → AcceptsRevision f c s text r after
+accepts_at f told mid before after said text r same is accepts =
+    subst (λ (t : List ℕ). (c : Contents) (s : State) → told ≡ Some c → IsDraft f c before s → AcceptsRevision f c s t r after) is
+    (subst (λ (p : Pending). (c : Contents) (s : State) → told ≡ Some c → IsDraft f c p s → AcceptsRevision f c s said r after) same accepts)
+
+pub damaged_at : (told : Option Contents) (mid before : Pending) (e : HistoryError) → mid ≡ before →
+    IfSome told (λ c. IsCounted mid c → IfStoreDamage e (IsDamage (with_all c mid.batch))) → IfSome told (λ c. IsCounted before c → IfStoreDamage e (IsDamage (with_all c before.batch)))
+damaged_at told mid before e same damaged = subst (λ (p : Pending). IfSome told (λ c. IsCounted p c → IfStoreDamage e (IsDamage (with_all c p.batch)))) same damaged
 
 -- what is shown
 module _ (f : List ℕ → List ℕ) (a b : Id) (payload : List ℕ) {K : Type 0} (contents : K → Option Contents) (leaves : K → Contents → Type 0) (faults : K → ℕ) (old new : K) (before after : Pending)

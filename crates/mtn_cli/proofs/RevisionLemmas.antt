@@ -1,5 +1,5 @@
 -- Accepting a revision is its line of the step.
-use Rattle.std.proofs.Common.{◌≡◌, ℕ, List, false, Option, Some, None, Result, Ok, Err, refl, sym, ap, ◌∙◌, subst}
+use Rattle.std.proofs.Common.{◌≡◌, ℕ, List, Option, Some, None, Result, Ok, Err, refl, sym, ap, ◌∙◌, subst}
 use Rattle.std.specs.Prelude.{IfSome}
 use Rattle.mtn_put_revision.specs.Accepting.{AcceptsRevision}
 use Rattle.mtn_base.specs.declared.id.Id.{Id}

@@ -1,9 +1,7 @@
 -- The commands of a store, by the words that they are spelled with.
-use Rattle.std.proofs.Common.{◌≡◌, ℕ, Bool, true, false, List, [], Option, Some, None, Result, Err, refl, sym, ap, subst, arith}
+use Rattle.std.proofs.Common.{◌≡◌, ℕ, true, List, Option, Some, None, Result, Err, refl, sym, subst, arith}
 use Rattle.std.specs.Prelude.{IfSome, is_some}
-use Rattle.mtn_model.specs.State.{State}
 use Rattle.mtn_model.specs.Table.{Contents}
-use Rattle.mtn_ports.specs.Kept.{Stays}
 use Rattle.mtn_frame.specs.Works.{Works}
 use Rattle.mtn_frame.specs.declared.works.Worked.{Worked}
 use Rattle.mtn_frame.specs.declared.works.WorkError.{WorkError}

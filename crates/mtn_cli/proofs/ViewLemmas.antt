@@ -1,6 +1,6 @@
 -- A question about the history, asked of a draft, is its command.
-use Rattle.std.specs.Prelude.{IfSome, IfErr, option_map}
-use Rattle.std.proofs.Common.{◌≡◌, ◌≤◌, ℕ, false, List, Option, Some, None, Result, Ok, Err, refl, sym, ap, ◌∙◌, subst}
+use Rattle.std.specs.Prelude.{IfSome}
+use Rattle.std.proofs.Common.{◌≡◌, ℕ, List, Option, Some, None, Result, Ok, Err, refl, sym, ap, subst}
 use Rattle.mtn_history_laws.specs.History.{Revision}
 use Rattle.mtn_model.specs.State.{State}
 use Rattle.mtn_model.specs.Table.{Contents}
@@ -22,8 +22,8 @@ use Rattle.mtn_history.proofs.MetaLemmas.{no_damage}
 use Rattle.mtn_answers.specs.Views.{TextAnswer}
 use Rattle.mtn_roster_queries.specs.Answers.{Gives}
 use Rattle.mtn_model.specs.Outcome.{Outcome}
-use Rattle.mtn_step.specs.Step.{OfHistory, Viewed, told, done}
-use Rattle.mtn_cli.specs.Drafts.{Counts, Drafted, Drafts, HasReason, Reason, drafted}
+use Rattle.mtn_step.specs.Step.{OfHistory, Viewed, told}
+use Rattle.mtn_cli.specs.Drafts.{Counts, Drafts, Reason, drafted}
 
 -- a damage is one of the records that a draft stands on
 abbrev IsOwnDamage : Option Contents → Pending → StoreError → Type 0

@@ -1,6 +1,5 @@
 // The command `merge`.
-ghost use Rattle.std.specs.Prelude.{◌≡◌, IfOk, true};
-ghost use Rattle.mtn_basic_io.specs.Spelling.{spelling};
+ghost use Rattle.std.specs.Prelude.{◌≡◌, IfOk, Some, None, true, option_copied, if◌then◌else◌};
 ghost use Rattle.mtn_conflicts.specs.ConflictText.{IsLesser};
 ghost use Rattle.mtn_cli.specs.Drafts.{Replies};
 ghost use Rattle.mtn_step.specs.Step.{Steps, conflict_text as text_of_conflicts};
@@ -31,6 +30,13 @@ pub fn conflict_text(
     Ok(Bytes::from_vec(text))
 }
 
+// The text of the resolutions: the payload, where the option says so.
+fn resolution_text(resolves: bool, payload: &[u8]) -> Option<&[u8]>
+    ensures { option_copied result ≡ if resolves then Some payload.now else None }
+{
+    if resolves { Some(payload) } else { None }
+}
+
 /// Accepts the merge of two revisions and answers its id, or answers the conflicts.
 pub fn merge<I: Ident, K: Keeper>(
     alloc: Global,
@@ -45,8 +51,8 @@ pub fn merge<I: Ident, K: Keeper>(
     ensures replies { Replies (I.meaning ident.now) K.contents K.leaves K.faults draft.old.keeper.now draft.new.keeper.now draft.old.pending draft.new.pending
         true (Steps (I.meaning ident.now) (Call.Merge a b resolves) payload.now) result }
 {
-    let resolutions = if resolves { Some(payload) } else { None };
-    match plan_with(alloc, ident, draft, a, b, resolutions)? {
+    let text = resolution_text(resolves, payload);
+    match plan_with(alloc, ident, draft, a, b, text)? {
         Outcome::Merged { text } => {
             let id = put_revision(alloc, ident, draft, text.as_slice())?;
             Ok(Reply {

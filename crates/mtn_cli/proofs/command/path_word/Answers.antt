@@ -1,7 +1,6 @@
-use Rattle.std.proofs.Common.{◌≡◌, List, None, ap, ◌∙◌, sym, subst}
+use Rattle.std.proofs.Common.{◌∙◌, subst}
 use Rattle.mtn_base.specs.Paths.{IsPathFault}
 use Rattle.mtn_base.specs.declared.path.PathError.TheVariants.{Empty, Dots, TooLong, BadByte}
-use Rattle.mtn_cli.specs.Calls.{read_path}
 use Rattle.mtn_cli.proofs.PathWords.{path_read, path_refused}
 use Rattle.mtn_cli.proofs.command.path_word.Goals as goal
 

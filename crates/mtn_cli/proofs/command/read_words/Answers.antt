@@ -5,4 +5,4 @@ use Rattle.mtn_cli.proofs.command.read_words.Goals as goal
 
 -- the name is a text
 pub returns : goal.returns
-returns c = absurd (c.in-Err.ensures.cases.0 (subst IsUtf8 (sym c.as_slice-2.ensures) (name_is_utf8 c.args.words.now c.in_ok-command.command c.in_ok-command.ensures)))
+returns c = absurd (c.in-Err.ensures.cases.0 (subst IsUtf8 (sym c.as_slice.ensures) (name_is_utf8 c.args.words.now c.in_ok-command.command c.in_ok-command.ensures)))

@@ -1,5 +1,5 @@
 use Rattle.mtn_cli.specs.Step.{Step}
-use Rattle.mtn_cli.specs.Store.{IsLine, ShowsDamage, is_merging, is_spelled, unbounded}
+use Rattle.mtn_cli.specs.Store.{IsLine, ShowsDamage}
 use Rattle.mtn_history.specs.Memory.{Knows}
 use Rattle.mtn_history.specs.Stands.{Stands}
 use Rattle.mtn_frame.specs.Script.{Does}

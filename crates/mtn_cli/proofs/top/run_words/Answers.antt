@@ -1,7 +1,6 @@
 use Rattle.std.proofs.Common.{refl}
 use Rattle.mtn_cli.specs.Step.{Step}
 use Rattle.mtn_cli.specs.Store.{IsLine, ShowsDamage, is_merging, is_spelled, unbounded}
-use Rattle.mtn_history.specs.Memory.{Knows}
 use Rattle.mtn_history.specs.Stands.{Stands}
 use Rattle.mtn_frame.specs.Payload.{takes_last}
 use Rattle.mtn_frame.proofs.TopLemmas.{no_memory, source_failed, too_long, ran, read_as, feeds_as, known, long_as}

@@ -1,4 +1,4 @@
-use Rattle.std.proofs.Common.{sym, ap, ◌∙◌, subst, List}
+use Rattle.std.proofs.Common.{sym, ◌∙◌, subst, List}
 use Rattle.mtn_ports.specs.Kept.{with_all}
 use Rattle.mtn_ports.specs.declared.batch.Put.{Put}
 use Rattle.mtn_history.specs.Memory.{Knows}

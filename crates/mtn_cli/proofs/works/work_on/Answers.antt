@@ -1,4 +1,4 @@
-use Rattle.std.proofs.Common.{rules, Some, Err, Ok, sym, ap, ◌∙◌, subst}
+use Rattle.std.proofs.Common.{rules, Some, Err, Ok, sym, ap, subst}
 use Rattle.std.specs.Prelude.{IfSome}
 use Rattle.mtn_ports.specs.Kept.{with_all}
 use Rattle.mtn_history.proofs.MetaLemmas.{meta_damage}
