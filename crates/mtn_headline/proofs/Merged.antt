@@ -57,7 +57,7 @@ use Rattle.mtn_step.specs.declared.call.Call.TheVariants.{Merge as MergeCall}
 use Rattle.mtn_step_laws.proofs.OnePlan.{one_plan}
 use Rattle.mtn_headline.specs.Merging.{IsMergeInOrder, IsMergedBy, IsNewRevision, IsWithinLimits, MakesIds}
 use Rattle.mtn_headline.proofs.Ids.{IsId, merge_stanzas}
-use Rattle.mtn_headline.proofs.Ordering.{lesser}
+use Rattle.mtn_planned_trees.proofs.Planned as planned
 
 -- resolutions that are given are lawful
 lawful_given : (resolves : Bool) (payload : List ℕ) (rs : List Resolution) → IsGiven resolves payload (Ok rs) → AreResolutions [] rs
@@ -79,8 +79,8 @@ module _ (f : List ℕ → List ℕ) (s : State) (h : List Revision) (a b : Id) 
   decisions = overridden order.resolutions order.merge
 
   -- the plan of a merge whose ends are these
-  planned : (plan : Plan) → Ends f h l r decisions plan → Merges f s.files h a b resolves payload plan
-  planned plan ends = subst (λ u. Unless u (PlansPayload f h l r s.files resolves payload) plan) (sym order.sides) (
+  plan_of : (plan : Plan) → Ends f h l r decisions plan → Merges f s.files h a b resolves payload plan
+  plan_of plan ends = subst (λ u. Unless u (PlansPayload f h l r s.files resolves payload) plan) (sym order.sides) (
     Ok order.resolutions,
     order.given,
     record {
@@ -99,14 +99,14 @@ module _ (f : List ℕ → List ℕ) (s : State) (h : List Revision) (a b : Id) 
   by_plan plan ends does =
       let same : does.0 ≡ h = one_history f s.files s.log does.0 h does.1 is in
       let there : Planned (Merges f s.files h a b resolves payload) (Ended (PutsRevision f) s o) = subst (λ g. Planned (Merges f s.files g a b resolves payload) (Ended (PutsRevision f) s o)) same does.2 in
-      subst (Ended (PutsRevision f) s o) (one_plan f s.files s.log h is a b resolves payload there.0 plan there.1 (planned plan ends)) there.2
+      subst (Ended (PutsRevision f) s o) (one_plan f s.files s.log h is a b resolves payload there.0 plan there.1 (plan_of plan ends)) there.2
 
   pub in_conflict : Steps f (MergeCall a b resolves) payload s o → ¬ IsNone d → o ≡ conflicted s (conflict_text l r d)
   in_conflict does some = by_plan (Ok (Conflicted l r d)) (record { conflicts = d; are = are; ends = inl (record { some = some; is = refl }) }) does
 
   module _ (ids : MakesIds f) (lawful : IsLawful f s) (none : IsNone d) (x : Id) (ux : IsUnborn h l r x) (within : IsWithinLimits f s h l r (result_of decisions x)) where
-    grown : IsGrown h
-    grown = history_is_grown f s.files s.log h is
+    lawful_rs : AreResolutions [] order.resolutions
+    lawful_rs = lawful_given resolves payload order.resolutions order.given
 
     abbrev t : Tree
     t = result_of decisions x
@@ -133,11 +133,7 @@ module _ (f : List ℕ → List ℕ) (s : State) (h : List Revision) (a b : Id) 
     -- ---- the limits
 
     parts : (too_many t ≡ None) × ((too_long t ≡ None) × (text_refusal text ≡ None))
-    parts = let m = both (too_many t) (or_else (too_long t) (text_refusal text)) within.limits in (m.0, both (too_long t) (text_refusal text) m.1)
-      where
-        both : (v w : Option Cause) → or_else v w ≡ None → (v ≡ None) × (w ≡ None)
-        both None w e = (refl, e)
-        both (Some c) w e = absurd cc
+    parts = planned.parts f s.files s.log h is a b order.sides order.merge order.decides order.resolutions order.before order.checked lawful_rs d are none x ux within.limits
 
     short : length text ≤ 67108864
     short = elim (cases_lt 67108864 (length text)) [
@@ -172,71 +168,19 @@ module _ (f : List ℕ → List ℕ) (s : State) (h : List Revision) (a b : Id) 
     -- ---- a new text
 
     module _ (fresh : place_of h new ≡ None) where
-      unborn_left : NoneBornIn (tree_at h p) new
-      unborn_left = unborn_at h p new grown.born (no_place h new fresh)
-
-      unborn_right : NoneBornIn (tree_at h q) new
-      unborn_right = unborn_at h q new grown.born (no_place h new fresh)
-
-      x_left : NoneBornIn (tree_at h p) x
-      x_left = subst (λ z. NoneBornIn z x) (tree_is f s.files s.log h is l p order.decides.at_left) ux.0
-
-      x_right : NoneBornIn (tree_at h q) x
-      x_right = subst (λ z. NoneBornIn z x) (tree_is f s.files s.log h is r q order.decides.at_right) ux.1
-
       shown : IsMerged (tree_at h p) (tree_at h q) new (is_above h (Some l)) (is_above h (Some r)) u
-      shown = shown_again f s.files s.log h is l r p q order.decides.at_left order.decides.at_right order.merge order.before d order.resolutions order.decides.order order.decides.decides order.checked.0 are none
-          new (no_place h new fresh) (lawful_given resolves payload order.resolutions order.given)
-
-      edges : merge_edges h l r t ≡ merge_edges h l r u
-      edges = edges_again f s.files s.log h is l r p q order.decides.at_left order.decides.at_right order.merge order.before d order.resolutions order.decides.order order.decides.decides order.checked.0 are none
-          x new x_left x_right unborn_left unborn_right
-
-      manifests : manifest_of t ≡ manifest_of u
-      manifests = manifest_again f s.files s.log h is l r p q order.decides.at_left order.decides.at_right order.merge order.before d order.resolutions order.decides.order order.decides.decides order.checked.0 are none
-          x new x_left x_right unborn_left unborn_right
-
-      many : too_many t ≡ too_many u
-      many = many_again f s.files s.log h is l r p q order.decides.at_left order.decides.at_right order.merge order.before d order.resolutions order.decides.order order.decides.decides order.checked.0 are none
-          x new x_left x_right unborn_left unborn_right
-
-      long : too_long t ≡ too_long u
-      long = long_again f s.files s.log h is l r p q order.decides.at_left order.decides.at_right order.merge order.before d order.resolutions order.decides.order order.decides.decides order.checked.0 are none
-          x new x_left x_right unborn_left unborn_right
-
-      picks : find (λ (i : Id). is_none (get s.files i.0)) (filter_map pick_in order.resolutions) ≡ None
-      picks = unmapped UnknownFile (find (λ (i : Id). is_none (get s.files i.0)) (filter_map pick_in order.resolutions)) order.checked.1
-
-      contents : unknown_file s.files (merge_edges h l r u) ≡ None
-      contents = contents_again f s.files s.log h is l r p q order.decides.at_left order.decides.at_right order.merge order.decides.order order.decides.decides order.resolutions picks order.before d order.checked.0 are none new unborn_left unborn_right
+      shown = planned.shown f s.files s.log h is a b order.sides order.merge order.decides order.resolutions order.before order.checked lawful_rs d are none x ux within.limits fresh
 
       held : (content : Id) → IsContentIn u content → IsSome (get s.files content.0)
-      held = result_held f s.files s.log h is l r p q order.decides.at_left order.decides.at_right order.merge order.decides.order order.decides.decides order.resolutions picks order.before d order.checked.0 are none new unborn_left unborn_right
-
-      revisions : merge_revision f h l r t ≡ merge_revision f h l r u
-      revisions = λ i. record { manifest = id_of (f (spelling (manifests i))); edges = edges i }
+      held = planned.held f s.files s.log h is a b order.sides order.merge order.decides order.resolutions order.before order.checked lawful_rs d are none x ux within.limits fresh
 
       spells : Spells text (merge_revision f h l r u)
-      spells = record {
-        reads = record {
-          lawful = edges_lawful f s.files s.log h is l r p q order.decides.at_left order.decides.at_right u (lesser h grown a b p order.decides.at_left order.sides) shown.sane shown.spellable;
-          spelled = ap (λ (z : Spelled). spelling (revision_stanzas z)) revisions;
-        };
-        stanzas = merge_stanzas f ids s.files lawful.files s.log h is l r p q u (id_of (f (spelling (manifest_of u)))) order.decides.at_left order.decides.at_right shown.sane held
-            (ids (spelling (manifest_of u)));
-      }
-
-      none_of_tree : too_many u ≡ None
-      none_of_tree = sym many ∙ parts.0
+      spells = planned.spells f s.files s.log h is a b order.sides order.merge order.decides order.resolutions order.before order.checked lawful_rs d are none x ux within.limits fresh
+          (merge_stanzas f ids s.files lawful.files s.log h is l r p q u (id_of (f (spelling (manifest_of u)))) order.decides.at_left order.decides.at_right shown.sane held
+          (ids (spelling (manifest_of u))))
 
       refusal_none : log_full h ≡ None → refusal_of f s.files h new (merge_revision f h l r u) ≡ None
-      refusal_none room =
-          accepted_is f s.files s.log h is l r p q order.decides.at_left order.decides.at_right u new (no_place h new fresh) shown (id_of (f (spelling (manifest_of u))))
-          ∙ ap (λ v. or_else v (tree_refusal f s.files (merge_revision f h l r u) u)) room
-          ∙ ap (λ v. or_else v (or_else (too_long u) (or_else (unknown_file s.files (merge_edges h l r u)) (other_manifest f u (id_of (f (spelling (manifest_of u)))))))) none_of_tree
-          ∙ ap (λ v. or_else v (or_else (unknown_file s.files (merge_edges h l r u)) (other_manifest f u (id_of (f (spelling (manifest_of u))))))) (sym long ∙ parts.1.0)
-          ∙ ap (λ v. or_else v (other_manifest f u (id_of (f (spelling (manifest_of u)))))) contents
-          ∙ ap (λ z. if z then None else Some (ManifestDiffers (id_of (f (spelling (manifest_of u)))))) ((bytes_decides (f (spelling (manifest_of u))) (f (spelling (manifest_of u)))).1 refl)
+      refusal_none = planned.refusal_none f s.files s.log h is a b order.sides order.merge order.decides order.resolutions order.before order.checked lawful_rs d are none x ux within.limits fresh
 
       revision : Revision
       revision = made h new (merge_edges h l r u)
@@ -245,7 +189,7 @@ module _ (f : List ℕ → List ℕ) (s : State) (h : List Revision) (a b : Id) 
       next room = record { short = short; id = refl; fresh = fresh; read = merge_revision f h l r u; spells = spells; accepted = refusal_none room; made = refl }
 
       tree : made_tree h new (merge_edges h l r u) ≡ u
-      tree = made_is f s.files s.log h is l r p q order.decides.at_left order.decides.at_right u new (no_place h new fresh) shown
+      tree = planned.tree f s.files s.log h is a b order.sides order.merge order.decides order.resolutions order.before order.checked lawful_rs d are none x ux within.limits fresh
 
       made_new : log_full h ≡ None → text_under s.log (f text) ≡ None → o ≡ unless None s (logged_beside None f s text) (id_line (f text)) → IsNewRevision f h decisions text o
       made_new room under e = record {
