@@ -1,62 +1,54 @@
 -- A merge in order is decided by its lists.
-use Rattle.std.specs.Prelude.{IsSome, map, nat_lt, bytes_eq, if◌then◌else◌, find, filter_map, is_none, slice_get, option_map}
+use Rattle.std.specs.Prelude.{IsSome, nat_lt, if◌then◌else◌, find, slice_get, option_map}
 use Rattle.std.specs.FinMap.{get}
 use Rattle.std.proofs.lemmas.Bool.{cases_lt}
 use Rattle.std.proofs.lemmas.Bool.Decides.{nat_tests}
 use Rattle.std.proofs.lemmas.Option.{same_Some}
-use Rattle.std.proofs.Common.{◌≡◌, ◌≢◌, ◌⊎◌, ◌≤◌, ◌<◌, ℕ, Bool, true, false, List, [], ◌∷◌, ◌++◌, length, Option, Some, None, Ok, Err, inl, inr, refl, sym, ap, ◌∙◌, subst, arith}
+use Rattle.std.proofs.Common.{◌≡◌, ◌⊎◌, ◌≤◌, ◌<◌, ℕ, Bool, true, false, List, [], ◌∷◌, ◌++◌, length, Option, Some, None, Ok, inl, inr, refl, sym, ap, ◌∙◌, subst, arith}
 use Rattle.mtn_base.specs.Hex.{id_of}
 use Rattle.mtn_base.specs.declared.id.Id.{Id}
 use Rattle.mtn_base.specs.Names.{same_bytes}
 use Rattle.mtn_base.specs.declared.refusal.Cause.{Cause}
-use Rattle.mtn_base.specs.declared.refusal.Cause.TheVariants.{Collision, ManifestDiffers, TextTooLong, UnknownFile}
+use Rattle.mtn_base.specs.declared.refusal.Cause.TheVariants.{Collision, TextTooLong}
 use Rattle.mtn_base.proofs.Finding.{found}
 use Rattle.mtn_base.proofs.Members.{taken, place_of as place_in}
-use Rattle.mtn_basic_io.specs.Spelling.{AreStanzas, spelling}
+use Rattle.mtn_basic_io.specs.Spelling.{spelling}
 use Rattle.mtn_between.specs.Laws.{IsContentIn}
 use Rattle.mtn_between.specs.Merging.{IsMerged}
 use Rattle.mtn_changes.specs.declared.change.Revision.{Revision as Spelled}
 use Rattle.mtn_changes.specs.declared.error.ChangeTextError.TheVariants as error
-use Rattle.mtn_changes.specs.RevisionText.{revision_stanzas}
 use Rattle.mtn_changes.proofs.OneValue.{no_revision_fault, same_revision}
-use Rattle.mtn_changeset_laws.specs.Changes.{or_else}
-use Rattle.mtn_changeset_laws.specs.Laws.{IsFresh, NoneBornIn}
-use Rattle.mtn_changeset_laws.proofs.Stepping.{unborn_at}
 use Rattle.mtn_conflicts.specs.declared.lists.Conflicts.{Conflicts}
 use Rattle.mtn_conflicts.specs.Lists.{AreConflictsOf, IsNone}
 use Rattle.mtn_conflicts.specs.Result.{result_of}
 use Rattle.mtn_decide.specs.Decisions.{Merge}
-use Rattle.mtn_history_laws.specs.History.{Revision, tree_at, IsGrown}
+use Rattle.mtn_history_laws.specs.History.{Revision, tree_at}
 use Rattle.mtn_manifest.specs.Manifest.{manifest_of}
-use Rattle.mtn_merged_trees.proofs.Again.{edges_again, long_again, manifest_again, many_again, shown_again}
-use Rattle.mtn_merged_trees.proofs.Contents.{contents_again, result_held}
 use Rattle.mtn_merging.specs.MergeEdges.{merge_edges}
-use Rattle.mtn_merging.proofs.Accepted.{accepted_is, edges_lawful, made_is, tree_is}
 use Rattle.mtn_model.specs.Outcome.{Outcome}
 use Rattle.mtn_model.specs.State.{Logged, State}
 use Rattle.mtn_order.proofs.Texts.{text_none}
-use Rattle.mtn_plans.specs.Given.{IsChecked, IsGiven, unknown_pick}
-use Rattle.mtn_plans.specs.Plans.{Ends, IsUnborn, Merges, Plan, PlansPayload, PlansSides, Unless, limit_refusal, merge_revision, merge_text, merged_or, text_refusal}
-use Rattle.mtn_plans.specs.Sides.{IsMergeAt, left_of, right_of, side_refusal}
-use Rattle.mtn_plans.specs.declared.outcome.Outcome.TheVariants.{Conflicted, Merged}
-use Rattle.mtn_replay.specs.Accepting.{Decides, IsDecided, fault_cause, logged_beside, refusal_beside}
+use Rattle.mtn_plans.specs.Given.{IsGiven}
+use Rattle.mtn_plans.specs.Plans.{Ends, IsUnborn, Merges, Plan, PlansPayload, Unless, limit_refusal, merge_revision, merge_text, merged_or, text_refusal}
+use Rattle.mtn_plans.specs.Sides.{left_of, right_of}
+use Rattle.mtn_plans.specs.declared.outcome.Outcome.TheVariants.{Conflicted}
+use Rattle.mtn_replay.specs.Accepting.{Decides, fault_cause, logged_beside, refusal_beside}
 use Rattle.mtn_replay.specs.Lawful.{IsHistory, IsLawful, IsNext, Spells}
-use Rattle.mtn_replay.specs.Making.{is_above, log_full, made, made_tree, other_manifest, parent_tree, place_of, refusal_of, too_long, too_many, tree_refusal, unknown_file}
+use Rattle.mtn_replay.specs.Making.{is_above, log_full, made, made_tree, place_of, refusal_of, too_long, too_many}
 use Rattle.mtn_replay.specs.Texts.{text_under}
-use Rattle.mtn_replay.proofs.Histories.{history_is_grown, history_more, one_history}
+use Rattle.mtn_replay.proofs.Histories.{history_more, one_history}
 use Rattle.std.specs.Cmp.Lexicographic.{bytes_decides}
-use Rattle.mtn_replay.proofs.Places.{no_place, within as inside}
-use Rattle.mtn_replay.proofs.Steps.{unmapped}
+use Rattle.mtn_replay.proofs.Places.{within as inside}
 use Rattle.mtn_marking.proofs.Zips.{got_at}
 use Rattle.mtn_resolve.specs.declared.resolution.Resolution.{Resolution}
-use Rattle.mtn_resolve.specs.Overriding.{overridden, pick_in}
+use Rattle.mtn_resolve.specs.Overriding.{overridden}
 use Rattle.mtn_resolve.specs.Texts.{AreResolutions}
 use Rattle.mtn_roster.specs.Tree.{Tree, IsSane}
-use Rattle.mtn_step.specs.Step.{Ended, OfHistory, Planned, PutsRevision, Steps, conflict_text, conflicted, done, id_line, unless}
+use Rattle.mtn_step.specs.Step.{Ended, Planned, PutsRevision, Steps, conflict_text, conflicted, id_line, unless}
 use Rattle.mtn_step.specs.declared.call.Call.TheVariants.{Merge as MergeCall}
 use Rattle.mtn_step_laws.proofs.OnePlan.{one_plan}
 use Rattle.mtn_headline.specs.Merging.{IsMergeInOrder, IsMergedBy, IsNewRevision, IsWithinLimits, MakesIds}
-use Rattle.mtn_headline.proofs.Ids.{IsId, merge_stanzas}
+use Rattle.mtn_headline.proofs.Ids.{merge_stanzas}
 use Rattle.mtn_planned_trees.proofs.Planned as planned
 
 -- resolutions that are given are lawful
