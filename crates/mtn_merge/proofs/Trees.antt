@@ -13,6 +13,7 @@ use Rattle.mtn_model.specs.Table.{Table}
 use Rattle.mtn_planned_trees.proofs.Lasting.{result_stays}
 use Rattle.mtn_planned_trees.proofs.Planned.{planned as planned_tree}
 use Rattle.mtn_plans.specs.Sides.{left_of, right_of, side_refusal}
+use Rattle.mtn_put_revision.specs.Keeping.{IsPlanned}
 use Rattle.mtn_replay.specs.Lawful.{IsHistory, Spells}
 use Rattle.mtn_replay.specs.Making.{log_full, made_tree, place_of, refusal_of}
 use Rattle.mtn_resolve.specs.declared.resolution.Resolution.{Resolution}
@@ -21,7 +22,7 @@ use Rattle.mtn_resolve.specs.Texts.{AreResolutions}
 use Rattle.mtn_roster.specs.Tree.{Tree}
 use Rattle.mtn_merge.proofs.None.{not_overridden}
 use Rattle.mtn_merge.specs.Given.{Overrides}
-use Rattle.mtn_merge.specs.Plans.{HasClear, HasTree, IsKept, IsPlanned}
+use Rattle.mtn_merge.specs.Plans.{HasClear, HasTree, IsKept}
 use Rattle.mtn_merge.specs.Sides.{AreCompared}
 use Rattle.mtn_merge.specs.declared.answer.Planned.{Planned}
 use Rattle.mtn_merge.specs.declared.answer.Planned.TheVariants as planned

@@ -20,8 +20,7 @@ use Rattle.mtn_model.specs.Table.{Table}
 use Rattle.mtn_plans.specs.Plans.{Plan, IsResult, IsUnborn, limit_refusal, merged_or, merge_revision, merge_text, Merges}
 use Rattle.mtn_plans.specs.declared.outcome.Outcome.{Outcome}
 use Rattle.mtn_plans.specs.declared.outcome.Outcome.TheVariants.{Merged, Conflicted}
-use Rattle.mtn_replay.specs.Lawful.{Spells}
-use Rattle.mtn_replay.specs.Making.{log_full, made_tree, place_of, refusal_of}
+use Rattle.mtn_put_revision.specs.Keeping.{IsPlanned}
 use Rattle.mtn_roster.specs.Tree.{Tree}
 use Rattle.mtn_merge.specs.declared.answer.Planned.{Planned}
 use Rattle.mtn_merge.specs.declared.answer.Planned.TheVariants as planned
@@ -91,10 +90,6 @@ abbrev pub HasClear : (List ℕ → List ℕ) → List Revision → Id → Id �
 HasClear f h l r m (planned.Merged text (Some t)) = AreClear m × IsKept f h l r m text t
 HasClear f h l r m (planned.Merged text None) = ⊤
 HasClear f h l r m (planned.Conflicted left right conflicts) = ⊤
-
-abbrev pub IsPlanned : (List ℕ → List ℕ) → Table → List Revision → List ℕ → Tree → Type 0
-IsPlanned f files h text t = (r : Spelled) → Spells text r → place_of h (id_of (f text)) ≡ None → log_full h ≡ None →
-    (refusal_of f files h (id_of (f text)) r ≡ None) × (made_tree h (id_of (f text)) r.edges ≡ t)
 
 -- the tree that is handed on is the one that the text makes
 abbrev pub HasTree : (List ℕ → List ℕ) → Table → List Revision → Planned → Type 0
