@@ -1,8 +1,6 @@
 -- By what is held under the id.
 use Rattle.std.proofs.Common.{sym, subst, arith}
 use Rattle.std.specs.Prelude.{◌≡◌, IfErr, IfSome, OnErr}
-use Rattle.mtn_model.specs.State.{State}
-use Rattle.mtn_model.specs.Table.{Contents}
 use Rattle.mtn_ports.specs.Kept.{with_all}
 use Rattle.mtn_ports.proofs.KeptLemmas.{stays_trans}
 use Rattle.mtn_history.specs.Damage.{IsDamage}
