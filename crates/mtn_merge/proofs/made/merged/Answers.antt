@@ -6,7 +6,7 @@ use Rattle.mtn_changes.specs.RevisionText.{revision_stanzas}
 use Rattle.mtn_decide.specs.declared.decision.Decision.{Decision}
 use Rattle.mtn_history.specs.declared.errors.HistoryError.{HistoryError}
 use Rattle.mtn_merge.specs.declared.answer.Planned.{Planned}
-use Rattle.std.proofs.Common.{false, Result, ◌∙◌, ℕ, Err, length, sym, ap, subst, arith, List}
+use Rattle.std.proofs.Common.{◌≡◌, false, Result, ◌∙◌, ℕ, Err, length, sym, ap, subst, arith, List}
 use Rattle.std.proofs.lemmas.Result.{err_from_is_err_and}
 use Rattle.mtn_base.specs.declared.limits.TheConstants.{MAX_TEXT}
 use Rattle.mtn_base.specs.declared.refusal.Cause.TheVariants.{TextTooLong}
