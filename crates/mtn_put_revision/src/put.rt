@@ -96,46 +96,24 @@ pub fn put_revision<I: Ident, K: Keeper>(
         IfErr result (λ e. IfStoreDamage e (IsDamage (with_all c draft.old.pending.batch)))) }
     ensures failed { result ≡ Err (HistoryError.Store StoreError.Failed) → Rose (K.faults draft.old.keeper.now) (K.faults draft.new.keeper.now) }
 {
-    put_text(alloc, ident, draft, text, None)
+    put_made(alloc, ident, draft, text, None)
 }
 
-/// Accepts a revision by its text and answers its id as [`put_revision`] does, but is handed the tree that the text makes, as who
-/// planned the text has it. So it applies no edge, joins no trees, looks for no content, and neither prints nor hashes the
-/// manifest; the text is read, and the marks and records are made, as ever. The tree is trusted by the `requires` alone and
-/// compared with nothing: a new text that the log has room for must be one of which nothing is refused and that makes this
-/// tree, over every state that the draft may stand for. The other texts are answered whatever the tree. Errors, and what they
-/// leave, are those of `put_revision`. It asks for as many records, without those of the contents.
+/// Accepts a revision by its text and answers its id as [`put_revision`] does, with the tree that the text makes where the caller has
+/// it, as who planned the text does. Then it applies no edge, joins no trees, looks for no content, and neither prints nor hashes
+/// the manifest; the text is read, and the marks and records are made, as ever. The tree is trusted by the `requires` alone and
+/// compared with nothing: over every state that the draft may stand for, a new text that the log has room for has to be one of
+/// which nothing is refused and that makes this tree. Other texts are answered whatever the tree. Errors, and what they leave, are
+/// those of `put_revision`. It asks for as many records, without those of the contents.
 pub fn put_made<I: Ident, K: Keeper>(
     alloc: Global,
     ident: &I,
     draft: &mut Draft<'_, K>,
     text: &[u8],
-    tree: Roster,
+    tree: Option<Roster>,
 ) -> Result<Id, HistoryError>
     requires planned { (s : State) → (d : IsFounded (I.meaning ident.now) (K.contents draft.old.keeper.now) draft.old.pending s) →
-        IsPlanned (I.meaning ident.now) s.files d.stands.history text.now tree }
-    ensures same_reference { draft.new.keeper.ghost_name ≡ draft.old.keeper.ghost_name }
-    ensures stays { Stays K.contents K.leaves K.faults draft.old.keeper.now draft.new.keeper.now }
-    ensures accepts { (c : Contents) (s : State) → K.contents draft.new.keeper.now ≡ Some c → IsDraft (I.meaning ident.now) c draft.old.pending s →
-        AcceptsRevision (I.meaning ident.now) c s text.now result draft.new.pending }
-    ensures err { OnErr result (draft.new.pending ≡ draft.old.pending) }
-    ensures damaged { IfSome (K.contents draft.new.keeper.now) (λ c. IsMetaOf (with_all c draft.old.pending.batch) (record { count = draft.old.pending.count; is_new = draft.old.pending.is_new }) →
-        IfErr result (λ e. IfStoreDamage e (IsDamage (with_all c draft.old.pending.batch)))) }
-    ensures failed { result ≡ Err (HistoryError.Store StoreError.Failed) → Rose (K.faults draft.old.keeper.now) (K.faults draft.new.keeper.now) }
-{
-    put_text(alloc, ident, draft, text, Some(tree))
-}
-
-// Accepts a revision by its text, whose tree may be planned.
-fn put_text<I: Ident, K: Keeper>(
-    alloc: Global,
-    ident: &I,
-    draft: &mut Draft<'_, K>,
-    text: &[u8],
-    planned: Option<Roster>,
-) -> Result<Id, HistoryError>
-    requires planned { (s : State) → (d : IsFounded (I.meaning ident.now) (K.contents draft.old.keeper.now) draft.old.pending s) →
-        IfSome planned (λ t. IsPlanned (I.meaning ident.now) s.files d.stands.history text.now t) }
+        IfSome tree (λ t. IsPlanned (I.meaning ident.now) s.files d.stands.history text.now t) }
     ensures same_reference { draft.new.keeper.ghost_name ≡ draft.old.keeper.ghost_name }
     ensures stays { Stays K.contents K.leaves K.faults draft.old.keeper.now draft.new.keeper.now }
     ensures accepts { (c : Contents) (s : State) → K.contents draft.new.keeper.now ≡ Some c → IsDraft (I.meaning ident.now) c draft.old.pending s →
@@ -152,7 +130,7 @@ fn put_text<I: Ident, K: Keeper>(
     }
     let id = ident.id(text);
     let Some(same) = held_text(alloc, draft, id, text)? else {
-        return put_new(alloc, ident, draft, id, text, planned);
+        return put_new(alloc, ident, draft, id, text, tree);
     };
     if same {
         return Ok(id);

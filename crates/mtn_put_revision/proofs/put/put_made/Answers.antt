@@ -10,7 +10,7 @@ use Rattle.mtn_history.specs.Stands.{IsDraft}
 use Rattle.mtn_history.specs.declared.pending.Pending.{Pending}
 use Rattle.mtn_put_revision.proofs.Deciding.{held_other, held_same, none_under, other_under, same_under}
 use Rattle.mtn_put_revision.proofs.Planning.{planned_on}
-use Rattle.mtn_put_revision.proofs.put.put_text.Goals as goal
+use Rattle.mtn_put_revision.proofs.put.put_made.Goals as goal
 
 pub put_new-requires-clause-new : goal.put_new-requires-clause-new
 put_new-requires-clause-new g c κs within = λ f x s tells draft.
@@ -18,7 +18,7 @@ put_new-requires-clause-new g c κs within = λ f x s tells draft.
 
 pub put_new-requires-clause-planned : goal.put_new-requires-clause-planned
 put_new-requires-clause-planned g c κs within =
-    planned_on (g.I.Ident.meaning c.args.ident.now) (g.K.Keeper.contents c.args.draft.now.keeper.now) (g.K.Keeper.contents c.held_text.new.draft.keeper.now) c.args.draft.now.pending c.held_text.new.draft.pending c.args.text.now c.args.planned
+    planned_on (g.I.Ident.meaning c.args.ident.now) (g.K.Keeper.contents c.args.draft.now.keeper.now) (g.K.Keeper.contents c.held_text.new.draft.keeper.now) c.args.draft.now.pending c.held_text.new.draft.pending c.args.text.now c.args.tree
     c.in_ok-same.ensures.stays.same c.in_ok-same.ensures.pending c.requires.planned
 
 pub returns-in_default-clause-stays : goal.returns-in_default-clause-stays
