@@ -28,7 +28,7 @@ both_all xs ys p q = list_all-append opens_not xs ys ∙ and_from _ _ p q
 -- no place of such a text has a `[`
 no_open_at : (text : List ℕ) (k : ℕ) → list_all opens_not text ≡ true → k < length text → get_or text k 0 ≡ 91 → ⊥
 no_open_at [] k all lt e = absurd (omega arith)
-no_open_at (b ∷ bs) zero all lt e = let p = (and_parts _ _ all).0 in grind (arith, p, e)
+no_open_at (b ∷ bs) zero all lt e = let p = (and_parts (opens_not b) (list_all opens_not bs) all).0 in grind (arith, p, e)
 no_open_at (b ∷ bs) (suc k) all lt e = no_open_at bs k (and_parts _ _ all).1 (omega arith) e
 
 -- a packet's text: `[`, a letter other than `e`, more without `[`, and `[end]`
@@ -63,7 +63,8 @@ none_before : (letter : ℕ) (more rest : List ℕ) → (letter ≡ 101 → ⊥)
     → OccursAt ((91 ∷ letter ∷ more) ++ rest) end_mark k → ⊥
 none_before letter more rest no_e closed zero lt o = no_e (o.reads 1 (omega arith))
 none_before letter more rest no_e closed (suc k) lt o =
-    let here : get_or ((letter ∷ more) ++ rest) k 0 ≡ 91 = ap (λ (n : ℕ). get_or ((91 ∷ letter ∷ more) ++ rest) n 0) (omega arith) ∙ o.reads 0 (omega arith) in
+    let place : suc k ≡ suc k + 0 = omega arith in
+    let here : get_or ((letter ∷ more) ++ rest) k 0 ≡ 91 = ap (λ (n : ℕ). get_or ((91 ∷ letter ∷ more) ++ rest) n 0) place ∙ o.reads 0 (omega arith) in
     no_open_at (letter ∷ more) k closed (omega arith) (sym (get_or_append_left (letter ∷ more) rest 0 k (omega arith)) ∙ here)
 
 -- `[end]` stands behind a front
