@@ -12,12 +12,14 @@
 mod bytes;
 mod decoding;
 mod error;
+mod laws;
 mod packet;
 mod reading;
 mod shapes;
 mod writing;
 
 pub use error::PacketError;
+pub use laws::{one_fault, one_list};
 pub use mtn_base::PacketWhy;
 pub use packet::{Packet, PacketKey};
 pub use reading::read_all;
