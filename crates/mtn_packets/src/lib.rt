@@ -19,7 +19,7 @@ mod shapes;
 mod writing;
 
 pub use error::PacketError;
-pub use laws::{one_fault, one_list};
+pub use laws::{one_fault, one_list, printed_in_a_row, read_back};
 pub use mtn_base::PacketWhy;
 pub use packet::{Packet, PacketKey};
 pub use reading::read_all;

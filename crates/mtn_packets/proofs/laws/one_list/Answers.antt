@@ -1,5 +1,4 @@
 use Rattle.mtn_packets.proofs.Inputs as inputs
-use Rattle.mtn_packets.proofs.Again as again
 use Rattle.mtn_packets.proofs.laws.one_list.Goals as goal
 
 pub returns : goal.returns
