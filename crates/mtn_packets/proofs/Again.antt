@@ -1,21 +1,20 @@
 -- What is printed is read as the packet.
-use Rattle.std.proofs.Common.{◌≡◌, ℕ, suc, ◌+◌, ◌<◌, ◌≤◌, Bool, true, List, [], ◌∷◌, ◌++◌, length, take, get_or, Some, refl, sym, ap, subst, ◌∙◌, arith, inl, inr, append_assoc}
-use Rattle.std.specs.Prelude.{filter, codes}
+use Rattle.std.proofs.Common.{◌≡◌, ℕ, suc, ◌+◌, ◌<◌, Bool, true, List, [], ◌∷◌, ◌++◌, length, take, get_or, refl, sym, ap, subst, ◌∙◌, arith, inl, inr, append_assoc}
+use Rattle.std.specs.Prelude.{codes}
 use Rattle.std.specs.List.{list_all, flat_map, All}
 use Rattle.std.proofs.lemmas.Bool.{and_parts, and_from, cases_eq}
 use Rattle.std.proofs.lemmas.List.{append-nil, take_more, flat_map_more, get_or_read, get_or-take, length-take}
-use Rattle.std.proofs.lemmas.List.Elements.{filter-append}
 use Rattle.hex.specs.Hex.{encode_lower}
 use Rattle.base64.specs.GeneralPurpose.{IsBytes}
 use Rattle.mtn_base.specs.declared.id.Id.{Id}
-use Rattle.mtn_base.specs.Hex.{is_lower_digit, IsIdText}
+use Rattle.mtn_base.specs.Hex.{is_lower_digit}
 use Rattle.mtn_packets.specs.declared.packet.Packet.{Packet}
 use Rattle.mtn_packets.specs.declared.packet.Packet.TheVariants as packet
 use Rattle.mtn_packets.specs.declared.packet.PacketKey.{PacketKey}
 use Rattle.mtn_packets.specs.declared.packet.PacketKey.TheVariants as key
-use Rattle.mtn_packets.specs.Packets.{is_space, is_plain, is_field_byte, has_no_bracket, IsField, IsBase64, IsBlank, SpacedId, SpacedField, IsFramed, IsData, IsCert, IsPacket, ArePackets, key_from, key_of, end_mark}
-use Rattle.mtn_packets.specs.Printed.{payload_text, value_text, data_text, cert_text, key_text, indented, line, printed, IsKey, IsWritable, IsId, IsKeyOfBytes, IsOfBytes}
-use Rattle.mtn_packets.proofs.Symbols.{all_both, is_ink, plain_payload, packed_payload, plain_value, packed_value, id_again, id_text}
+use Rattle.mtn_packets.specs.Packets.{is_space, is_plain, is_field_byte, has_no_bracket, IsField, IsBase64, IsBlank, SpacedId, SpacedField, IsData, IsCert, IsPacket, ArePackets, key_from, key_of, end_mark}
+use Rattle.mtn_packets.specs.Printed.{payload_text, value_text, key_text, printed, IsKey, IsWritable, IsId, IsKeyOfBytes, IsOfBytes}
+use Rattle.mtn_packets.proofs.Symbols.{all_both, plain_payload, packed_payload, plain_value, packed_value, id_again, id_text}
 
 lower_is_plain : (b : ℕ) → is_lower_digit b ≡ true → is_plain b ≡ true
 lower_is_plain b e = grind (arith, e)
@@ -81,14 +80,14 @@ data_text_is word digits payload mark = simp append_assoc
 
 data_again : (word : List ℕ) (id : Id) (bytes : List ℕ) → IsId id → IsBytes bytes → IsData IsBase64 word (word ++ bare (32 ∷ encode_lower id.0) bytes) id bytes
 data_again word id bytes is lawful = record {
-      head = 32 ∷ encode_lower id.0;
-      body = 10 ∷ payload_text bytes;
-      tail = [];
-      framed = record { head_plain = plain_id id is; body_plain = plain_payload bytes; whole = refl };
-      id_first = spaced_id id (32 ∷ encode_lower id.0) [] is (ap (λ (t : List ℕ). 32 ∷ t) (sym (append-nil (encode_lower id.0))));
-      nothing_more = refl;
-      payload = payload_part bytes lawful;
-    }
+  head = 32 ∷ encode_lower id.0;
+  body = 10 ∷ payload_text bytes;
+  tail = [];
+  framed = record { head_plain = plain_id id is; body_plain = plain_payload bytes; whole = refl };
+  id_first = spaced_id id (32 ∷ encode_lower id.0) [] is (ap (λ (t : List ℕ). 32 ∷ t) (sym (append-nil (encode_lower id.0))));
+  nothing_more = refl;
+  payload = payload_part bytes lawful;
+}
 
 -- the head of a certificate
 abbrev cert_head : List ℕ → List ℕ → List ℕ → List ℕ → List ℕ
@@ -132,20 +131,20 @@ cert_again revision name k value signature named keyed is key_is v s =
 
 pub is_printed : (p : Packet) → IsWritable p → IsOfBytes p → IsPrinted p
 is_printed (packet.File id bytes) w o = record {
-      one = codes "[fdata" ++ bare (32 ∷ encode_lower id.0) bytes;
-      is_packet = data_again (codes "[fdata") id bytes o.0 o.1;
-      whole = data_text_is (codes "[fdata") (encode_lower id.0) (payload_text bytes) end_mark;
-    }
+  one = codes "[fdata" ++ bare (32 ∷ encode_lower id.0) bytes;
+  is_packet = data_again (codes "[fdata") id bytes o.0 o.1;
+  whole = data_text_is (codes "[fdata") (encode_lower id.0) (payload_text bytes) end_mark;
+}
 is_printed (packet.Revision id bytes) w o = record {
-      one = codes "[rdata" ++ bare (32 ∷ encode_lower id.0) bytes;
-      is_packet = data_again (codes "[rdata") id bytes o.0 o.1;
-      whole = data_text_is (codes "[rdata") (encode_lower id.0) (payload_text bytes) end_mark;
-    }
+  one = codes "[rdata" ++ bare (32 ∷ encode_lower id.0) bytes;
+  is_packet = data_again (codes "[rdata") id bytes o.0 o.1;
+  whole = data_text_is (codes "[rdata") (encode_lower id.0) (payload_text bytes) end_mark;
+}
 is_printed (packet.Cert revision name k value signature) w o = record {
-      one = codes "[rcert" ++ bare (cert_head (encode_lower revision.0) name (key_text k) (value_text value)) signature;
-      is_packet = cert_again revision name k value signature w.0 w.1 o.0 o.1 o.2 o.3;
-      whole = cert_text_is (codes "[rcert ") (encode_lower revision.0) (codes "\n") (codes "       ") name (key_text k) (value_text value) (codes "]\n") (payload_text signature) end_mark;
-    }
+  one = codes "[rcert" ++ bare (cert_head (encode_lower revision.0) name (key_text k) (value_text value)) signature;
+  is_packet = cert_again revision name k value signature w.0 w.1 o.0 o.1 o.2 o.3;
+  whole = cert_text_is (codes "[rcert ") (encode_lower revision.0) (codes "\n") (codes "       ") name (key_text k) (value_text value) (codes "]\n") (payload_text signature) end_mark;
+}
 is_printed packet.Passed w o = absurd w
 
 printed_behind : (blank : List ℕ) (ps : List Packet) → IsBlank blank → All IsWritable ps → All IsOfBytes ps → ArePackets ps (blank ++ flat_map printed ps)

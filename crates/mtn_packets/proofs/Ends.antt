@@ -1,11 +1,11 @@
 -- Where the first `[end]` stands in a packet with more behind it.
-use Rattle.std.proofs.Common.{◌≡◌, ℕ, zero, suc, ◌+◌, ◌-◌, ◌<◌, ◌≤◌, ◌==◌, Bool, true, false, true≢false, List, [], ◌∷◌, ◌++◌, length, take, get_or, Option, Some, None, refl, sym, ap, subst, ◌∙◌, arith, append_assoc}
+use Rattle.std.proofs.Common.{◌≡◌, ℕ, zero, suc, ◌+◌, ◌<◌, ◌==◌, Bool, true, List, [], ◌∷◌, ◌++◌, length, get_or, Some, None, refl, sym, ap, subst, ◌∙◌, arith, append_assoc}
 use Rattle.std.specs.Prelude.{not, codes}
 use Rattle.std.specs.List.{list_all}
 use Rattle.std.proofs.lemmas.Bool.{and_parts, and_from}
 use Rattle.std.proofs.lemmas.List.{length-append, get_or_append_left, get_or-append-add, take_at}
 use Rattle.std.proofs.lemmas.List.Folds.{list_all-append}
-use Rattle.memchr.specs.Find.{FindsNeedle, OccursAt, NoneBefore}
+use Rattle.memchr.specs.Find.{FindsNeedle, OccursAt}
 use Rattle.mtn_packets.specs.declared.packet.Packet.{Packet}
 use Rattle.mtn_packets.specs.declared.packet.Packet.TheVariants as packet
 use Rattle.mtn_packets.specs.Packets.{Reading, IsFramed, IsShape, end_mark, is_plain, has_no_bracket}
@@ -70,9 +70,9 @@ none_before letter more rest no_e closed (suc k) lt o =
 -- `[end]` stands behind a front
 mark_at : (front rest : List ℕ) → OccursAt (front ++ (end_mark ++ rest)) end_mark (length front)
 mark_at front rest = record {
-      fits = omega (arith, length-append front (end_mark ++ rest), length-append end_mark rest);
-      reads = λ j lt. get_or-append-add front (end_mark ++ rest) j 0 ∙ get_or_append_left end_mark rest 0 j lt;
-    }
+  fits = omega (arith, length-append front (end_mark ++ rest), length-append end_mark rest);
+  reads = λ j lt. get_or-append-add front (end_mark ++ rest) j 0 ∙ get_or_append_left end_mark rest 0 j lt;
+}
 
 pub first_end : (one rest : List ℕ) (e : IsEnded one) → FindsNeedle (one ++ rest) end_mark 0 (Some (length (91 ∷ e.letter ∷ e.more)))
 first_end one rest e =

@@ -1,5 +1,5 @@
 -- An input is one list of packets, or fails at one place by one fault.
-use Rattle.std.proofs.Common.{◌≡◌, ◌⊎◌, inl, inr, ℕ, ◌+◌, ◌-◌, ◌<◌, ◌≤◌, true, false, cond, true≢false, List, [], ◌∷◌, ◌++◌, length, take, drop, get_or, Some, None, refl, sym, ap, subst, ◌∙◌, arith, append_assoc}
+use Rattle.std.proofs.Common.{◌≡◌, inl, inr, ℕ, ◌+◌, ◌-◌, ◌<◌, ◌≤◌, true, cond, true≢false, List, [], ◌∷◌, ◌++◌, length, take, drop, get_or, Some, refl, sym, ap, subst, ◌∙◌, arith, append_assoc}
 use Rattle.std.specs.Prelude.{codes}
 use Rattle.std.proofs.Math.Seq.{take-add}
 use Rattle.memchr.specs.Find.{FindsNeedle}
@@ -11,8 +11,8 @@ use Rattle.mtn_base.specs.declared.refusal.PacketWhy.{PacketWhy}
 use Rattle.mtn_base.specs.declared.refusal.PacketWhy.TheVariants as why
 use Rattle.mtn_packets.specs.declared.packet.Packet.{Packet}
 use Rattle.mtn_packets.specs.declared.packet.Packet.TheVariants as packet
-use Rattle.mtn_packets.specs.Packets.{is_space, IsBlank, IsAsItStands, IsBase64, IsShape, IsPacket, HasShape, ArePackets, end_mark}
-use Rattle.mtn_packets.specs.Faults.{BeginsPacket, BeginsWith, IsUnsupported, IsUpToEnd, IsFault, FailsAt}
+use Rattle.mtn_packets.specs.Packets.{is_space, IsBlank, IsBase64, IsPacket, HasShape, ArePackets, end_mark}
+use Rattle.mtn_packets.specs.Faults.{BeginsPacket, IsUnsupported, IsUpToEnd, IsFault, FailsAt}
 use Rattle.mtn_packets.proofs.Fronts.{prefix_len_seam, front_passes, behind_front, stops_at}
 use Rattle.mtn_packets.proofs.Steps.{cut, cut_is, put_together, cut_seam, take_seam}
 use Rattle.mtn_packets.proofs.OneShape.{word_of, begun, one_packet}
@@ -30,9 +30,9 @@ pub record SameParts (a b x y : List ℕ) : Type 0 where
 
 parts_by : (a b x y : List ℕ) → a ++ x ≡ b ++ y → length a ≡ length b → SameParts a b x y
 parts_by a b x y e len = record {
-      front = sym (take_seam a x (a ++ x) (length a) refl refl) ∙ take_seam b y (a ++ x) (length a) e len;
-      rest = sym (cut_seam a x (a ++ x) (length a) refl refl) ∙ cut_seam b y (a ++ x) (length a) e len;
-    }
+  front = sym (take_seam a x (a ++ x) (length a) refl refl) ∙ take_seam b y (a ++ x) (length a) e len;
+  rest = sym (cut_seam a x (a ++ x) (length a) refl refl) ∙ cut_seam b y (a ++ x) (length a) e len;
+}
 
 -- the space at the front of a text
 pub one_blank : (a b x y : List ℕ) → IsBlank a → IsBlank b → prefix_len is_space x ≡ 0 → prefix_len is_space y ≡ 0 → a ++ x ≡ b ++ y → SameParts a b x y
@@ -54,9 +54,9 @@ pub record Stops (rest : List ℕ) : Type 0 where
 
 pub end_stops : Stops []
 end_stops = record {
-      no_space = refl;
-      no_packet = λ p one more h e. let ends = is_ended IsBase64 p one h in omega (arith, ap length e, length-append one more, ap length ends.whole);
-    }
+  no_space = refl;
+  no_packet = λ p one more h e. let ends = is_ended IsBase64 p one h in omega (arith, ap length e, length-append one more, ap length ends.whole);
+}
 
 pub record SameRun (a b : List Packet) (x y : List ℕ) : Type 0 where
   pub packets : a ≡ b
@@ -97,21 +97,24 @@ as_it_stands (packet.File i x) text h =
     (packet.File i h.body, record { head = h.head; body = h.body; tail = h.tail; framed = h.framed; id_first = h.id_first; nothing_more = h.nothing_more; payload = refl })
 as_it_stands (packet.Revision i x) text h =
     (packet.Revision i h.body, record { head = h.head; body = h.body; tail = h.tail; framed = h.framed; id_first = h.id_first; nothing_more = h.nothing_more; payload = refl })
-as_it_stands (packet.Cert r n k v g) text h = (packet.Cert r n k h.after_key h.body, record {
-      head = h.head;
-      body = h.body;
-      after_revision = h.after_revision;
-      after_name = h.after_name;
-      key_field = h.key_field;
-      after_key = h.after_key;
-      framed = h.framed;
-      revision_first = h.revision_first;
-      name_next = h.name_next;
-      key_next = h.key_next;
-      key_is = h.key_is;
-      value_is = refl;
-      signature_is = refl;
-    })
+as_it_stands (packet.Cert r n k v g) text h = (
+  packet.Cert r n k h.after_key h.body,
+  record {
+    head = h.head;
+    body = h.body;
+    after_revision = h.after_revision;
+    after_name = h.after_name;
+    key_field = h.key_field;
+    after_key = h.after_key;
+    framed = h.framed;
+    revision_first = h.revision_first;
+    name_next = h.name_next;
+    key_next = h.key_next;
+    key_is = h.key_is;
+    value_is = refl;
+    signature_is = refl;
+  },
+)
 as_it_stands packet.Passed text h =
     (packet.Passed, record { head = h.head; body = h.body; field = h.field; tail = h.tail; bytes = h.body; framed = h.framed; field_first = h.field_first; nothing_more = h.nothing_more; payload = refl })
 
@@ -161,9 +164,9 @@ starts_no_space (x ∷ xs) b = stops_at is_space x xs (false_from_ne_true _ (λ 
 
 pub fault_stops : (w : PacketWhy) (rest : List ℕ) → BeginsPacket rest → IsFault w rest → Stops rest
 fault_stops w rest b f = record {
-      no_space = starts_no_space rest b;
-      no_packet = λ p one more h e. no_fault w p one more h (subst (λ (t : List ℕ). IsFault w t) e f);
-    }
+  no_space = starts_no_space rest b;
+  no_packet = λ p one more h e. no_fault w p one more h (subst (λ (t : List ℕ). IsFault w t) e f);
+}
 
 -- the rest up to its first `[end]` is one text
 pub one_end : (rest a b : List ℕ) → IsUpToEnd rest a → IsUpToEnd rest b → a ≡ b
@@ -216,10 +219,10 @@ pub record IsRead (text : List ℕ) (ps : List Packet) (at : ℕ) : Type 0 where
 
 pub read_none : (text : List ℕ) (at : ℕ) → at ≡ prefix_len is_space text → IsRead text [] at
 read_none text at is = record {
-      within = omega (arith, is, prefix_len-le-length is_space text);
-      done = ap (λ (n : ℕ). list_all is_space (take n text)) is ∙ front_passes is_space text;
-      begins = ap (λ (n : ℕ). prefix_len is_space (drop n text)) is ∙ behind_front is_space text;
-    }
+  within = omega (arith, is, prefix_len-le-length is_space text);
+  done = ap (λ (n : ℕ). list_all is_space (take n text)) is ∙ front_passes is_space text;
+  begins = ap (λ (n : ℕ). prefix_len is_space (drop n text)) is ∙ behind_front is_space text;
+}
 
 pub read_more : (text : List ℕ) (ps : List Packet) (p : Packet) (at len gap : ℕ) → IsRead text ps at → IsPacket p (take len (cut at text)) → len ≤ length (cut at text)
     → gap ≡ prefix_len is_space (cut (at + len) text) → IsRead text (ps ++ p ∷ []) (at + len + gap)
@@ -245,15 +248,15 @@ begins_by (x ∷ xs) some e = (some, false_from_ne_true _ (λ t. let first : is_
 
 pub fails_at : (text : List ℕ) (ps : List Packet) (at n : ℕ) (w : PacketWhy) → IsRead text ps at → at < length text → n ≡ length ps + 1 → IsFault w (cut at text) → FailsAt text n w
 fails_at text ps at n w r lt counted fault = record {
-      before = ps;
-      front = take at text;
-      rest = cut at text;
-      good = r.done;
-      whole = put_together at text;
-      counted = counted;
-      begins = begins_by (cut at text) (omega (arith, ap length (cut_is at text), length-drop at text)) (ap (prefix_len is_space) (cut_is at text) ∙ r.begins);
-      fault = fault;
-    }
+  before = ps;
+  front = take at text;
+  rest = cut at text;
+  good = r.done;
+  whole = put_together at text;
+  counted = counted;
+  begins = begins_by (cut at text) (omega (arith, ap length (cut_is at text), length-drop at text)) (ap (prefix_len is_space) (cut_is at text) ∙ r.begins);
+  fault = fault;
+}
 
 pub all_read : (text : List ℕ) (ps : List Packet) (at : ℕ) → IsRead text ps at → (at < length text → ⊥) → ArePackets ps text
 all_read text ps at r past = subst (λ (t : List ℕ). ArePackets ps t) (take_all at text (omega (arith, past))) r.done

@@ -1,14 +1,14 @@
 -- A text has one shape, and is one packet at most: its word tells its kind, and each part of it has one reading.
-use Rattle.std.proofs.Common.{◌≡◌, ℕ, List, [], ◌∷◌, ◌++◌, get_or, Option, Some, refl, sym, ap, subst, ◌∙◌, arith}
+use Rattle.std.proofs.Common.{◌≡◌, ℕ, List, ◌++◌, get_or, refl, sym, ap, subst, ◌∙◌, arith}
 use Rattle.std.specs.Prelude.{codes}
 use Rattle.base64.specs.Engines.{standard}
-use Rattle.base64.specs.GeneralPurpose.{encode_of, decode_of, IsBytes}
+use Rattle.base64.specs.GeneralPurpose.{encode_of, decode_of}
 use Rattle.base64.proofs.EngineFacts.{decode_of-encode_of}
 use Rattle.mtn_base.specs.declared.id.Id.{Id}
 use Rattle.mtn_packets.specs.declared.packet.Packet.{Packet}
 use Rattle.mtn_packets.specs.declared.packet.Packet.TheVariants as packet
 use Rattle.mtn_packets.specs.declared.packet.PacketKey.{PacketKey}
-use Rattle.mtn_packets.specs.Packets.{Reading, IsFramed, SpacedId, SpacedField, IsBase64, IsData, IsCert, IsShape, IsPacket, key_of}
+use Rattle.mtn_packets.specs.Packets.{Reading, SpacedId, SpacedField, IsBase64, IsData, IsCert, IsShape, IsPacket, key_of}
 use Rattle.mtn_packets.proofs.Steps.{one_id, one_field, one_frame}
 
 -- one part in two readings

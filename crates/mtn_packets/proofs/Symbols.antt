@@ -1,5 +1,5 @@
 -- What stands in a printed form: digits and base64 symbols are no brackets and no space, and without its line feeds a text of lines is its base64.
-use Rattle.std.proofs.Common.{◌≡◌, ℕ, zero, suc, ◌+◌, ◌-◌, ◌*◌, ◌/◌, ◌%◌, ◌<◌, ◌≤◌, ◌&&◌, Bool, true, false, List, [], ◌∷◌, ◌++◌, length, replicate, take, drop, slice_index, Some, refl, sym, ap, subst, ◌∙◌, arith}
+use Rattle.std.proofs.Common.{◌≡◌, ℕ, zero, suc, ◌+◌, ◌*◌, ◌/◌, ◌%◌, ◌<◌, Bool, true, false, List, [], ◌∷◌, ◌++◌, length, replicate, take, drop, slice_index, Some, refl, sym, ap, ◌∙◌, arith}
 use Rattle.std.specs.Prelude.{not, filter}
 use Rattle.std.specs.List.{list_all, flat_map}
 use Rattle.std.specs.Simd.{first_chunks}
@@ -16,7 +16,7 @@ use Rattle.base64.specs.Rfc4648.{encode_symbols, padding_len}
 use Rattle.mtn_base.specs.declared.id.Id.{Id}
 use Rattle.mtn_base.specs.Hex.{is_lower_digit, IsIdText, read_id}
 use Rattle.mtn_packets.specs.Packets.{is_space, is_plain, has_no_bracket}
-use Rattle.mtn_packets.specs.Printed.{line, pieces_of, payload_text, value_text, IsId}
+use Rattle.mtn_packets.specs.Printed.{line, payload_text, value_text, IsId}
 use Rattle.mtn_packets.proofs.Lines.{payload_some, payload_none, value_none}
 
 -- ---- tests that hold of all of a text

@@ -1,4 +1,4 @@
-use Rattle.std.proofs.Common.{◌≡◌, ◌∙◌, ℕ, ◌+◌, List, ◌∷◌, [], ◌++◌, length, refl, ap, sym, subst, arith}
+use Rattle.std.proofs.Common.{ℕ, ◌+◌, List, length, refl, ap, sym, subst, arith}
 use Rattle.std.specs.Prelude.{Result}
 use Rattle.mtn_base.specs.declared.refusal.PacketWhy.{PacketWhy}
 use Rattle.mtn_packets.specs.declared.packet.Packet.{Packet}

@@ -1,4 +1,4 @@
-use Rattle.std.proofs.Common.{◌≡◌, ◌∙◌, List, ℕ, ◌++◌, ap}
+use Rattle.std.proofs.Common.{◌∙◌, List, ℕ, ◌++◌, ap}
 use Rattle.std.specs.Prelude.{codes}
 use Rattle.hex.specs.Hex.{encode_lower}
 use Rattle.mtn_packets.specs.Printed.{key_text}

@@ -1,4 +1,4 @@
-use Rattle.std.proofs.Common.{◌≡◌, ◌∙◌, ◌++◌, ◌∷◌, [], ◌<◌, List, ℕ, length, ap, sym, arith, rules}
+use Rattle.std.proofs.Common.{◌≡◌, ◌∙◌, ◌++◌, ◌<◌, List, ℕ, length, ap, rules}
 use Rattle.mtn_packets.proofs.Lines.{payload_empty, payload_done}
 use Rattle.mtn_packets.proofs.writing.put_payload.Goals as goal
 

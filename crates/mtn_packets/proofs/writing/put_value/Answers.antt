@@ -1,17 +1,17 @@
-use Rattle.std.proofs.Common.{◌≡◌, ◌∙◌, ◌++◌, ◌∷◌, [], ℕ, List, ◌+◌, ◌-◌, ◌<◌, min, length, take, drop, ap, sym, arith}
-use Rattle.std.proofs.lemmas.List.{length-drop, drop-drop, take-take}
+use Rattle.std.proofs.Common.{◌≡◌, ◌∙◌, ◌++◌, ◌∷◌, [], ℕ, List, ◌+◌, ◌-◌, min, length, take, drop, ap, sym, arith}
+use Rattle.std.proofs.lemmas.List.{length-drop, drop-drop}
 use Rattle.base64.specs.Engines.{standard}
 use Rattle.base64.specs.GeneralPurpose.{encode_of}
-use Rattle.mtn_packets.proofs.Kept.{front_more, front_trans}
+use Rattle.mtn_packets.proofs.Kept.{front_trans}
 use Rattle.mtn_packets.proofs.Lines.{more_lines, first_line, another_line, last_line}
 use Rattle.mtn_packets.proofs.writing.put_value.Goals as goal
 
 pub loop-at-init : goal.loop-at-init
 loop-at-init c = record {
-      within = omega arith;
-      written = first_line c.args.bytes.now c.args.out.now.items c.put_piece.new.out.items c.min-at.result c.min-at.ensures c.in_ok-put_piece.ensures.ok;
-      kept = c.in_ok-put_piece.ensures.kept;
-    }
+  within = omega arith;
+  written = first_line c.args.bytes.now c.args.out.now.items c.put_piece.new.out.items c.min-at.result c.min-at.ensures c.in_ok-put_piece.ensures.ok;
+  kept = c.in_ok-put_piece.ensures.kept;
+}
 
 pub loop-at-preserved : goal.loop-at-preserved
 loop-at-preserved c =
