@@ -4,7 +4,8 @@ use mtn_base::{NoMemory as Wanting, PacketWhy};
 /// Why `read_all` gives no packets.
 #[derive(Clone, Copy, PartialEq, Eq)]
 pub enum PacketError {
-    /// The first bad packet, by its number from 1, and its first fault.
+    /// The first bad packet, by its number from 1 (a public key counts too), and its first fault, in
+    /// the order Truncated, Unsupported, NotPacket, BadBase64 (our choice).
     BadPacket { number: u64, why: PacketWhy },
     /// Memory is wanting.
     NoMemory,
