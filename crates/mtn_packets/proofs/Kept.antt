@@ -27,3 +27,7 @@ pub ruleset kept_steps = (front_same, front_more, front_trans)
 pub three_lines : (old a b c d word digits name key gap : List ℕ) → a ≡ old ++ word → b ≡ a ++ digits → c ≡ b ++ ((10 ∷ gap) ++ name) → d ≡ c ++ ((10 ∷ gap) ++ key)
     → d ≡ old ++ (((word ++ digits) ++ 10 ∷ []) ++ (((gap ++ name) ++ 10 ∷ []) ++ (gap ++ key)))
 three_lines old a b c d word digits name key gap p q r s = rw (s, r, q, p) (simp append_assoc)
+
+-- three writes, one after the other
+pub three : (old a b c x y z : List ℕ) → a ≡ old ++ x → b ≡ a ++ y → c ≡ b ++ z → c ≡ old ++ (x ++ (y ++ z))
+three old a b c x y z p q r = rw (r, q, p) (simp append_assoc)
