@@ -30,8 +30,8 @@ is_field_byte b = (nat_le 33 b && nat_le b 126) && not (b == 91 || b == 93)
 abbrev pub is_field : List ℕ → Bool
 is_field text = not (length text == 0) && nat_le (length text) MAX_FIELD && list_all is_field_byte text
 
--- the id of a key: twenty bytes, which are forty lower-case hexadecimal digits as text
-pub record IsKeyId (id : List ℕ) : Type 0 where
+-- an id, of a revision or a key: twenty bytes
+pub record IsIdBytes (id : List ℕ) : Type 0 where
   pub twenty : length id ≡ 20
   pub bytes : IsBytes id
 

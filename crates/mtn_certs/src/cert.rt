@@ -1,6 +1,6 @@
 // Certificates and key names.
 ghost use Rattle.std.specs.Prelude.{◌≡◌, ◌⊎◌, IfOk, IfErr, OnOk, None, Some};
-ghost use Rattle.mtn_certs.specs.Certificates.{certificate, fault_of};
+ghost use Rattle.mtn_certs.specs.Certificates.{IsIdBytes, certificate, fault_of};
 
 use crate::field::is_field;
 use mtn_base::{Bytes, Field, Id, MAX_TEXT, NoMemory};
@@ -8,7 +8,7 @@ use std::alloc::Global;
 use std::marker::Model;
 
 /// Why no certificate has these parts.
-#[derive(Clone, Copy, PartialEq, Eq)]
+#[derive(Clone, Copy)]
 pub enum CertError {
     /// The name is no field.
     BadField(Field),
@@ -56,8 +56,6 @@ pub struct KeyName {
 }
 
 impl Cert {
-    ghost use Rattle.mtn_certs.specs.Certificates.{IsLawfulCertificate};
-
     /// The certificate of these parts, or the first rule that they break: of the name, of the value, of the signature.
     pub fn new(
         alloc: Global,
@@ -69,6 +67,7 @@ impl Cert {
     ) -> Result<Cert, CertError>
         ensures ok { IfOk result (λ c. c ≡ certificate revision name.now key value.now signature.now) }
         ensures lawful { OnOk result (fault_of (certificate revision name.now key value.now signature.now) ≡ None) }
+        ensures ids { OnOk result (IsIdBytes revision.0 × IsIdBytes key.0) }
         ensures err { IfErr result (λ e. (e ≡ CertError.NoMemory)
             ⊎ (fault_of (certificate revision name.now key value.now signature.now) ≡ Some e)) }
     {
@@ -77,6 +76,8 @@ impl Cert {
         }
         within(value)?;
         within(signature)?;
+        let _revision = revision.as_slice();
+        let _key = key.as_slice();
         Ok(Cert {
             revision,
             name: Bytes::from_slice(alloc, name)?,
@@ -84,14 +85,6 @@ impl Cert {
             value: Bytes::from_slice(alloc, value)?,
             signature: Bytes::from_slice(alloc, signature)?,
         })
-    }
-
-    /// The certificate's value; a certificate is lawful. It takes no memory.
-    pub fn value(&self) -> &[u8]
-        ensures value { result.now ≡ self.now.value }
-        ensures lawful { IsLawfulCertificate self.now }
-    {
-        self.value.as_slice()
     }
 
     /// An equal certificate.
