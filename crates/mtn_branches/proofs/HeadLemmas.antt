@@ -2,6 +2,7 @@
 use Rattle.std.specs.Prelude.{All, Contains, codes, map}
 use Rattle.std.specs.Cmp.{first_so, second_so}
 use Rattle.std.specs.List.Sorted.{IsStrictlySortedBy}
+use Rattle.std.specs.declared.cmp.Ordering.{Ordering}
 use Rattle.std.proofs.Common.{◌≡◌, ◌↔◌, ◌⊎◌, ◌<◌, ◌≤◌, ◌-◌, ℕ, zero, suc, List, [], ◌∷◌, inl, inr, ◌+◌, ◌++◌, true, false, cond, get_or, take, length, refl, sym, ap, ◌∙◌, subst, arith}
 use Rattle.std.proofs.Common.{Bor, Option, Some, None}
 use Rattle.std.proofs.lemmas.List.{map-append}
@@ -35,6 +36,13 @@ put_list P ids once put exact = record {
     λ c. (exact x).0 ((in_order_same ids x).0 (subst (λ l. Contains l x) put c)),
     λ p. subst (λ l. Contains l x) (sym put) ((in_order_same ids x).1 ((exact x).1 p)),
   );
+}
+
+-- a list of what has P is one of what has Q
+pub list_alike : {X : Type 0} (order : X → X → Ordering) (P Q : X → Type 0) (items : List X) → ((x : X) → P x ↔ Q x) → IsListOf order P items → IsListOf order Q items
+list_alike order P Q items same list = record {
+  ascending = list.ascending;
+  exact = λ x. (λ c. (same x).0 ((list.exact x).0 c), λ q. (list.exact x).1 ((same x).1 q));
 }
 
 -- there is one list of the ids with P
@@ -129,9 +137,16 @@ module _ (log : List LogEntry) (is : IsLog log) where
 pub same_members : (holds also : Certificate → Type 0) (branch : List ℕ) → ((c : Certificate) → holds c ↔ also c) → (r : Id) → IsMember holds branch r ↔ IsMember also branch r
 same_members holds also branch same r = (λ t. (t.0, (same t.0).0 t.1, t.2), λ t. (t.0, (same t.0).1 t.1, t.2))
 
+-- heads by relations and members that are alike
+pub alike_heads : (above over : Id → Id → Type 0) (member also : Id → Type 0) → ((x r : Id) → above x r ↔ over x r) → ((r : Id) → member r ↔ also r) →
+    (r : Id) → IsHead above member r ↔ IsHead over also r
+alike_heads above over member also lies same r = (
+  λ t. ((same r).0 t.0, λ m of up. t.1 m ((same m).1 of) ((lies r m).1 up)),
+  λ t. ((same r).1 t.0, λ m of up. t.1 m ((same m).0 of) ((lies r m).0 up)),
+)
+
 pub same_heads : (above : Id → Id → Type 0) (member also : Id → Type 0) → ((r : Id) → member r ↔ also r) → (r : Id) → IsHead above member r ↔ IsHead above also r
-same_heads above member also same r =
-    (λ t. ((same r).0 t.0, λ m of. t.1 m ((same m).1 of)), λ t. ((same r).1 t.0, λ m of. t.1 m ((same m).0 of)))
+same_heads above member also same = alike_heads above above member also (λ x r. (λ up. up, λ up. up)) same
 
 -- the members that the certificates of a list make
 pub members_of : List ℕ → List Certificate → List Id
