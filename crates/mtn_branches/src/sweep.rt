@@ -1,6 +1,5 @@
 // The heads of a branch.
-ghost use Rattle.std.specs.Prelude.{◌≡◌, ◌<◌, Contains, All, Some, length, IfOk};
-ghost use Rattle.mtn_ancestry.specs.Log.{IsLog, id_at};
+ghost use Rattle.std.specs.Prelude.{Contains, IfOk};
 ghost use Rattle.mtn_base.specs.Ids.{by_id};
 ghost use Rattle.mtn_base.specs.declared.id.Id.{Id as Named};
 ghost use Rattle.mtn_branches.specs.Branches.{IsHead, IsListOf, IsMember};

@@ -1,7 +1,6 @@
 // Which branches there are.
 ghost use Rattle.std.specs.Prelude.{◌≡◌, Contains, map, IfOk};
 ghost use Rattle.std.specs.Ordering.{is_eq};
-ghost use Rattle.mtn_base.specs.Lists.{ordered};
 ghost use Rattle.mtn_base.specs.Names.{bytes_cmp};
 ghost use Rattle.mtn_branches.specs.Branches.{IsBranch, IsListOf, NamesBranch};
 ghost use Rattle.mtn_branches.specs.Images.{IsImage};

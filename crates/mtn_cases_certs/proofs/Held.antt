@@ -1,7 +1,6 @@
 -- Ids that a graph has, one after the other.
 use Rattle.std.specs.Prelude.{Contains}
-use Rattle.std.proofs.Common.{◌≡◌, ◌<◌, ◌+◌, ℕ, List, length, get_or, take, sym, ap, ◌∙◌, subst, ⊎_elim}
-use Rattle.std.proofs.Math.Seq.{take-length}
+use Rattle.std.proofs.Common.{◌≡◌, ◌<◌, ◌+◌, ℕ, List, length, get_or, take, subst, ⊎_elim}
 use Rattle.std.proofs.lemmas.List.{take_more}
 use Rattle.std.proofs.lemmas.List.Elements.{Contains-push_cases}
 use Rattle.mtn_base.specs.declared.id.Id.{Id}
@@ -10,6 +9,3 @@ module _ (P : Id → Type 0) where
   pub each_more : (ids : List Id) (i : ℕ) (d : Id) → i < length ids → ((r : Id) → Contains (take i ids) r → P r) → P (get_or ids i d) → (r : Id) → Contains (take (i + 1) ids) r → P r
   each_more ids i d lt all here r c =
       ⊎_elim (all r) (λ e. subst P e here) (Contains-push_cases (take i ids) (get_or ids i d) r (subst (λ l. Contains l r) (take_more ids i d lt) c))
-
-  pub each_all : (ids : List Id) (i : ℕ) → i ≡ length ids → ((r : Id) → Contains (take i ids) r → P r) → (r : Id) → Contains ids r → P r
-  each_all ids i e all r c = all r (subst (λ l. Contains l r) (sym (ap (λ n. take n ids) e ∙ take-length ids)) c)

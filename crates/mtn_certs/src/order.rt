@@ -1,6 +1,6 @@
 // Certificates in their order.
 ghost use Rattle.std.specs.Prelude.{◌≡◌, map, IfOk};
-ghost use Rattle.std.specs.Ordering.{eq_by_cmp, is_eq, ordering_then};
+ghost use Rattle.std.specs.Ordering.{is_eq};
 ghost use Rattle.mtn_certs.specs.Order.{cert_cmp, in_order};
 
 use crate::cert::Cert;

@@ -1,5 +1,5 @@
 // Members, heads and branches.
-ghost use Rattle.std.specs.Prelude.{◌≡◌, Contains, IfOk};
+ghost use Rattle.std.specs.Prelude.{Contains, IfOk};
 ghost use Rattle.mtn_base.specs.Ids.{by_id};
 ghost use Rattle.mtn_base.specs.Names.{bytes_cmp};
 ghost use Rattle.mtn_base.specs.declared.id.Id.{Id as Named};
