@@ -76,7 +76,7 @@ impl Case {
             id: id_of(id)?,
             name: Bytes::from_slice(alloc, name).ok()?,
         };
-        self.keys.push(key).ok()
+        self.keys.push(key.copy(alloc).ok()?).ok()
     }
 
     /// One more certificate.
@@ -90,6 +90,6 @@ impl Case {
             *signature
         };
         let cert = Cert::new(alloc, id_of(revision)?, name, id_of(key)?, value, signature).ok()?;
-        self.certs.push(cert).ok()
+        self.certs.push(cert.copy(alloc).ok()?).ok()
     }
 }
