@@ -1,6 +1,6 @@
 -- Members and heads by the ids of a graph.
 use Rattle.std.specs.Prelude.{All, Contains, codes, map}
-use Rattle.std.specs.Cmp.{first_so, second_so}
+use Rattle.std.specs.Cmp.{IsTotalOrder, first_so, second_so}
 use Rattle.std.specs.List.Sorted.{IsStrictlySortedBy}
 use Rattle.std.specs.declared.cmp.Ordering.{Ordering}
 use Rattle.std.proofs.Common.{◌≡◌, ◌↔◌, ◌⊎◌, ◌<◌, ◌≤◌, ◌-◌, ℕ, zero, suc, List, [], ◌∷◌, inl, inr, ◌+◌, ◌++◌, true, false, cond, get_or, take, length, refl, sym, ap, ◌∙◌, subst, arith}
@@ -16,7 +16,7 @@ use Rattle.mtn_ancestry.proofs.Ancestry.{IsAncestor-trans, IsAncestor-le, tell_a
 use Rattle.mtn_ancestry.proofs.Placing.{id_within}
 use Rattle.mtn_base.specs.Ids.{by_id, in_id_order}
 use Rattle.mtn_base.specs.declared.id.Id.{Id}
-use Rattle.mtn_base.proofs.IdOrder.{contains_nil, contains_head, contains_later, contains_cases, in_order_ascends, in_order_same, one_list_of}
+use Rattle.mtn_base.proofs.IdOrder.{contains_nil, contains_head, contains_later, contains_cases, by_id_total, in_order_ascends, in_order_same, one_list as in_one_list, one_way_of}
 use Rattle.mtn_base.specs.Lists.{ordered}
 use Rattle.mtn_base.specs.Names.{bytes_cmp, same_bytes}
 use Rattle.mtn_base.proofs.Orders.{bytes_total, exact_bytes}
@@ -45,9 +45,14 @@ list_alike order P Q items same list = record {
   exact = λ x. (λ c. (same x).0 ((list.exact x).0 c), λ q. (list.exact x).1 ((same x).1 q));
 }
 
+-- there is one list of what has P
+pub one_list_by : {X : Type 0} (order : X → X → Ordering) → IsTotalOrder order → (P : X → Type 0) (a b : List X) → IsListOf order P a → IsListOf order P b → a ≡ b
+one_list_by order total P a b l m =
+    in_one_list order (one_way_of total) a b l.ascending m.ascending (λ x c. (m.exact x).1 ((l.exact x).0 c)) (λ x c. (l.exact x).1 ((m.exact x).0 c))
+
 -- there is one list of the ids with P
 pub one_list : (P : Id → Type 0) (a b : List Id) → IsListOf by_id P a → IsListOf by_id P b → a ≡ b
-one_list P a b l m = one_list_of a b l.ascending m.ascending (λ x c. (m.exact x).1 ((l.exact x).0 c)) (λ x c. (l.exact x).1 ((m.exact x).0 c))
+one_list = one_list_by by_id by_id_total
 
 same_id_at : (log : List LogEntry) (a : ℕ) (x y : Id) → StandsAt log x a → StandsAt log y a → x ≡ y
 same_id_at log a x y p q = let e : Some x ≡ Some y = sym p ∙ q in cc

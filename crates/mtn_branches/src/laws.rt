@@ -3,8 +3,9 @@ ghost use Rattle.std.specs.Prelude.{◌≡◌, ◌↔◌, ℕ, List, Contains};
 ghost use Rattle.mtn_ancestry.specs.Log.{IsLog};
 ghost use Rattle.mtn_ancestry.specs.declared.pos.LogEntry.{LogEntry};
 ghost use Rattle.mtn_base.specs.Ids.{by_id};
+ghost use Rattle.mtn_base.specs.Names.{bytes_cmp};
 ghost use Rattle.mtn_base.specs.declared.id.Id.{Id};
-ghost use Rattle.mtn_branches.specs.Branches.{IsHead, IsListOf, IsMember};
+ghost use Rattle.mtn_branches.specs.Branches.{IsBranch, IsHead, IsListOf, IsMember};
 ghost use Rattle.mtn_branches.specs.Graphs.{IsAbove, IsHeldBy, IsProperlyAbove};
 ghost use Rattle.mtn_certs.specs.Certificates.{Certificate};
 
@@ -23,13 +24,21 @@ pub fn apart()
         IsHead (IsProperlyAbove log) (IsMember (Contains certs) branch) b → ¬ IsProperlyAbove log a b }
 {}
 
-/// There is one list of the members of a branch, and one of its heads.
+/// A branch is one exactly where it has a member.
+pub fn has_member()
+    ensures { (certs : List Certificate) (branch : List ℕ) →
+        IsBranch (Contains certs) branch ↔ ((r : Id) × IsMember (Contains certs) branch r) }
+{}
+
+/// There is one list of the members of a branch, one of its heads, and one of the branches.
 pub fn one_answer()
     ensures members { (certs : List Certificate) (branch : List ℕ) (a b : List Id) →
         IsListOf by_id (IsMember (Contains certs) branch) a → IsListOf by_id (IsMember (Contains certs) branch) b → a ≡ b }
     ensures heads { (log : List LogEntry) (certs : List Certificate) (branch : List ℕ) (a b : List Id) →
         IsListOf by_id (IsHead (IsProperlyAbove log) (IsMember (Contains certs) branch)) a →
         IsListOf by_id (IsHead (IsProperlyAbove log) (IsMember (Contains certs) branch)) b → a ≡ b }
+    ensures branches { (certs : List Certificate) (a b : List (List ℕ)) →
+        IsListOf bytes_cmp (IsBranch (Contains certs)) a → IsListOf bytes_cmp (IsBranch (Contains certs)) b → a ≡ b }
 {}
 
 /// Two lists that hold the same certificates name the same members and heads.

@@ -16,7 +16,7 @@ mod naming;
 mod sweep;
 mod values;
 
-pub use laws::{apart, one_answer, one_set, some_head};
+pub use laws::{apart, has_member, one_answer, one_set, some_head};
 pub use naming::members;
 pub use sweep::heads;
 pub use values::branches;
