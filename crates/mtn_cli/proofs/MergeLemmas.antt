@@ -15,7 +15,8 @@ use Rattle.mtn_history.specs.declared.pending.Pending.{Pending}
 use Rattle.mtn_history.proofs.Founding.{founded}
 use Rattle.mtn_history.proofs.MarkedLemmas.{draft_counts}
 use Rattle.mtn_history_laws.specs.History.{Revision}
-use Rattle.mtn_merge.specs.Plans.{Gives, MergesText}
+use Rattle.mtn_merge.specs.Plans.{Gives, HasTree, MergesText}
+use Rattle.mtn_merge.specs.declared.answer.Planned.TheVariants as planned
 use Rattle.mtn_model.specs.Outcome.{Outcome}
 use Rattle.mtn_model.specs.State.{State}
 use Rattle.mtn_model.specs.Table.{Contents, Table}
@@ -26,6 +27,8 @@ use Rattle.mtn_ports.specs.Causes.{Rose}
 use Rattle.mtn_ports.specs.Kept.{Stays, with_all}
 use Rattle.mtn_ports.proofs.KeptLemmas.{rose_before, stays_trans}
 use Rattle.mtn_put_revision.specs.Accepting.{AcceptsRevision}
+use Rattle.mtn_put_revision.specs.Keeping.{IsPlanned}
+use Rattle.mtn_roster.specs.Tree.{Tree}
 use Rattle.mtn_step.specs.Step.{Ended, PutsRevision, Steps, conflict_text, conflicted, done, id_line, refused}
 use Rattle.mtn_step.specs.declared.call.Call.TheVariants.{Merge, ShowConflicts}
 use Rattle.mtn_cli.specs.Drafts.{Drafted, Drafts, Replies}
@@ -194,3 +197,13 @@ module _ (f : List ℕ → List ℕ) (a b : Id) (payload : List ℕ) {K : Type 0
       IfSome (contents new) (λ c. IsCounted before c → IfStoreDamage e (IsDamage (with_all c before.batch))) → (e ≡ Store Failed → Rose (faults old) (faults new)) →
       Drafts f contents leaves faults old new before after Shows result
   not_shown result e is looks damage rose = subst (Drafts f contents leaves faults old new before after Shows) (sym is) (show_err e looks damage rose)
+
+-- a tree that is handed on with a text, for the put over an equal name of what is pending
+pub put_with : (f : List ℕ → List ℕ) (told : Option Contents) (p q : Pending) → q ≡ p → (same_text text : List ℕ) → same_text ≡ text → (tree : Option Tree) → ((s : State) (d : IsFounded f told p s) → HasTree f s.files d.stands.history (planned.Merged text tree)) →
+    (s : State) → (d : IsFounded f told q s) → IfSome tree (λ t. IsPlanned f s.files d.stands.history same_text t)
+put_with f told p q same same_text text is tree has = subst (λ (y : Pending). (s : State) → (d : IsFounded f told y s) → IfSome tree (λ t. IsPlanned f s.files d.stands.history same_text t)) (sym same)
+    (subst (λ (w : List ℕ). (s : State) → (d : IsFounded f told p s) → IfSome tree (λ t. IsPlanned f s.files d.stands.history w t)) (sym is) (by tree has))
+  where
+    by : (o : Option Tree) → ((s : State) (d : IsFounded f told p s) → HasTree f s.files d.stands.history (planned.Merged text o)) → (s : State) → (d : IsFounded f told p s) → IfSome o (λ t. IsPlanned f s.files d.stands.history text t)
+    by None has s d = tt
+    by (Some t) has s d = has s d

@@ -9,9 +9,9 @@ use mtn_base::{Bytes, Id, NoMemory};
 use mtn_conflicts::{Conflicts, write};
 use mtn_frame::Reply;
 use mtn_history::{Draft, HistoryError};
-use mtn_merge::{Outcome, plan_with};
+use mtn_merge::{Planned, plan_with};
 use mtn_ports::{Ident, Keeper};
-use mtn_put_revision::put_revision;
+use mtn_put_revision::put_made;
 use mtn_step::Call;
 use std::alloc::Global;
 
@@ -53,14 +53,14 @@ pub fn merge<I: Ident, K: Keeper>(
 {
     let text = resolution_text(resolves, payload);
     match plan_with(alloc, ident, draft, a, b, text)? {
-        Outcome::Merged { text } => {
-            let id = put_revision(alloc, ident, draft, text.as_slice())?;
+        Planned::Merged { text, tree } => {
+            let id = put_made(alloc, ident, draft, text.as_slice(), tree)?;
             Ok(Reply {
                 conflicts: false,
                 text: id_text(alloc, id)?,
             })
         }
-        Outcome::Conflicted {
+        Planned::Conflicted {
             left,
             right,
             conflicts,

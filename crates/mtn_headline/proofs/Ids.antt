@@ -1,21 +1,19 @@
 -- The ids that a merge's revision names are twenty bytes, so that a text spells it.
-use Rattle.std.specs.Prelude.{IsSome, map, codes}
+use Rattle.std.specs.Prelude.{IsSome, map}
 use Rattle.std.specs.FinMap.{get}
-use Rattle.std.specs.List.{AllByRecursion, flat_map}
-use Rattle.std.proofs.Common.{◌≡◌, ℕ, ◌<◌, List, [], ◌∷◌, ◌++◌, length, Option, Some, None, refl, sym, ap, ◌∙◌, subst, inl, inr, arith}
+use Rattle.std.specs.List.{AllByRecursion}
+use Rattle.std.proofs.Common.{◌≡◌, ℕ, ◌<◌, List, [], ◌∷◌, ◌++◌, length, Option, Some, None, refl, sym, ap, ◌∙◌, subst, arith}
 use Rattle.hex.specs.Hex.{IsBytes}
 use Rattle.mtn_base.specs.Hex.{id_of}
 use Rattle.mtn_base.specs.declared.id.Id.{Id}
 use Rattle.mtn_base.proofs.Finding.{Split, later}
 use Rattle.mtn_base.proofs.Members.{head}
-use Rattle.mtn_basic_io.specs.Spelling.{LineText, IsStanza, AreStanzas}
+use Rattle.mtn_basic_io.specs.Spelling.{IsStanza, AreStanzas}
 use Rattle.mtn_between.specs.Between.{between}
 use Rattle.mtn_between.specs.Laws.{IsContentIn}
 use Rattle.mtn_between.proofs.Standing.{IsAdd, IsPatch, each_is}
 use Rattle.mtn_changes.specs.declared.change.Change.{Change}
 use Rattle.mtn_changes.specs.declared.change.Change.TheVariants.{Delete, Rename, AddDir, AddFile, Patch, Clear, Set}
-use Rattle.mtn_changes.specs.declared.change.Edge.{Edge}
-use Rattle.mtn_changes.specs.declared.change.Revision.{Revision as Spelled}
 use Rattle.mtn_changes.specs.declared.head.Head.TheVariants.{Version, Manifest, Parent}
 use Rattle.mtn_changes.specs.Heads.{head_stanza}
 use Rattle.mtn_changes.specs.RevisionText.{edge_stanzas, revision_stanzas}

@@ -1,63 +1,55 @@
 -- A merge in order is decided by its lists.
-use Rattle.std.specs.Prelude.{IsSome, map, nat_lt, bytes_eq, if◌then◌else◌, find, filter_map, is_none, slice_get, option_map}
+use Rattle.std.specs.Prelude.{IsSome, nat_lt, if◌then◌else◌, find, slice_get, option_map}
 use Rattle.std.specs.FinMap.{get}
 use Rattle.std.proofs.lemmas.Bool.{cases_lt}
 use Rattle.std.proofs.lemmas.Bool.Decides.{nat_tests}
 use Rattle.std.proofs.lemmas.Option.{same_Some}
-use Rattle.std.proofs.Common.{◌≡◌, ◌≢◌, ◌⊎◌, ◌≤◌, ◌<◌, ℕ, Bool, true, false, List, [], ◌∷◌, ◌++◌, length, Option, Some, None, Ok, Err, inl, inr, refl, sym, ap, ◌∙◌, subst, arith}
+use Rattle.std.proofs.Common.{◌≡◌, ◌⊎◌, ◌≤◌, ◌<◌, ℕ, Bool, true, false, List, [], ◌∷◌, ◌++◌, length, Option, Some, None, Ok, inl, inr, refl, sym, ap, ◌∙◌, subst, arith}
 use Rattle.mtn_base.specs.Hex.{id_of}
 use Rattle.mtn_base.specs.declared.id.Id.{Id}
 use Rattle.mtn_base.specs.Names.{same_bytes}
 use Rattle.mtn_base.specs.declared.refusal.Cause.{Cause}
-use Rattle.mtn_base.specs.declared.refusal.Cause.TheVariants.{Collision, ManifestDiffers, TextTooLong, UnknownFile}
+use Rattle.mtn_base.specs.declared.refusal.Cause.TheVariants.{Collision, TextTooLong}
 use Rattle.mtn_base.proofs.Finding.{found}
 use Rattle.mtn_base.proofs.Members.{taken, place_of as place_in}
-use Rattle.mtn_basic_io.specs.Spelling.{AreStanzas, spelling}
+use Rattle.mtn_basic_io.specs.Spelling.{spelling}
 use Rattle.mtn_between.specs.Laws.{IsContentIn}
 use Rattle.mtn_between.specs.Merging.{IsMerged}
 use Rattle.mtn_changes.specs.declared.change.Revision.{Revision as Spelled}
 use Rattle.mtn_changes.specs.declared.error.ChangeTextError.TheVariants as error
-use Rattle.mtn_changes.specs.RevisionText.{revision_stanzas}
 use Rattle.mtn_changes.proofs.OneValue.{no_revision_fault, same_revision}
-use Rattle.mtn_changeset_laws.specs.Changes.{or_else}
-use Rattle.mtn_changeset_laws.specs.Laws.{IsFresh, NoneBornIn}
-use Rattle.mtn_changeset_laws.proofs.Stepping.{unborn_at}
 use Rattle.mtn_conflicts.specs.declared.lists.Conflicts.{Conflicts}
 use Rattle.mtn_conflicts.specs.Lists.{AreConflictsOf, IsNone}
 use Rattle.mtn_conflicts.specs.Result.{result_of}
 use Rattle.mtn_decide.specs.Decisions.{Merge}
-use Rattle.mtn_history_laws.specs.History.{Revision, tree_at, IsGrown}
+use Rattle.mtn_history_laws.specs.History.{Revision, tree_at}
 use Rattle.mtn_manifest.specs.Manifest.{manifest_of}
-use Rattle.mtn_merged_trees.proofs.Again.{edges_again, long_again, manifest_again, many_again, shown_again}
-use Rattle.mtn_merged_trees.proofs.Contents.{contents_again, result_held}
 use Rattle.mtn_merging.specs.MergeEdges.{merge_edges}
-use Rattle.mtn_merging.proofs.Accepted.{accepted_is, edges_lawful, made_is, tree_is}
 use Rattle.mtn_model.specs.Outcome.{Outcome}
 use Rattle.mtn_model.specs.State.{Logged, State}
 use Rattle.mtn_order.proofs.Texts.{text_none}
-use Rattle.mtn_plans.specs.Given.{IsChecked, IsGiven, unknown_pick}
-use Rattle.mtn_plans.specs.Plans.{Ends, IsUnborn, Merges, Plan, PlansPayload, PlansSides, Unless, limit_refusal, merge_revision, merge_text, merged_or, text_refusal}
-use Rattle.mtn_plans.specs.Sides.{IsMergeAt, left_of, right_of, side_refusal}
-use Rattle.mtn_plans.specs.declared.outcome.Outcome.TheVariants.{Conflicted, Merged}
-use Rattle.mtn_replay.specs.Accepting.{Decides, IsDecided, fault_cause, logged_beside, refusal_beside}
+use Rattle.mtn_plans.specs.Given.{IsGiven}
+use Rattle.mtn_plans.specs.Plans.{Ends, IsUnborn, Merges, Plan, PlansPayload, Unless, limit_refusal, merge_revision, merge_text, merged_or, text_refusal}
+use Rattle.mtn_plans.specs.Sides.{left_of, right_of}
+use Rattle.mtn_plans.specs.declared.outcome.Outcome.TheVariants.{Conflicted}
+use Rattle.mtn_replay.specs.Accepting.{Decides, fault_cause, logged_beside, refusal_beside}
 use Rattle.mtn_replay.specs.Lawful.{IsHistory, IsLawful, IsNext, Spells}
-use Rattle.mtn_replay.specs.Making.{is_above, log_full, made, made_tree, other_manifest, parent_tree, place_of, refusal_of, too_long, too_many, tree_refusal, unknown_file}
+use Rattle.mtn_replay.specs.Making.{is_above, log_full, made, made_tree, place_of, refusal_of, too_long, too_many}
 use Rattle.mtn_replay.specs.Texts.{text_under}
-use Rattle.mtn_replay.proofs.Histories.{history_is_grown, history_more, one_history}
+use Rattle.mtn_replay.proofs.Histories.{history_more, one_history}
 use Rattle.std.specs.Cmp.Lexicographic.{bytes_decides}
-use Rattle.mtn_replay.proofs.Places.{no_place, within as inside}
-use Rattle.mtn_replay.proofs.Steps.{unmapped}
+use Rattle.mtn_replay.proofs.Places.{within as inside}
 use Rattle.mtn_marking.proofs.Zips.{got_at}
 use Rattle.mtn_resolve.specs.declared.resolution.Resolution.{Resolution}
-use Rattle.mtn_resolve.specs.Overriding.{overridden, pick_in}
+use Rattle.mtn_resolve.specs.Overriding.{overridden}
 use Rattle.mtn_resolve.specs.Texts.{AreResolutions}
 use Rattle.mtn_roster.specs.Tree.{Tree, IsSane}
-use Rattle.mtn_step.specs.Step.{Ended, OfHistory, Planned, PutsRevision, Steps, conflict_text, conflicted, done, id_line, unless}
+use Rattle.mtn_step.specs.Step.{Ended, Planned, PutsRevision, Steps, conflict_text, conflicted, id_line, unless}
 use Rattle.mtn_step.specs.declared.call.Call.TheVariants.{Merge as MergeCall}
 use Rattle.mtn_step_laws.proofs.OnePlan.{one_plan}
 use Rattle.mtn_headline.specs.Merging.{IsMergeInOrder, IsMergedBy, IsNewRevision, IsWithinLimits, MakesIds}
-use Rattle.mtn_headline.proofs.Ids.{IsId, merge_stanzas}
-use Rattle.mtn_headline.proofs.Ordering.{lesser}
+use Rattle.mtn_headline.proofs.Ids.{merge_stanzas}
+use Rattle.mtn_planned_trees.proofs.Planned as planned
 
 -- resolutions that are given are lawful
 lawful_given : (resolves : Bool) (payload : List ℕ) (rs : List Resolution) → IsGiven resolves payload (Ok rs) → AreResolutions [] rs
@@ -79,8 +71,8 @@ module _ (f : List ℕ → List ℕ) (s : State) (h : List Revision) (a b : Id) 
   decisions = overridden order.resolutions order.merge
 
   -- the plan of a merge whose ends are these
-  planned : (plan : Plan) → Ends f h l r decisions plan → Merges f s.files h a b resolves payload plan
-  planned plan ends = subst (λ u. Unless u (PlansPayload f h l r s.files resolves payload) plan) (sym order.sides) (
+  plan_of : (plan : Plan) → Ends f h l r decisions plan → Merges f s.files h a b resolves payload plan
+  plan_of plan ends = subst (λ u. Unless u (PlansPayload f h l r s.files resolves payload) plan) (sym order.sides) (
     Ok order.resolutions,
     order.given,
     record {
@@ -99,14 +91,14 @@ module _ (f : List ℕ → List ℕ) (s : State) (h : List Revision) (a b : Id) 
   by_plan plan ends does =
       let same : does.0 ≡ h = one_history f s.files s.log does.0 h does.1 is in
       let there : Planned (Merges f s.files h a b resolves payload) (Ended (PutsRevision f) s o) = subst (λ g. Planned (Merges f s.files g a b resolves payload) (Ended (PutsRevision f) s o)) same does.2 in
-      subst (Ended (PutsRevision f) s o) (one_plan f s.files s.log h is a b resolves payload there.0 plan there.1 (planned plan ends)) there.2
+      subst (Ended (PutsRevision f) s o) (one_plan f s.files s.log h is a b resolves payload there.0 plan there.1 (plan_of plan ends)) there.2
 
   pub in_conflict : Steps f (MergeCall a b resolves) payload s o → ¬ IsNone d → o ≡ conflicted s (conflict_text l r d)
   in_conflict does some = by_plan (Ok (Conflicted l r d)) (record { conflicts = d; are = are; ends = inl (record { some = some; is = refl }) }) does
 
   module _ (ids : MakesIds f) (lawful : IsLawful f s) (none : IsNone d) (x : Id) (ux : IsUnborn h l r x) (within : IsWithinLimits f s h l r (result_of decisions x)) where
-    grown : IsGrown h
-    grown = history_is_grown f s.files s.log h is
+    lawful_rs : AreResolutions [] order.resolutions
+    lawful_rs = lawful_given resolves payload order.resolutions order.given
 
     abbrev t : Tree
     t = result_of decisions x
@@ -133,11 +125,7 @@ module _ (f : List ℕ → List ℕ) (s : State) (h : List Revision) (a b : Id) 
     -- ---- the limits
 
     parts : (too_many t ≡ None) × ((too_long t ≡ None) × (text_refusal text ≡ None))
-    parts = let m = both (too_many t) (or_else (too_long t) (text_refusal text)) within.limits in (m.0, both (too_long t) (text_refusal text) m.1)
-      where
-        both : (v w : Option Cause) → or_else v w ≡ None → (v ≡ None) × (w ≡ None)
-        both None w e = (refl, e)
-        both (Some c) w e = absurd cc
+    parts = planned.parts f s.files s.log h is a b order.sides order.merge order.decides order.resolutions order.before order.checked lawful_rs d are none x ux within.limits
 
     short : length text ≤ 67108864
     short = elim (cases_lt 67108864 (length text)) [
@@ -172,71 +160,19 @@ module _ (f : List ℕ → List ℕ) (s : State) (h : List Revision) (a b : Id) 
     -- ---- a new text
 
     module _ (fresh : place_of h new ≡ None) where
-      unborn_left : NoneBornIn (tree_at h p) new
-      unborn_left = unborn_at h p new grown.born (no_place h new fresh)
-
-      unborn_right : NoneBornIn (tree_at h q) new
-      unborn_right = unborn_at h q new grown.born (no_place h new fresh)
-
-      x_left : NoneBornIn (tree_at h p) x
-      x_left = subst (λ z. NoneBornIn z x) (tree_is f s.files s.log h is l p order.decides.at_left) ux.0
-
-      x_right : NoneBornIn (tree_at h q) x
-      x_right = subst (λ z. NoneBornIn z x) (tree_is f s.files s.log h is r q order.decides.at_right) ux.1
-
       shown : IsMerged (tree_at h p) (tree_at h q) new (is_above h (Some l)) (is_above h (Some r)) u
-      shown = shown_again f s.files s.log h is l r p q order.decides.at_left order.decides.at_right order.merge order.before d order.resolutions order.decides.order order.decides.decides order.checked.0 are none
-          new (no_place h new fresh) (lawful_given resolves payload order.resolutions order.given)
-
-      edges : merge_edges h l r t ≡ merge_edges h l r u
-      edges = edges_again f s.files s.log h is l r p q order.decides.at_left order.decides.at_right order.merge order.before d order.resolutions order.decides.order order.decides.decides order.checked.0 are none
-          x new x_left x_right unborn_left unborn_right
-
-      manifests : manifest_of t ≡ manifest_of u
-      manifests = manifest_again f s.files s.log h is l r p q order.decides.at_left order.decides.at_right order.merge order.before d order.resolutions order.decides.order order.decides.decides order.checked.0 are none
-          x new x_left x_right unborn_left unborn_right
-
-      many : too_many t ≡ too_many u
-      many = many_again f s.files s.log h is l r p q order.decides.at_left order.decides.at_right order.merge order.before d order.resolutions order.decides.order order.decides.decides order.checked.0 are none
-          x new x_left x_right unborn_left unborn_right
-
-      long : too_long t ≡ too_long u
-      long = long_again f s.files s.log h is l r p q order.decides.at_left order.decides.at_right order.merge order.before d order.resolutions order.decides.order order.decides.decides order.checked.0 are none
-          x new x_left x_right unborn_left unborn_right
-
-      picks : find (λ (i : Id). is_none (get s.files i.0)) (filter_map pick_in order.resolutions) ≡ None
-      picks = unmapped UnknownFile (find (λ (i : Id). is_none (get s.files i.0)) (filter_map pick_in order.resolutions)) order.checked.1
-
-      contents : unknown_file s.files (merge_edges h l r u) ≡ None
-      contents = contents_again f s.files s.log h is l r p q order.decides.at_left order.decides.at_right order.merge order.decides.order order.decides.decides order.resolutions picks order.before d order.checked.0 are none new unborn_left unborn_right
+      shown = planned.shown f s.files s.log h is a b order.sides order.merge order.decides order.resolutions order.before order.checked lawful_rs d are none x ux within.limits fresh
 
       held : (content : Id) → IsContentIn u content → IsSome (get s.files content.0)
-      held = result_held f s.files s.log h is l r p q order.decides.at_left order.decides.at_right order.merge order.decides.order order.decides.decides order.resolutions picks order.before d order.checked.0 are none new unborn_left unborn_right
-
-      revisions : merge_revision f h l r t ≡ merge_revision f h l r u
-      revisions = λ i. record { manifest = id_of (f (spelling (manifests i))); edges = edges i }
+      held = planned.held f s.files s.log h is a b order.sides order.merge order.decides order.resolutions order.before order.checked lawful_rs d are none x ux within.limits fresh
 
       spells : Spells text (merge_revision f h l r u)
-      spells = record {
-        reads = record {
-          lawful = edges_lawful f s.files s.log h is l r p q order.decides.at_left order.decides.at_right u (lesser h grown a b p order.decides.at_left order.sides) shown.sane shown.spellable;
-          spelled = ap (λ (z : Spelled). spelling (revision_stanzas z)) revisions;
-        };
-        stanzas = merge_stanzas f ids s.files lawful.files s.log h is l r p q u (id_of (f (spelling (manifest_of u)))) order.decides.at_left order.decides.at_right shown.sane held
-            (ids (spelling (manifest_of u)));
-      }
-
-      none_of_tree : too_many u ≡ None
-      none_of_tree = sym many ∙ parts.0
+      spells = planned.spells f s.files s.log h is a b order.sides order.merge order.decides order.resolutions order.before order.checked lawful_rs d are none x ux within.limits fresh
+          (merge_stanzas f ids s.files lawful.files s.log h is l r p q u (id_of (f (spelling (manifest_of u)))) order.decides.at_left order.decides.at_right shown.sane held
+          (ids (spelling (manifest_of u))))
 
       refusal_none : log_full h ≡ None → refusal_of f s.files h new (merge_revision f h l r u) ≡ None
-      refusal_none room =
-          accepted_is f s.files s.log h is l r p q order.decides.at_left order.decides.at_right u new (no_place h new fresh) shown (id_of (f (spelling (manifest_of u))))
-          ∙ ap (λ v. or_else v (tree_refusal f s.files (merge_revision f h l r u) u)) room
-          ∙ ap (λ v. or_else v (or_else (too_long u) (or_else (unknown_file s.files (merge_edges h l r u)) (other_manifest f u (id_of (f (spelling (manifest_of u)))))))) none_of_tree
-          ∙ ap (λ v. or_else v (or_else (unknown_file s.files (merge_edges h l r u)) (other_manifest f u (id_of (f (spelling (manifest_of u))))))) (sym long ∙ parts.1.0)
-          ∙ ap (λ v. or_else v (other_manifest f u (id_of (f (spelling (manifest_of u)))))) contents
-          ∙ ap (λ z. if z then None else Some (ManifestDiffers (id_of (f (spelling (manifest_of u)))))) ((bytes_decides (f (spelling (manifest_of u))) (f (spelling (manifest_of u)))).1 refl)
+      refusal_none = planned.refusal_none f s.files s.log h is a b order.sides order.merge order.decides order.resolutions order.before order.checked lawful_rs d are none x ux within.limits fresh
 
       revision : Revision
       revision = made h new (merge_edges h l r u)
@@ -245,7 +181,7 @@ module _ (f : List ℕ → List ℕ) (s : State) (h : List Revision) (a b : Id) 
       next room = record { short = short; id = refl; fresh = fresh; read = merge_revision f h l r u; spells = spells; accepted = refusal_none room; made = refl }
 
       tree : made_tree h new (merge_edges h l r u) ≡ u
-      tree = made_is f s.files s.log h is l r p q order.decides.at_left order.decides.at_right u new (no_place h new fresh) shown
+      tree = planned.tree f s.files s.log h is a b order.sides order.merge order.decides order.resolutions order.before order.checked lawful_rs d are none x ux within.limits fresh
 
       made_new : log_full h ≡ None → text_under s.log (f text) ≡ None → o ≡ unless None s (logged_beside None f s text) (id_line (f text)) → IsNewRevision f h decisions text o
       made_new room under e = record {

@@ -4,7 +4,7 @@ use Rattle.hex.specs.Hex.{IsBytes}
 use Rattle.mtn_base.specs.Hex.{id_of}
 use Rattle.mtn_base.specs.declared.id.Id.{Id}
 use Rattle.mtn_conflicts.specs.declared.lists.Conflicts.{Conflicts}
-use Rattle.mtn_conflicts.specs.Lists.{AreConflictsOf, IsNone}
+use Rattle.mtn_conflicts.specs.Lists.{AreConflictsOf}
 use Rattle.mtn_conflicts.specs.Result.{result_of}
 use Rattle.mtn_decide.specs.Decisions.{Merge}
 use Rattle.mtn_history_laws.specs.History.{Revision}
@@ -12,15 +12,14 @@ use Rattle.mtn_model.specs.Outcome.{Outcome}
 use Rattle.mtn_model.specs.State.{State}
 use Rattle.mtn_model.specs.declared.status.Status.TheVariants as status
 use Rattle.mtn_plans.specs.Given.{IsChecked, IsGiven}
-use Rattle.mtn_plans.specs.Plans.{IsUnborn, limit_refusal, merge_text}
+use Rattle.mtn_plans.specs.Plans.{limit_refusal, merge_text}
 use Rattle.mtn_plans.specs.Sides.{IsMergeAt, left_of, right_of, side_refusal}
 use Rattle.mtn_replay.specs.Lawful.{IsHistory}
 use Rattle.mtn_replay.specs.Making.{log_full}
 use Rattle.mtn_replay.specs.Texts.{text_under}
 use Rattle.mtn_resolve.specs.declared.resolution.Resolution.{Resolution}
-use Rattle.mtn_resolve.specs.Overriding.{overridden}
 use Rattle.mtn_roster.specs.Tree.{Tree, IsSane}
-use Rattle.mtn_step.specs.Step.{conflict_text, conflicted, done, id_line}
+use Rattle.mtn_step.specs.Step.{done, id_line}
 
 -- what is made of each text is an id: twenty bytes
 abbrev pub MakesIds : (List ℕ → List ℕ) → Type 0

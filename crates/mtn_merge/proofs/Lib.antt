@@ -9,3 +9,4 @@ pub mod Picking
 pub mod Finding
 pub mod Damaging
 pub mod Hanging
+pub mod Trees

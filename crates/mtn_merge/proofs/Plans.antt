@@ -5,7 +5,7 @@ use Rattle.std.specs.List.{IsDistinct}
 use Rattle.std.proofs.lemmas.Bool.{ne_eqb}
 use Rattle.mtn_base.specs.declared.id.Id.{Id}
 use Rattle.mtn_base.specs.declared.refusal.Cause.{Cause}
-use Rattle.mtn_conflicts.specs.Lists.{AreConflictsOf, IsNone}
+use Rattle.mtn_conflicts.specs.Lists.{AreClear, AreConflictsOf, IsNone}
 use Rattle.mtn_conflicts.specs.declared.lists.Conflicts.{Conflicts}
 use Rattle.mtn_decide.specs.Decisions.{IsInOrder, Merge}
 use Rattle.mtn_history.specs.Errors.{IfStoreDamage}
@@ -18,14 +18,17 @@ use Rattle.mtn_plans.specs.Given.{IsGiven}
 use Rattle.mtn_plans.specs.Plans.{Ends, Looks, Merges, Plan, Plans, PlansPayload, PlansSides, Unless}
 use Rattle.mtn_plans.specs.Sides.{left_of, right_of, side_refusal}
 use Rattle.mtn_plans.specs.declared.outcome.Outcome.{Outcome}
-use Rattle.mtn_plans.specs.declared.outcome.Outcome.TheVariants.{Merged, Conflicted}
+use Rattle.mtn_plans.specs.declared.outcome.Outcome.TheVariants.{Conflicted}
 use Rattle.mtn_put_revision.specs.Finding.{IsRefusal}
 use Rattle.mtn_resolve.specs.Subjects.{AreApart}
+use Rattle.mtn_resolve.specs.Texts.{AreResolutions}
 use Rattle.mtn_resolve.specs.declared.resolution.Resolution.{Resolution}
 use Rattle.mtn_merge.proofs.None.{not_overridden}
 use Rattle.mtn_merge.specs.Given.{GivesResolutions, Overrides}
-use Rattle.mtn_merge.specs.Plans.{AreOrdered, Gives, IsMadeOf, IsText, MergesText}
+use Rattle.mtn_merge.specs.Plans.{AreOrdered, Gives, HasClear, HasKept, IsMadeOf, IsText, MergesText}
 use Rattle.mtn_merge.specs.Sides.{AreCompared, FindsSides}
+use Rattle.mtn_merge.specs.declared.answer.Planned.{Planned}
+use Rattle.mtn_merge.specs.declared.answer.Planned.TheVariants as planned
 use Rattle.mtn_merge.specs.declared.sides.Compared.{Compared}
 
 pub unless_some : (o : Option Cause) (cause : Cause) (Is : Plan → Type 0) → o ≡ Some cause → Unless o Is (Err cause)
@@ -34,10 +37,16 @@ unless_some o cause Is e = subst (λ u. Unless u Is (Err cause)) (sym e) refl
 pub unless_none : (o : Option Cause) (Is : Plan → Type 0) (plan : Plan) → o ≡ None → Is plan → Unless o Is plan
 unless_none o Is plan e is = subst (λ u. Unless u Is plan) (sym e) is
 
-pub texts_are_ordered : (r : Result Outcome HistoryError) → IfOk r IsText → IfOk r AreOrdered
-texts_are_ordered (Ok (Merged text)) is = tt
-texts_are_ordered (Ok (Conflicted left right conflicts)) is = absurd is
+pub texts_are_ordered : (r : Result Planned HistoryError) → IfOk r IsText → IfOk r AreOrdered
+texts_are_ordered (Ok (planned.Merged text tree)) is = tt
+texts_are_ordered (Ok (planned.Conflicted left right conflicts)) is = absurd is
 texts_are_ordered (Err e) is = tt
+
+pub clear_kept : (f : List ℕ → List ℕ) (h : List Revision) (l r : Id) (m : Merge) (clear : AreClear m) (result : Result Planned HistoryError) → IfOk result (HasKept f h l r m) → IfOk result (HasClear f h l r m)
+clear_kept f h l r m clear (Ok (planned.Merged text (Some t))) has = (clear, has)
+clear_kept f h l r m clear (Ok (planned.Merged text None)) has = tt
+clear_kept f h l r m clear (Ok (planned.Conflicted left right conflicts)) has = tt
+clear_kept f h l r m clear (Err e) has = tt
 
 pub gives_map : (Is Js : Plan → Type 0) (r : Result Outcome HistoryError) → ((plan : Plan) → Is plan → Js plan) → Gives Is r → Gives Js r
 gives_map Is Js (Ok outcome) f is = f (Ok outcome) is
@@ -147,3 +156,8 @@ pub none_are_apart : (rs : List Resolution) → rs ≡ [] → AreApart rs
 unfolding IsDistinct
 none_are_apart [] is = tt
 none_are_apart (r ∷ rs) is = absurd cc
+
+-- given resolutions are lawful
+pub given_lawful : (text : Option (List ℕ)) (rs : List Resolution) → GivesResolutions text (Ok rs) → AreResolutions [] rs
+given_lawful (Some text) rs is = is.1.reads.lawful
+given_lawful None rs is = subst (AreResolutions []) (sym is) tt

@@ -1,21 +1,29 @@
 -- What the calls answer.
+use Rattle.std.specs.List.{list_any}
 use Rattle.std.specs.Prelude.{◌≡◌, ℕ, true, false, List, [], ◌∷◌, Option, Some, None, Result, Ok, Err, ⊤}
 use Rattle.mtn_base.specs.Hex.{id_of}
 use Rattle.mtn_base.specs.declared.id.Id.{Id}
-use Rattle.mtn_basic_io.specs.Spelling.{spelling}
+use Rattle.mtn_basic_io.specs.Spelling.{AreStanzas, spelling}
 use Rattle.mtn_between.specs.Between.{between}
 use Rattle.mtn_changes.specs.RevisionText.{revision_stanzas}
+use Rattle.mtn_changes.specs.declared.change.Revision.{Revision as Spelled}
 use Rattle.mtn_conflicts.specs.ConflictText.{IsLesser}
+use Rattle.mtn_conflicts.specs.Lists.{AreClear}
+use Rattle.mtn_conflicts.specs.Result.{result_of}
 use Rattle.mtn_decide.specs.Decisions.{Merge}
+use Rattle.mtn_decide.specs.declared.decision.Decision.{Decision}
 use Rattle.mtn_history.specs.declared.errors.HistoryError.{HistoryError}
 use Rattle.mtn_history.specs.declared.errors.HistoryError.TheVariants.{Refused, Store}
 use Rattle.mtn_history_laws.specs.History.{Revision}
 use Rattle.mtn_manifest.specs.Manifest.{manifest_of}
 use Rattle.mtn_model.specs.Table.{Table}
-use Rattle.mtn_plans.specs.Plans.{Plan, IsResult, limit_refusal, merged_or, merge_text, Merges}
+use Rattle.mtn_plans.specs.Plans.{Plan, IsResult, IsUnborn, limit_refusal, merged_or, merge_revision, merge_text, Merges}
 use Rattle.mtn_plans.specs.declared.outcome.Outcome.{Outcome}
 use Rattle.mtn_plans.specs.declared.outcome.Outcome.TheVariants.{Merged, Conflicted}
+use Rattle.mtn_put_revision.specs.Keeping.{IsPlanned}
 use Rattle.mtn_roster.specs.Tree.{Tree}
+use Rattle.mtn_merge.specs.declared.answer.Planned.{Planned}
+use Rattle.mtn_merge.specs.declared.answer.Planned.TheVariants as planned
 
 -- a call gives such a plan, unless the store fails
 abbrev pub Gives : (Plan → Type 0) → Result Outcome HistoryError → Type 0
@@ -23,31 +31,71 @@ Gives Is (Ok outcome) = Is (Ok outcome)
 Gives Is (Err (Refused cause)) = Is (Err cause)
 Gives Is (Err (Store e)) = ⊤
 
+-- what is planned, without its tree
+abbrev pub outcome_of : Planned → Outcome
+outcome_of (planned.Merged text tree) = Merged text
+outcome_of (planned.Conflicted left right conflicts) = Conflicted left right conflicts
+
+abbrev pub outcomes : Result Planned HistoryError → Result Outcome HistoryError
+outcomes (Ok plan) = Ok (outcome_of plan)
+outcomes (Err e) = Err e
+
 -- conflicts are those of a lesser id and a greater one
-abbrev pub AreOrdered : Outcome → Type 0
-AreOrdered (Merged text) = ⊤
-AreOrdered (Conflicted left right conflicts) = IsLesser left right
+abbrev pub AreOrdered : Planned → Type 0
+AreOrdered (planned.Merged text tree) = ⊤
+AreOrdered (planned.Conflicted left right conflicts) = IsLesser left right
 
 -- it is no list of conflicts
-abbrev pub IsText : Outcome → Type 0
-IsText (Merged text) = ⊤
-IsText (Conflicted left right conflicts) = ⊥
+abbrev pub IsText : Planned → Type 0
+IsText (planned.Merged text tree) = ⊤
+IsText (planned.Conflicted left right conflicts) = ⊥
 
 -- only conflicts are shown
 abbrev pub AreShown : Outcome → Type 0
 AreShown (Merged text) = ⊥
 AreShown (Conflicted left right conflicts) = IsLesser left right
 
--- the text of a revision with edges from two trees
-abbrev pub text_of_sides : (List ℕ → List ℕ) → Id → Tree → Id → Tree → Tree → List ℕ
-text_of_sides f l left r right t = spelling (revision_stanzas (record {
+-- a revision with edges from two trees, and its text
+abbrev pub revision_of_sides : (List ℕ → List ℕ) → Id → Tree → Id → Tree → Tree → Spelled
+revision_of_sides f l left r right t = record {
   manifest = id_of (f (spelling (manifest_of t)));
   edges = record { parent = Some l; changes = between left t } ∷ record { parent = Some r; changes = between right t } ∷ [];
-}))
+}
+
+abbrev pub text_of_sides : (List ℕ → List ℕ) → Id → Tree → Id → Tree → Tree → List ℕ
+text_of_sides f l left r right t = spelling (revision_stanzas (revision_of_sides f l left r right t))
 
 -- a tree that decisions without conflicts make, and its text or why it is refused
 abbrev pub IsMadeOf : (List ℕ → List ℕ) → List Revision → Id → Id → Merge → Plan → Type 0
 IsMadeOf f h l r m plan = (t : Tree) × IsResult h l r m t × (plan ≡ merged_or (limit_refusal f h l r t) (merge_text f h l r t))
+
+-- The tree that is handed on with a text: the one that decisions make in a revision of any id, since none of them is of a reborn node;
+-- within the limits, and with this text, whose stanzas are stanzas
+pub record IsKept (f : List ℕ → List ℕ) (h : List Revision) (l r : Id) (m : Merge) (text : List ℕ) (t : Tree) : Type 0 where
+  pub id : Id
+  pub unborn : IsUnborn h l r id
+  pub is : t ≡ result_of m id
+  pub lasting : list_any (λ (d : Decision). d.reborn) m.nodes ≡ false
+  pub within : limit_refusal f h l r (result_of m id) ≡ None
+  pub spelled : text ≡ merge_text f h l r (result_of m id)
+  pub stanzas : AreStanzas (revision_stanzas (merge_revision f h l r (result_of m id)))
+
+abbrev pub HasKept : (List ℕ → List ℕ) → List Revision → Id → Id → Merge → Planned → Type 0
+HasKept f h l r m (planned.Merged text (Some t)) = IsKept f h l r m text t
+HasKept f h l r m (planned.Merged text None) = ⊤
+HasKept f h l r m (planned.Conflicted left right conflicts) = ⊤
+
+-- the same of decisions without conflicts
+abbrev pub HasClear : (List ℕ → List ℕ) → List Revision → Id → Id → Merge → Planned → Type 0
+HasClear f h l r m (planned.Merged text (Some t)) = AreClear m × IsKept f h l r m text t
+HasClear f h l r m (planned.Merged text None) = ⊤
+HasClear f h l r m (planned.Conflicted left right conflicts) = ⊤
+
+-- the tree that is handed on is the one that the text makes
+abbrev pub HasTree : (List ℕ → List ℕ) → Table → List Revision → Planned → Type 0
+HasTree f files h (planned.Merged text (Some t)) = IsPlanned f files h text t
+HasTree f files h (planned.Merged text None) = ⊤
+HasTree f files h (planned.Conflicted left right conflicts) = ⊤
 
 -- what a merge comes to with the resolutions of a text, or with none
 abbrev pub MergesText : (List ℕ → List ℕ) → Table → List Revision → Id → Id → Option (List ℕ) → Plan → Type 0

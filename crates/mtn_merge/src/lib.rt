@@ -13,6 +13,7 @@
 //! both trees. The resulting tree is built once.
 #![tactic(auto)]
 
+mod answer;
 mod births;
 mod dirs;
 mod given;
@@ -21,5 +22,6 @@ mod planning;
 mod sides;
 mod text;
 
+pub use answer::Planned;
 pub use mtn_plans::Outcome;
 pub use planning::{look, plan, plan_with};

@@ -1,5 +1,7 @@
 // The tree of a merge without conflicts, and its text.
-ghost use Rattle.std.specs.Prelude.{◌≡◌, ◌≢◌, List, None, Err, IfErr, IfOk, OnOk};
+ghost use Rattle.std.specs.List.{list_any};
+ghost use Rattle.std.specs.Prelude.{◌≡◌, ◌≢◌, false, List, None, Err, IfErr, IfOk, IfSome, OnOk};
+ghost use Rattle.mtn_decide.specs.declared.decision.Decision.{Decision as Decided};
 ghost use Rattle.mtn_changeset_laws.specs.Changes.{or_else};
 ghost use Rattle.mtn_conflicts.specs.Lists.{AreClear};
 ghost use Rattle.mtn_conflicts.specs.Result.{ParentsAreDirs};
@@ -7,18 +9,18 @@ ghost use Rattle.mtn_history.specs.Errors.{IfStoreDamage};
 ghost use Rattle.mtn_history_laws.specs.History.{Revision};
 ghost use Rattle.mtn_put_revision.specs.Finding.{IsRefusal};
 ghost use Rattle.mtn_replay.specs.Making.{too_long, too_many};
-ghost use Rattle.mtn_merge.specs.Plans.{Gives, IsMadeOf, IsText};
+ghost use Rattle.mtn_merge.specs.Plans.{Gives, HasKept, IsMadeOf, IsText, outcomes};
 ghost use Rattle.mtn_merge.specs.Sides.{IsSideOf};
 
+use crate::answer::Planned;
 use crate::births::unborn;
 use crate::sides::Side;
 use crate::text::{Parent, revision_text};
 use mtn_base::{Cause, MAX_TEXT};
 use mtn_conflicts::result;
-use mtn_decide::Decisions;
+use mtn_decide::{Decision, Decisions};
 use mtn_history::{HistoryError, StoreError};
 use mtn_make_roster::{MakeError, within_limits};
-use mtn_plans::Outcome;
 use mtn_ports::Ident;
 use mtn_roster::Roster;
 use std::alloc::Global;
@@ -38,17 +40,41 @@ fn limited(alloc: Global, tree: &Roster) -> Result<(), HistoryError>
     }
 }
 
-/// The text of the tree that decisions make, or the first limit that it is not within.
+// Whether a node is reborn.
+fn is_some_reborn(nodes: &[Decision]) -> bool
+    ensures { result ≡ list_any (λ (d : Decided). d.reborn) nodes.now }
+{
+    for node in nodes {
+        if node.reborn {
+            return true;
+        }
+    }
+    false
+}
+
+// The tree, where it is the same in a revision of any id.
+fn lasting(nodes: &[Decision], tree: Roster) -> Option<Roster>
+    ensures { IfSome result (λ t. (t ≡ tree) × (list_any (λ (d : Decided). d.reborn) nodes.now ≡ false)) }
+{
+    if is_some_reborn(nodes) {
+        None
+    } else {
+        Some(tree)
+    }
+}
+
+/// The text of the tree that decisions make with that tree, or the first limit that it is not within.
 pub fn merged<I: Ident>(
     alloc: Global,
     ident: &I,
     left: &Side,
     right: &Side,
     decisions: &Decisions,
-) -> Result<Outcome, HistoryError>
+) -> Result<Planned, HistoryError>
     requires clear { AreClear decisions.now }
     requires dirs { ParentsAreDirs decisions.now.nodes }
-    ensures made { (h : List Revision) → IsSideOf h left.now → IsSideOf h right.now → Gives (IsMadeOf (I.meaning ident.now) h left.now.id right.now.id decisions.now) result }
+    ensures made { (h : List Revision) → IsSideOf h left.now → IsSideOf h right.now → Gives (IsMadeOf (I.meaning ident.now) h left.now.id right.now.id decisions.now) (outcomes result) }
+    ensures kept { (h : List Revision) → IsSideOf h left.now → IsSideOf h right.now → IfOk result (HasKept (I.meaning ident.now) h left.now.id right.now.id decisions.now) }
     ensures text { IfOk result IsText }
     ensures sound { IfErr result (λ e. IfStoreDamage e (λ _. ⊥)) }
     ensures failed { result ≢ Err (HistoryError.Store StoreError.Failed) }
@@ -72,5 +98,8 @@ pub fn merged<I: Ident>(
             length: text.as_slice().len() as u64,
         }));
     }
-    Ok(Outcome::Merged { text })
+    Ok(Planned::Merged {
+        text,
+        tree: lasting(decisions.nodes(), tree),
+    })
 }

@@ -1,5 +1,5 @@
 // The calls `plan` and `look`.
-ghost use Rattle.std.specs.Prelude.{◌≡◌, ◌<◌, List, ℕ, None, Err, IfOk, IfErr, IfSome, OnOk, option_copied};
+ghost use Rattle.std.specs.Prelude.{◌≡◌, ◌<◌, List, ℕ, None, Err, IfOk, IfErr, IfSome, OnOk, [], option_copied};
 ghost use Rattle.mtn_conflicts.specs.ConflictText.{IsLesser};
 ghost use Rattle.mtn_conflicts.specs.Lists.{AreConflictsOf};
 ghost use Rattle.mtn_conflicts.specs.Result.{ParentsAreDirs};
@@ -14,10 +14,12 @@ ghost use Rattle.mtn_plans.specs.Sides.{side_refusal};
 ghost use Rattle.mtn_ports.specs.Causes.{Rose};
 ghost use Rattle.mtn_ports.specs.Kept.{Stays, with_all};
 ghost use Rattle.mtn_put_revision.specs.Finding.{IsRefusal};
+ghost use Rattle.mtn_resolve.specs.Texts.{AreResolutions};
 ghost use Rattle.mtn_merge.specs.Given.{GivesResolutions, OverridesAll};
-ghost use Rattle.mtn_merge.specs.Plans.{AreOrdered, AreShown, Gives, MergesText};
+ghost use Rattle.mtn_merge.specs.Plans.{AreOrdered, AreShown, Gives, HasClear, HasTree, MergesText, outcomes};
 ghost use Rattle.mtn_merge.specs.Sides.{IsSideOf};
 
+use crate::answer::Planned;
 use crate::dirs::parents_are_dirs;
 use crate::given::{read_resolutions, resolve};
 use crate::made::merged;
@@ -85,7 +87,7 @@ fn ends<I: Ident, K: Keeper>(
     ident: &I,
     draft: &mut Draft<'_, K>,
     compared: Compared,
-) -> Result<Outcome, HistoryError>
+) -> Result<Planned, HistoryError>
     requires below { compared.left.at < draft.old.pending.count }
     requires lesser { IsLesser compared.left.id compared.right.id }
     requires conflicts { AreConflictsOf compared.decisions compared.conflicts }
@@ -93,8 +95,9 @@ fn ends<I: Ident, K: Keeper>(
     ensures same_reference { draft.new.keeper.ghost_name ≡ draft.old.keeper.ghost_name }
     ensures stays { Stays K.contents K.leaves K.faults draft.old.keeper.now draft.new.keeper.now }
     ensures pending { draft.new.pending ≡ draft.old.pending }
-    ensures ends { (h : List Revision) → IsSideOf h compared.left → IsSideOf h compared.right → Gives (Ends (I.meaning ident.now) h compared.left.id compared.right.id compared.decisions) result }
+    ensures ends { (h : List Revision) → IsSideOf h compared.left → IsSideOf h compared.right → Gives (Ends (I.meaning ident.now) h compared.left.id compared.right.id compared.decisions) (outcomes result) }
     ensures ordered { IfOk result AreOrdered }
+    ensures clear { (h : List Revision) → IsSideOf h compared.left → IsSideOf h compared.right → IfOk result (HasClear (I.meaning ident.now) h compared.left.id compared.right.id compared.decisions) }
     ensures damaged { IfSome (K.contents draft.new.keeper.now) (λ c. IsCounted draft.old.pending c → IfErr result (λ e. IfStoreDamage e (IsDamage (with_all c draft.old.pending.batch)))) }
     ensures failed { result ≡ Err (HistoryError.Store StoreError.Failed) → Rose (K.faults draft.old.keeper.now) (K.faults draft.new.keeper.now) }
 {
@@ -105,7 +108,7 @@ fn ends<I: Ident, K: Keeper>(
         conflicts,
     } = compared;
     if !conflicts.none() {
-        return Ok(Outcome::Conflicted {
+        return Ok(Planned::Conflicted {
             left: left.id,
             right: right.id,
             conflicts,
@@ -163,13 +166,16 @@ pub fn plan<I: Ident, K: Keeper>(
     a: Id,
     b: Id,
     resolutions: &Resolutions,
-) -> Result<Outcome, HistoryError>
+) -> Result<Planned, HistoryError>
     ensures same_reference { draft.new.keeper.ghost_name ≡ draft.old.keeper.ghost_name }
     ensures stays { Stays K.contents K.leaves K.faults draft.old.keeper.now draft.new.keeper.now }
     ensures pending { draft.new.pending ≡ draft.old.pending }
     ensures plans { (s : State) (d : IsFounded (I.meaning ident.now) (K.contents draft.new.keeper.now) draft.old.pending s) →
-        Gives (Plans (I.meaning ident.now) s.files d.stands.history a b resolutions.now) result }
+        Gives (Plans (I.meaning ident.now) s.files d.stands.history a b resolutions.now) (outcomes result) }
     ensures ordered { IfOk result AreOrdered }
+    // Only of lawful resolutions: with others the text may be none that is read.
+    ensures tree { (s : State) (d : IsFounded (I.meaning ident.now) (K.contents draft.new.keeper.now) draft.old.pending s) → AreResolutions [] resolutions.now →
+        IfOk result (HasTree (I.meaning ident.now) s.files d.stands.history) }
     ensures damaged { IfSome (K.contents draft.new.keeper.now) (λ c. IsCounted draft.old.pending c → IfErr result (λ e. IfStoreDamage e (IsDamage (with_all c draft.old.pending.batch)))) }
     ensures failed { result ≡ Err (HistoryError.Store StoreError.Failed) → Rose (K.faults draft.old.keeper.now) (K.faults draft.new.keeper.now) }
 {
@@ -200,13 +206,14 @@ pub fn plan_with<I: Ident, K: Keeper>(
     a: Id,
     b: Id,
     text: Option<&[u8]>,
-) -> Result<Outcome, HistoryError>
+) -> Result<Planned, HistoryError>
     ensures same_reference { draft.new.keeper.ghost_name ≡ draft.old.keeper.ghost_name }
     ensures stays { Stays K.contents K.leaves K.faults draft.old.keeper.now draft.new.keeper.now }
     ensures pending { draft.new.pending ≡ draft.old.pending }
     ensures merges { (s : State) (d : IsFounded (I.meaning ident.now) (K.contents draft.new.keeper.now) draft.old.pending s) →
-        Gives (MergesText (I.meaning ident.now) s.files d.stands.history a b (option_copied text.entry)) result }
+        Gives (MergesText (I.meaning ident.now) s.files d.stands.history a b (option_copied text.entry)) (outcomes result) }
     ensures ordered { IfOk result AreOrdered }
+    ensures tree { (s : State) (d : IsFounded (I.meaning ident.now) (K.contents draft.new.keeper.now) draft.old.pending s) → IfOk result (HasTree (I.meaning ident.now) s.files d.stands.history) }
     ensures damaged { IfSome (K.contents draft.new.keeper.now) (λ c. IsCounted draft.old.pending c → IfErr result (λ e. IfStoreDamage e (IsDamage (with_all c draft.old.pending.batch)))) }
     ensures failed { result ≡ Err (HistoryError.Store StoreError.Failed) → Rose (K.faults draft.old.keeper.now) (K.faults draft.new.keeper.now) }
 {

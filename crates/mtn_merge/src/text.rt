@@ -1,11 +1,11 @@
 // The text of a merge.
 ghost use Rattle.std.specs.Prelude.{◌≡◌, ◌++◌, [], ◌∷◌, map, IfOk, OnOk, Some};
-ghost use Rattle.mtn_basic_io.specs.Spelling.{spelling};
+ghost use Rattle.mtn_basic_io.specs.Spelling.{AreStanzas, spelling};
 ghost use Rattle.mtn_between.specs.Between.{between as between_trees};
 ghost use Rattle.mtn_changes.specs.RevisionText.{edge_stanzas, revision_stanzas};
 ghost use Rattle.mtn_changes.specs.Stanzas.{stanza_of as spelled};
 ghost use Rattle.mtn_manifest.specs.Manifest.{manifest_of};
-ghost use Rattle.mtn_merge.specs.Plans.{text_of_sides};
+ghost use Rattle.mtn_merge.specs.Plans.{revision_of_sides, text_of_sides};
 
 use mtn_base::{Bytes, Id, NoMemory};
 use mtn_basic_io::{Stanza, write};
@@ -67,7 +67,8 @@ pub fn revision_text<I: Ident>(
     right: &Parent<'_>,
     merged: &Roster,
 ) -> Result<Bytes, NoMemory>
-    ensures { IfOk result (λ text. text ≡ text_of_sides (I.meaning ident.now) left.now.id left.now.tree.now right.now.id right.now.tree.now merged.now) }
+    ensures text { IfOk result (λ text. text ≡ text_of_sides (I.meaning ident.now) left.now.id left.now.tree.now right.now.id right.now.tree.now merged.now) }
+    ensures stanzas { OnOk result (AreStanzas (revision_stanzas (revision_of_sides (I.meaning ident.now) left.now.id left.now.tree.now right.now.id right.now.tree.now merged.now))) }
 {
     let manifest = manifest_id(alloc, ident, merged)?;
     let mut stanzas = Vec::new(alloc);

@@ -5,3 +5,4 @@ pub mod Looking
 pub mod Putting
 pub mod Refusing
 pub mod Deciding
+pub mod Planning

@@ -2,8 +2,10 @@
 use Rattle.std.specs.Prelude.{◌≡◌, ◌≤◌, ◌+◌, ℕ, List, [], ◌∷◌, ◌++◌, length, nat_lt, MatchBool, ⊤, Some, None, slice_get, IsTrue}
 use Rattle.mtn_ancestry.specs.Log.{list_of}
 use Rattle.mtn_ancestry.specs.declared.pos.ParentList.{ParentList}
+use Rattle.mtn_base.specs.Hex.{id_of}
 use Rattle.mtn_base.specs.declared.id.Id.{Id}
 use Rattle.mtn_changes.specs.declared.change.Edge.{Edge}
+use Rattle.mtn_changes.specs.declared.change.Revision.{Revision as Spelled}
 use Rattle.mtn_roster_deltas.specs.Chain.{Entries, ascend, deepest}
 use Rattle.mtn_roster_deltas.specs.Difference.{IsDeltaTo}
 use Rattle.mtn_history_laws.specs.History.{Revision}
@@ -16,10 +18,11 @@ use Rattle.mtn_marking.specs.Marking.{MarkedTree}
 use Rattle.mtn_history.specs.Stands.{IsDraft}
 use Rattle.mtn_history.specs.declared.pending.Pending.{Pending}
 use Rattle.mtn_model.specs.State.{Logged, State}
-use Rattle.mtn_model.specs.Table.{Contents}
+use Rattle.mtn_model.specs.Table.{Table, Contents}
 use Rattle.mtn_records.specs.Bounds.{IsLogAt, IsRosterAt}
 use Rattle.mtn_records.specs.declared.record.RosterRecord.{RosterRecord}
 use Rattle.mtn_records.specs.declared.record.RosterRecord.TheVariants.{Whole, Delta}
+use Rattle.mtn_roster.specs.Tree.{Tree}
 use Rattle.mtn_put_revision.specs.Finding.{made_refusal_of}
 use Rattle.mtn_put_revision.specs.declared.over.NewRevision.{NewRevision}
 use Rattle.mtn_put_revision.specs.declared.records.Written.{Written}
@@ -112,3 +115,9 @@ pub record IsSpelled (f : List ℕ → List ℕ) (fresh : NewRevision) : Type 0 
 pub record AcceptsNew (f : List ℕ → List ℕ) (c : Contents) (s : State) (h : List Revision) (fresh : NewRevision) (p : Pending) : Type 0 where
   pub fine : refusal_of f s.files h fresh.id fresh.read.now ≡ None
   pub draft : IsDraft f c p (with_text s (record { id = fresh.id.0; text = fresh.text.now }))
+
+-- The tree that a text makes, known beforehand: whatever revision the text spells, where its id is new and the log has room
+-- nothing of it is refused, and this is its tree
+abbrev pub IsPlanned : (List ℕ → List ℕ) → Table → List Revision → List ℕ → Tree → Type 0
+IsPlanned f files h text t = (r : Spelled) → Spells text r → place_of h (id_of (f text)) ≡ None → log_full h ≡ None →
+    (refusal_of f files h (id_of (f text)) r ≡ None) × (made_tree h (id_of (f text)) r.edges ≡ t)

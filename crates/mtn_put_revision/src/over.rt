@@ -1,7 +1,8 @@
 // A revision accepted over its parents, by how many there are.
-ghost use Rattle.std.specs.Prelude.{◌≡◌, ◌<◌, ◌≤◌, All, List, ℕ, [], ◌∷◌, length, Err, IfErr, IfSome, OnOk, OnErr};
+ghost use Rattle.std.specs.Prelude.{◌≡◌, ◌<◌, ◌≤◌, All, List, ℕ, [], ◌∷◌, length, None, Err, IfOk, IfErr, IfSome, OnOk, OnErr};
 ghost use Rattle.mtn_roster_deltas.specs.Numbering.{shown};
 ghost use Rattle.mtn_changes.specs.RevisionText.{AreEdges};
+ghost use Rattle.mtn_replay.specs.Making.{made_tree};
 ghost use Rattle.mtn_make_roster.specs.Basis.{Underlies};
 ghost use Rattle.mtn_model.specs.State.{State};
 ghost use Rattle.mtn_ports.specs.Causes.{Rose};
@@ -9,7 +10,7 @@ ghost use Rattle.mtn_ports.specs.Kept.{Stays, with_all};
 ghost use Rattle.mtn_history.specs.Errors.{IfStoreDamage};
 ghost use Rattle.mtn_history.specs.Stands.{IsFounded};
 ghost use Rattle.mtn_put_revision.specs.Finding.{IsFound, IsRefusal, made_refusal_of};
-ghost use Rattle.mtn_put_revision.specs.Keeping.{Accepts, AreParents, IsFirstRebuilt, IsNew, AreOn};
+ghost use Rattle.mtn_put_revision.specs.Keeping.{Accepts, AreParents, IsFirstRebuilt, IsNew, IsPlanned, AreOn};
 
 use crate::keep::keep;
 use crate::records::KeptParents;
@@ -21,6 +22,7 @@ use mtn_changes::Revision;
 use mtn_history::{Draft, HistoryError, StoreError};
 use mtn_make_roster::{Basis, mark};
 use mtn_ports::{Ident, Keeper};
+use mtn_roster::Roster;
 use std::alloc::Global;
 
 /// A text that is new to the log, the revision that it spells, and its id.
@@ -31,6 +33,41 @@ pub struct NewRevision<'a> {
     pub id: Id,
 }
 
+// The tree that was planned, or the tree that the text's edges make over this basis.
+fn tree_or<I: Ident, K: Keeper>(
+    alloc: Global,
+    ident: &I,
+    draft: &mut Draft<'_, K>,
+    fresh: &NewRevision<'_>,
+    basis: &Basis,
+    parent: Option<Pos>,
+    planned: Option<Roster>,
+) -> Result<Roster, HistoryError>
+    requires edges { AreEdges fresh.now.read.now.edges }
+    requires parent { IfSome parent (λ p. p < draft.old.pending.count) }
+    requires based { (f : List ℕ → List ℕ) (s : State) → (d : IsFounded f (K.contents draft.old.keeper.now) draft.old.pending s) →
+        Underlies d.stands.history fresh.now.read.now.edges basis.now fresh.now.id }
+    requires planned { (s : State) → (d : IsFounded (I.meaning ident.now) (K.contents draft.old.keeper.now) draft.old.pending s) →
+        IfSome planned (λ t. IsPlanned (I.meaning ident.now) s.files d.stands.history fresh.now.text.now t) }
+    ensures same_reference { draft.new.keeper.ghost_name ≡ draft.old.keeper.ghost_name }
+    ensures stays { Stays K.contents K.leaves K.faults draft.old.keeper.now draft.new.keeper.now }
+    ensures pending { draft.new.pending ≡ draft.old.pending }
+    ensures tree { (s : State) → (d : IsFounded (I.meaning ident.now) (K.contents draft.new.keeper.now) draft.old.pending s) →
+        IsNew (I.meaning ident.now) d.stands.history fresh.now → IfOk result (λ roster. roster ≡ made_tree d.stands.history fresh.now.id fresh.now.read.now.edges) }
+    ensures fine { (s : State) → (d : IsFounded (I.meaning ident.now) (K.contents draft.new.keeper.now) draft.old.pending s) →
+        IsNew (I.meaning ident.now) d.stands.history fresh.now → OnOk result (made_refusal_of (I.meaning ident.now) s.files d.stands.history fresh.now.id fresh.now.read.now ≡ None) }
+    ensures refused { (s : State) → (d : IsFounded (I.meaning ident.now) (K.contents draft.new.keeper.now) draft.old.pending s) →
+        IfErr result (IsRefusal (made_refusal_of (I.meaning ident.now) s.files d.stands.history fresh.now.id fresh.now.read.now)) }
+    ensures damaged { IfSome (K.contents draft.new.keeper.now) (λ c. IfErr result (λ e. IfStoreDamage e
+        (IsFound (K.contents draft.new.keeper.now) draft.old.pending (with_all c draft.old.pending.batch)))) }
+    ensures failed { result ≡ Err (HistoryError.Store StoreError.Failed) → Rose (K.faults draft.old.keeper.now) (K.faults draft.new.keeper.now) }
+{
+    match planned {
+        Some(tree) => Ok(tree),
+        None => tree_of(alloc, ident, draft, fresh.read, basis, parent, fresh.id),
+    }
+}
+
 // Accepts a revision over this basis, whose parents are kept so.
 fn over<I: Ident, K: Keeper>(
     alloc: Global,
@@ -39,6 +76,7 @@ fn over<I: Ident, K: Keeper>(
     fresh: &NewRevision<'_>,
     basis: &Basis,
     known: &KeptParents<'_>,
+    planned: Option<Roster>,
 ) -> Result<(), HistoryError>
     requires edges { AreEdges fresh.now.read.now.edges }
     requires room { draft.old.pending.count < 2147483648 }
@@ -47,6 +85,8 @@ fn over<I: Ident, K: Keeper>(
     requires based { (f : List ℕ → List ℕ) (s : State) → (d : IsFounded f (K.contents draft.old.keeper.now) draft.old.pending s) →
         Underlies d.stands.history fresh.now.read.now.edges basis.now fresh.now.id × AreParents d.stands.history d.stands.kept fresh.now.read.now.edges known.now.places.now (shown known.now.entries.now) known.now.depth }
     requires first { IfSome (K.contents draft.old.keeper.now) (λ c. IsFirstRebuilt (with_all c draft.old.pending.batch) known.now.places.now (shown known.now.entries.now) known.now.depth) }
+    requires planned { (s : State) → (d : IsFounded (I.meaning ident.now) (K.contents draft.old.keeper.now) draft.old.pending s) →
+        IfSome planned (λ t. IsPlanned (I.meaning ident.now) s.files d.stands.history fresh.now.text.now t) }
     ensures same_reference { draft.new.keeper.ghost_name ≡ draft.old.keeper.ghost_name }
     ensures stays { Stays K.contents K.leaves K.faults draft.old.keeper.now draft.new.keeper.now }
     ensures accepts { (s : State) → (d : IsFounded (I.meaning ident.now) (K.contents draft.new.keeper.now) draft.old.pending s) →
@@ -60,7 +100,7 @@ fn over<I: Ident, K: Keeper>(
 {
     let at = Pos(draft.count());
     let first = known.places.first().copied();
-    let roster = tree_of(alloc, ident, draft, fresh.read, basis, first, fresh.id)?;
+    let roster = tree_or(alloc, ident, draft, fresh, basis, first, planned)?;
     let marked = mark(alloc, roster, basis, at)?;
     keep(alloc, draft, fresh.id, fresh.text, marked, known)?;
     Ok(())
@@ -74,6 +114,7 @@ fn over_one<I: Ident, K: Keeper>(
     fresh: &NewRevision<'_>,
     places: &[Pos],
     at: Pos,
+    planned: Option<Roster>,
 ) -> Result<(), HistoryError>
     requires edges { AreEdges fresh.now.read.now.edges }
     requires room { draft.old.pending.count < 2147483648 }
@@ -81,6 +122,8 @@ fn over_one<I: Ident, K: Keeper>(
     requires below { at < draft.old.pending.count }
     requires parents { (f : List ℕ → List ℕ) (s : State) → (d : IsFounded f (K.contents draft.old.keeper.now) draft.old.pending s) →
         AreOn d.stands.history fresh.now places.now }
+    requires planned { (s : State) → (d : IsFounded (I.meaning ident.now) (K.contents draft.old.keeper.now) draft.old.pending s) →
+        IfSome planned (λ t. IsPlanned (I.meaning ident.now) s.files d.stands.history fresh.now.text.now t) }
     ensures same_reference { draft.new.keeper.ghost_name ≡ draft.old.keeper.ghost_name }
     ensures stays { Stays K.contents K.leaves K.faults draft.old.keeper.now draft.new.keeper.now }
     ensures accepts { (s : State) → (d : IsFounded (I.meaning ident.now) (K.contents draft.new.keeper.now) draft.old.pending s) →
@@ -107,6 +150,7 @@ fn over_one<I: Ident, K: Keeper>(
         fresh,
         &Basis::One(&parent.roster),
         &known,
+        planned,
     )
 }
 
@@ -119,6 +163,7 @@ fn over_two<I: Ident, K: Keeper>(
     places: &[Pos],
     left: Pos,
     right: Pos,
+    planned: Option<Roster>,
 ) -> Result<(), HistoryError>
     requires edges { AreEdges fresh.now.read.now.edges }
     requires room { draft.old.pending.count < 2147483648 }
@@ -126,6 +171,8 @@ fn over_two<I: Ident, K: Keeper>(
     requires below { (left < draft.old.pending.count) × (right < draft.old.pending.count) }
     requires parents { (f : List ℕ → List ℕ) (s : State) → (d : IsFounded f (K.contents draft.old.keeper.now) draft.old.pending s) →
         AreOn d.stands.history fresh.now places.now }
+    requires planned { (s : State) → (d : IsFounded (I.meaning ident.now) (K.contents draft.old.keeper.now) draft.old.pending s) →
+        IfSome planned (λ t. IsPlanned (I.meaning ident.now) s.files d.stands.history fresh.now.text.now t) }
     ensures same_reference { draft.new.keeper.ghost_name ≡ draft.old.keeper.ghost_name }
     ensures stays { Stays K.contents K.leaves K.faults draft.old.keeper.now draft.new.keeper.now }
     ensures accepts { (s : State) → (d : IsFounded (I.meaning ident.now) (K.contents draft.new.keeper.now) draft.old.pending s) →
@@ -154,7 +201,7 @@ fn over_two<I: Ident, K: Keeper>(
         entries: entries.as_slice(),
         depth: first.depth,
     };
-    over(alloc, ident, draft, fresh, &basis, &known)
+    over(alloc, ident, draft, fresh, &basis, &known, planned)
 }
 
 /// Accepts a revision over the parents that stand at these places.
@@ -164,6 +211,7 @@ pub fn over_places<I: Ident, K: Keeper>(
     draft: &mut Draft<'_, K>,
     fresh: &NewRevision<'_>,
     places: &[Pos],
+    planned: Option<Roster>,
 ) -> Result<(), HistoryError>
     requires edges { AreEdges fresh.now.read.now.edges }
     requires room { draft.old.pending.count < 2147483648 }
@@ -171,6 +219,8 @@ pub fn over_places<I: Ident, K: Keeper>(
     requires below { All (λ p. p < draft.old.pending.count) places.now }
     requires parents { (f : List ℕ → List ℕ) (s : State) → (d : IsFounded f (K.contents draft.old.keeper.now) draft.old.pending s) →
         AreOn d.stands.history fresh.now places.now }
+    requires planned { (s : State) → (d : IsFounded (I.meaning ident.now) (K.contents draft.old.keeper.now) draft.old.pending s) →
+        IfSome planned (λ t. IsPlanned (I.meaning ident.now) s.files d.stands.history fresh.now.text.now t) }
     ensures same_reference { draft.new.keeper.ghost_name ≡ draft.old.keeper.ghost_name }
     ensures stays { Stays K.contents K.leaves K.faults draft.old.keeper.now draft.new.keeper.now }
     ensures accepts { (s : State) → (d : IsFounded (I.meaning ident.now) (K.contents draft.new.keeper.now) draft.old.pending s) →
@@ -189,10 +239,10 @@ pub fn over_places<I: Ident, K: Keeper>(
                 entries: &[],
                 depth: 0,
             };
-            over(alloc, ident, draft, fresh, &Basis::Root, &known)
+            over(alloc, ident, draft, fresh, &Basis::Root, &known, planned)
         }
-        [at] => over_one(alloc, ident, draft, fresh, places, *at),
-        [left, right] => over_two(alloc, ident, draft, fresh, places, *left, *right),
+        [at] => over_one(alloc, ident, draft, fresh, places, *at, planned),
+        [left, right] => over_two(alloc, ident, draft, fresh, places, *left, *right, planned),
         _ => unreachable!(),
     }
 }

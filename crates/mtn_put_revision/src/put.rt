@@ -12,7 +12,7 @@ ghost use Rattle.mtn_history.specs.Meta.{IsMetaOf};
 ghost use Rattle.mtn_history.specs.Errors.{IfDamage, IfStoreDamage};
 ghost use Rattle.mtn_history.specs.Stands.{IsDraft, IsFounded};
 ghost use Rattle.mtn_put_revision.specs.Finding.{IsFound, IsRefusal};
-ghost use Rattle.mtn_put_revision.specs.Keeping.{AcceptsNew, IsSpelled};
+ghost use Rattle.mtn_put_revision.specs.Keeping.{AcceptsNew, IsPlanned, IsSpelled};
 ghost use Rattle.mtn_history.specs.Texts.{TextDamage};
 ghost use Rattle.mtn_put_revision.specs.Accepting.{AcceptsRevision, IsCollided, IsHeld, IsUnreadAs};
 
@@ -22,6 +22,7 @@ use mtn_base::{Cause, Id, MAX_TEXT};
 use mtn_changes::{ChangeTextError, Revision, read_revision};
 use mtn_history::{Draft, HistoryError, StoreError};
 use mtn_ports::{Ident, Keeper};
+use mtn_roster::Roster;
 use std::alloc::Global;
 
 /// The most revisions of a log.
@@ -95,6 +96,33 @@ pub fn put_revision<I: Ident, K: Keeper>(
         IfErr result (λ e. IfStoreDamage e (IsDamage (with_all c draft.old.pending.batch)))) }
     ensures failed { result ≡ Err (HistoryError.Store StoreError.Failed) → Rose (K.faults draft.old.keeper.now) (K.faults draft.new.keeper.now) }
 {
+    put_made(alloc, ident, draft, text, None)
+}
+
+/// Accepts a revision by its text and answers its id as [`put_revision`] does, with the tree that the text makes where the caller has
+/// it, as who planned the text does. Then it applies no edge, joins no trees, looks for no content, and neither prints nor hashes
+/// the manifest; the text is read, and the marks and records are made, as ever. The tree is trusted by the `requires` alone and
+/// compared with nothing: over every state that the draft may stand for, a new text that the log has room for has to be one of
+/// which nothing is refused and that makes this tree. Other texts are answered whatever the tree. Errors, and what they leave, are
+/// those of `put_revision`. It asks for as many records, without those of the contents.
+pub fn put_made<I: Ident, K: Keeper>(
+    alloc: Global,
+    ident: &I,
+    draft: &mut Draft<'_, K>,
+    text: &[u8],
+    tree: Option<Roster>,
+) -> Result<Id, HistoryError>
+    requires planned { (s : State) → (d : IsFounded (I.meaning ident.now) (K.contents draft.old.keeper.now) draft.old.pending s) →
+        IfSome tree (λ t. IsPlanned (I.meaning ident.now) s.files d.stands.history text.now t) }
+    ensures same_reference { draft.new.keeper.ghost_name ≡ draft.old.keeper.ghost_name }
+    ensures stays { Stays K.contents K.leaves K.faults draft.old.keeper.now draft.new.keeper.now }
+    ensures accepts { (c : Contents) (s : State) → K.contents draft.new.keeper.now ≡ Some c → IsDraft (I.meaning ident.now) c draft.old.pending s →
+        AcceptsRevision (I.meaning ident.now) c s text.now result draft.new.pending }
+    ensures err { OnErr result (draft.new.pending ≡ draft.old.pending) }
+    ensures damaged { IfSome (K.contents draft.new.keeper.now) (λ c. IsMetaOf (with_all c draft.old.pending.batch) (record { count = draft.old.pending.count; is_new = draft.old.pending.is_new }) →
+        IfErr result (λ e. IfStoreDamage e (IsDamage (with_all c draft.old.pending.batch)))) }
+    ensures failed { result ≡ Err (HistoryError.Store StoreError.Failed) → Rose (K.faults draft.old.keeper.now) (K.faults draft.new.keeper.now) }
+{
     if text.len() > MAX_TEXT {
         return Err(HistoryError::Refused(Cause::TextTooLong {
             length: text.len() as u64,
@@ -102,7 +130,7 @@ pub fn put_revision<I: Ident, K: Keeper>(
     }
     let id = ident.id(text);
     let Some(same) = held_text(alloc, draft, id, text)? else {
-        return put_new(alloc, ident, draft, id, text);
+        return put_new(alloc, ident, draft, id, text, tree);
     };
     if same {
         return Ok(id);
@@ -117,10 +145,13 @@ fn put_new<I: Ident, K: Keeper>(
     draft: &mut Draft<'_, K>,
     id: Id,
     text: &[u8],
+    planned: Option<Roster>,
 ) -> Result<Id, HistoryError>
     requires short { length text.now ≤ 67108864 }
     requires id { id.0 ≡ I.meaning ident.now text.now }
     requires new { (f : List ℕ → List ℕ) (c : Contents) (s : State) → K.contents draft.old.keeper.now ≡ Some c → IsDraft f c draft.old.pending s → text_under s.log id.0 ≡ None }
+    requires planned { (s : State) → (d : IsFounded (I.meaning ident.now) (K.contents draft.old.keeper.now) draft.old.pending s) →
+        IfSome planned (λ t. IsPlanned (I.meaning ident.now) s.files d.stands.history text.now t) }
     ensures same_reference { draft.new.keeper.ghost_name ≡ draft.old.keeper.ghost_name }
     ensures stays { Stays K.contents K.leaves K.faults draft.old.keeper.now draft.new.keeper.now }
     ensures accepts { (c : Contents) (s : State) → K.contents draft.new.keeper.now ≡ Some c → IsDraft (I.meaning ident.now) c draft.old.pending s →
@@ -139,7 +170,7 @@ fn put_new<I: Ident, K: Keeper>(
         read: &read,
         id,
     };
-    accept(alloc, ident, draft, &fresh)?;
+    accept(alloc, ident, draft, &fresh, planned)?;
     Ok(id)
 }
 
@@ -149,9 +180,12 @@ fn accept<I: Ident, K: Keeper>(
     ident: &I,
     draft: &mut Draft<'_, K>,
     fresh: &NewRevision<'_>,
+    planned: Option<Roster>,
 ) -> Result<(), HistoryError>
     requires edges { AreEdges fresh.now.read.now.edges }
     requires new { (f : List ℕ → List ℕ) (s : State) → (d : IsFounded f (K.contents draft.old.keeper.now) draft.old.pending s) → place_of d.stands.history fresh.now.id ≡ None }
+    requires planned { (s : State) → (d : IsFounded (I.meaning ident.now) (K.contents draft.old.keeper.now) draft.old.pending s) →
+        IfSome planned (λ t. IsPlanned (I.meaning ident.now) s.files d.stands.history fresh.now.text.now t) }
     ensures same_reference { draft.new.keeper.ghost_name ≡ draft.old.keeper.ghost_name }
     ensures stays { Stays K.contents K.leaves K.faults draft.old.keeper.now draft.new.keeper.now }
     ensures accepts { (s : State) → (d : IsFounded (I.meaning ident.now) (K.contents draft.new.keeper.now) draft.old.pending s) →
@@ -168,5 +202,5 @@ fn accept<I: Ident, K: Keeper>(
         return Err(HistoryError::Refused(Cause::LogFull { count }));
     }
     let places = places_of(alloc, draft, fresh.read.edges.as_slice())?;
-    over_places(alloc, ident, draft, fresh, &places)
+    over_places(alloc, ident, draft, fresh, &places, planned)
 }

@@ -2,7 +2,7 @@
 use Rattle.std.proofs.Common.{Ok, Err, ap, ◌∙◌}
 use Rattle.std.proofs.lemmas.Result.{err_from_is_err_and}
 use Rattle.mtn_plans.specs.declared.outcome.Outcome.TheVariants.{Conflicted, Merged}
-use Rattle.mtn_cli.proofs.MergeLemmas.{accepts_at, damaged_at, found_conflicts, given_over, merge_answered, merge_failed, not_planned, wants}
+use Rattle.mtn_cli.proofs.MergeLemmas.{accepts_at, damaged_at, found_conflicts, given_over, merge_answered, merge_failed, not_planned, put_with, wants}
 use Rattle.mtn_cli.proofs.merge.merge.Goals as goal
 
 pub returns-in_err-text-clause-replies : goal.returns-in_err-text-clause-replies
@@ -21,34 +21,34 @@ pub returns-in_err-id-in-Merged-clause-replies : goal.returns-in_err-id-in-Merge
 returns-in_err-id-in-Merged-clause-replies g c =
     let f = g.I.Ident.meaning c.args.ident.now in
     let told = g.K.Keeper.contents c.plan_with.new.draft.keeper.now in
-    let now = g.K.Keeper.contents c.put_revision.new.draft.keeper.now in
+    let now = g.K.Keeper.contents c.put_made.new.draft.keeper.now in
     let before = c.args.draft.now.pending in
     let e = c.in_err-id-in-Merged.field-0.0 in
     let p = err_from_is_err_and c.from_residual-in_err-id-in-Merged.result c.from_residual-in_err-id-in-Merged.ensures.1 in
     merge_failed f c.args.a c.args.b c.args.resolves c.args.payload.now g.K.Keeper.contents g.K.Keeper.leaves g.K.Keeper.faults c.args.draft.now.keeper.now c.plan_with.new.draft.keeper.now before
-    c.in_ok-text.ensures.stays c.put_revision.new.draft.keeper.now c.put_revision.new.draft.pending c.in-Merged.text
+    c.in_ok-text.ensures.stays c.put_made.new.draft.keeper.now c.put_made.new.draft.pending c.in-Merged.text
     (given_over f c.args.a c.args.b c.args.resolves c.args.payload.now told before (Ok (Merged c.in-Merged.text)) _ c.resolution_text-text.ensures (rw c.in-Merged.is at c.in_ok-text.ensures.merges))
     c.in_err-id-in-Merged.ensures.stays c.from_residual-in_err-id-in-Merged.result e (p.1 ∙ ap Err p.2)
-    (accepts_at f now c.plan_with.new.draft.pending before c.put_revision.new.draft.pending _ c.in-Merged.text (Err e) c.in_ok-text.ensures.pending c.as_slice.ensures c.in_err-id-in-Merged.ensures.accepts)
+    (accepts_at f now c.plan_with.new.draft.pending before c.put_made.new.draft.pending _ c.in-Merged.text (Err e) c.in_ok-text.ensures.pending c.as_slice.ensures c.in_err-id-in-Merged.ensures.accepts)
     (damaged_at now c.plan_with.new.draft.pending before e c.in_ok-text.ensures.pending c.in_err-id-in-Merged.ensures.damaged) (λ is. c.in_err-id-in-Merged.ensures.failed (ap Err is))
 
 pub returns-in_err-id_text-in-Merged-clause-replies : goal.returns-in_err-id_text-in-Merged-clause-replies
 returns-in_err-id_text-in-Merged-clause-replies g c =
     let p = err_from_is_err_and c.from_residual-in_err-id_text-in-Merged.result c.from_residual-in_err-id_text-in-Merged.ensures.1 in
     wants (g.I.Ident.meaning c.args.ident.now) c.args.a c.args.b c.args.resolves c.args.payload.now g.K.Keeper.contents g.K.Keeper.leaves g.K.Keeper.faults c.args.draft.now.keeper.now c.plan_with.new.draft.keeper.now c.args.draft.now.pending
-    c.in_ok-text.ensures.stays c.put_revision.new.draft.keeper.now c.put_revision.new.draft.pending c.from_residual-in_err-id_text-in-Merged.result (p.1 ∙ ap Err p.2) c.in_ok-id-in-Merged.ensures.stays
+    c.in_ok-text.ensures.stays c.put_made.new.draft.keeper.now c.put_made.new.draft.pending c.from_residual-in_err-id_text-in-Merged.result (p.1 ∙ ap Err p.2) c.in_ok-id-in-Merged.ensures.stays
 
 pub returns-in_ok-id_text-in-Merged-clause-replies : goal.returns-in_ok-id_text-in-Merged-clause-replies
 returns-in_ok-id_text-in-Merged-clause-replies g c =
     let f = g.I.Ident.meaning c.args.ident.now in
     let told = g.K.Keeper.contents c.plan_with.new.draft.keeper.now in
-    let now = g.K.Keeper.contents c.put_revision.new.draft.keeper.now in
+    let now = g.K.Keeper.contents c.put_made.new.draft.keeper.now in
     let before = c.args.draft.now.pending in
     merge_answered f c.args.a c.args.b c.args.resolves c.args.payload.now g.K.Keeper.contents g.K.Keeper.leaves g.K.Keeper.faults c.args.draft.now.keeper.now c.plan_with.new.draft.keeper.now before
-    c.in_ok-text.ensures.stays c.put_revision.new.draft.keeper.now c.put_revision.new.draft.pending c.in-Merged.text
+    c.in_ok-text.ensures.stays c.put_made.new.draft.keeper.now c.put_made.new.draft.pending c.in-Merged.text
     (given_over f c.args.a c.args.b c.args.resolves c.args.payload.now told before (Ok (Merged c.in-Merged.text)) _ c.resolution_text-text.ensures (rw c.in-Merged.is at c.in_ok-text.ensures.merges))
     c.in_ok-id-in-Merged.ensures.stays c.in_ok-id-in-Merged.id _ c.in_ok-id_text-in-Merged.ensures
-    (accepts_at f now c.plan_with.new.draft.pending before c.put_revision.new.draft.pending _ c.in-Merged.text (Ok c.in_ok-id-in-Merged.id) c.in_ok-text.ensures.pending c.as_slice.ensures c.in_ok-id-in-Merged.ensures.accepts)
+    (accepts_at f now c.plan_with.new.draft.pending before c.put_made.new.draft.pending _ c.in-Merged.text (Ok c.in_ok-id-in-Merged.id) c.in_ok-text.ensures.pending c.as_slice.ensures c.in_ok-id-in-Merged.ensures.accepts)
 
 pub returns-in_ok-conflict_text-in-Conflicted-clause-replies : goal.returns-in_ok-conflict_text-in-Conflicted-clause-replies
 returns-in_ok-conflict_text-in-Conflicted-clause-replies g c =
@@ -58,3 +58,8 @@ returns-in_ok-conflict_text-in-Conflicted-clause-replies g c =
     found_conflicts f c.args.a c.args.b c.args.resolves c.args.payload.now g.K.Keeper.contents g.K.Keeper.leaves g.K.Keeper.faults c.args.draft.now.keeper.now c.plan_with.new.draft.keeper.now before
     c.in_ok-text.ensures.stays c.plan_with.new.draft.pending c.in_ok-text.ensures.pending c.in-Conflicted.left c.in-Conflicted.right c.in-Conflicted.conflicts _ c.in_ok-conflict_text-in-Conflicted.ensures
     (given_over f c.args.a c.args.b c.args.resolves c.args.payload.now told before (Ok (Conflicted c.in-Conflicted.left c.in-Conflicted.right c.in-Conflicted.conflicts)) _ c.resolution_text-text.ensures (rw c.in-Conflicted.is at c.in_ok-text.ensures.merges))
+
+pub put_made-requires-clause-planned : goal.put_made-requires-clause-planned
+put_made-requires-clause-planned g c = λ κs alive.
+    put_with (g.I.Ident.meaning c.args.ident.now) (g.K.Keeper.contents c.plan_with.new.draft.keeper.now) c.args.draft.now.pending c.plan_with.new.draft.pending c.in_ok-text.ensures.pending _ c.in-Merged.text c.as_slice.ensures c.in-Merged.tree
+    (rw c.in-Merged.is at c.in_ok-text.ensures.tree)

@@ -6,10 +6,10 @@ use Rattle.mtn_conflicts.specs.Result.{ParentsAreDirs}
 use Rattle.mtn_decide.specs.declared.decision.Decision.{Decision}
 use Rattle.mtn_history.specs.declared.errors.HistoryError.TheVariants.{Store}
 use Rattle.mtn_put_revision.proofs.Deciding.{error_damage}
-use Rattle.mtn_merge.specs.Plans.{IsMadeOf}
+use Rattle.mtn_merge.specs.Plans.{IsMadeOf, outcomes}
 use Rattle.mtn_plans.specs.Plans.{Ends}
 use Rattle.mtn_merge.proofs.Damaging.{sound_result}
-use Rattle.mtn_merge.proofs.Plans.{conflicted, gives_map, made, texts_are_ordered}
+use Rattle.mtn_merge.proofs.Plans.{clear_kept, conflicted, gives_map, made, texts_are_ordered}
 use Rattle.mtn_merge.proofs.planning.ends.Goals as goal
 
 pub returns-then-not-none-clause-ends : goal.returns-then-not-none-clause-ends
@@ -36,7 +36,7 @@ pub returns-clause-ends : goal.returns-clause-ends
 returns-clause-ends g c = λ h sl sr.
     let f = g.I.Ident.meaning c.args.ident.now in
     let x = c.args.compared in
-    gives_map (IsMadeOf f h x.left.id x.right.id x.decisions) (Ends f h x.left.id x.right.id x.decisions) c.merged.result
+    gives_map (IsMadeOf f h x.left.id x.right.id x.decisions) (Ends f h x.left.id x.right.id x.decisions) (outcomes c.merged.result)
     (made f h x.left.id x.right.id x.decisions x.conflicts c.requires.conflicts (c.none.ensures.0 c.if-not-none.false))
     (c.merged.ensures.made h sl sr)
 
@@ -45,3 +45,8 @@ returns-clause-ordered g c = texts_are_ordered c.merged.result c.merged.ensures.
 
 pub returns-clause-damaged : goal.returns-clause-damaged
 returns-clause-damaged g c = sound_result (g.K.Keeper.contents c.args.draft.now.keeper.now) c.args.draft.now.pending c.merged.result c.merged.ensures.sound
+
+pub returns-clause-clear : goal.returns-clause-clear
+returns-clause-clear g c = λ h sl sr.
+    let x = c.args.compared in
+    clear_kept (g.I.Ident.meaning c.args.ident.now) h x.left.id x.right.id x.decisions (x.conflicts, c.requires.conflicts, c.none.ensures.0 c.if-not-none.false) c.merged.result (c.merged.ensures.kept h sl sr)

@@ -16,6 +16,7 @@ use Rattle.mtn_put_revision.specs.Finding.{IsRefusal, made_refusal_of}
 use Rattle.mtn_put_revision.specs.Keeping.{Accepts, AreParents, IsFirstRebuilt, IsNew}
 use Rattle.mtn_put_revision.proofs.Bases.{one_basis, moved_based, under}
 use Rattle.mtn_put_revision.proofs.Grounds.{moved, rebuilt_at}
+use Rattle.mtn_put_revision.proofs.Planning.{planned_on}
 use Rattle.mtn_put_revision.proofs.over.over_one.Goals as goal
 
 pub over-requires-clause-first : goal.over-requires-clause-first
@@ -40,6 +41,11 @@ over-requires-clause-based g c κs within =
       under d.stands.history c.args.fresh.now.read.now.edges _ c.args.fresh.now.id (b.0 ∷ []) (grown f told p s d) on.new b.1 (c.args.at, b.2),
       subst (λ (es : List Entries). AreParents d.stands.history d.stands.kept c.args.fresh.now.read.now.edges c.args.places.now es c.as_ref-parent.result.now.depth) (sym (ap shown c.as_slice.ensures)) b.3,
     ))
+
+pub over-requires-clause-planned : goal.over-requires-clause-planned
+over-requires-clause-planned g c κs within =
+    planned_on (g.I.Ident.meaning c.args.ident.now) (g.K.Keeper.contents c.args.draft.now.keeper.now) (g.K.Keeper.contents c.roster_at.new.self.keeper.now) c.args.draft.now.pending c.roster_at.new.self.pending c.args.fresh.now.text.now c.args.planned
+    c.roster_at.ensures.asks.stays.same c.roster_at.ensures.asks.pending c.requires.planned
 
 pub returns-clause-stays : goal.returns-clause-stays
 returns-clause-stays g c = stays_trans g.K.Keeper.contents g.K.Keeper.leaves g.K.Keeper.faults _ _ _ c.roster_at.ensures.asks.stays c.over.ensures.stays

@@ -19,6 +19,7 @@ use Rattle.mtn_put_revision.specs.Finding.{IsRefusal, made_refusal_of}
 use Rattle.mtn_put_revision.specs.Keeping.{Accepts, AreParents, IsFirstRebuilt, IsNew}
 use Rattle.mtn_put_revision.proofs.Bases.{two_basis, moved_based, under}
 use Rattle.mtn_put_revision.proofs.Grounds.{moved, rebuilt_at, unmade_found}
+use Rattle.mtn_put_revision.proofs.Planning.{planned_on}
 use Rattle.mtn_put_revision.proofs.over.over_two.Goals as goal
 
 pub returns-in_err-held_right-clause-stays : goal.returns-in_err-held_right-clause-stays
@@ -72,6 +73,12 @@ over-requires-clause-based g c κs within =
       under d.stands.history c.args.fresh.now.read.now.edges _ c.args.fresh.now.id (b.0 ∷ b.1 ∷ []) (grown f told p s d) on.new b.2 b.3,
       subst (λ (es : List Entries). AreParents d.stands.history d.stands.kept c.args.fresh.now.read.now.edges c.args.places.now es c.as_ref-first.result.now.depth) (sym (ap shown c.as_slice.ensures)) b.4,
     ))
+
+pub over-requires-clause-planned : goal.over-requires-clause-planned
+over-requires-clause-planned g c κs within =
+    planned_on (g.I.Ident.meaning c.args.ident.now) (g.K.Keeper.contents c.args.draft.now.keeper.now) (g.K.Keeper.contents c.uncommon_of.new.draft.keeper.now) c.args.draft.now.pending c.uncommon_of.new.draft.pending c.args.fresh.now.text.now c.args.planned
+    (stays_trans g.K.Keeper.contents g.K.Keeper.leaves g.K.Keeper.faults _ _ _ (stays_trans g.K.Keeper.contents g.K.Keeper.leaves g.K.Keeper.faults _ _ _ c.roster_at.ensures.asks.stays c.roster_at-2.ensures.asks.stays) c.uncommon_of.ensures.stays).same
+    (c.uncommon_of.ensures.pending ∙ c.roster_at-2.ensures.asks.pending ∙ c.roster_at.ensures.asks.pending) c.requires.planned
 
 pub returns-clause-stays : goal.returns-clause-stays
 returns-clause-stays g c = stays_trans g.K.Keeper.contents g.K.Keeper.leaves g.K.Keeper.faults _ _ _ (stays_trans g.K.Keeper.contents g.K.Keeper.leaves g.K.Keeper.faults _ _ _ (stays_trans g.K.Keeper.contents g.K.Keeper.leaves g.K.Keeper.faults _ _ _ c.roster_at.ensures.asks.stays c.roster_at-2.ensures.asks.stays) c.uncommon_of.ensures.stays) c.over.ensures.stays

@@ -13,6 +13,7 @@ use Rattle.mtn_put_revision.specs.Finding.{IsRefusal, made_refusal_of}
 use Rattle.mtn_put_revision.specs.Keeping.{Accepts, AreOn, IsNew}
 use Rattle.mtn_put_revision.proofs.Deciding.{accepted_new, err_refused, has_room, refused_made, refused_parents}
 use Rattle.mtn_put_revision.proofs.Grounds.{moved}
+use Rattle.mtn_put_revision.proofs.Planning.{planned_on}
 use Rattle.mtn_put_revision.proofs.put.accept.Goals as goal
 
 pub returns-in_err-places-clause-refused : goal.returns-in_err-places-clause-refused
@@ -34,6 +35,11 @@ over_places-requires-clause-parents g c κs within =
       known = subst (λ (es : List Edge). unknown_parent d.stands.history es ≡ None) c.as_slice.ensures (c.in_ok-places.ensures.known f s d);
       stand = c.deref.ensures.value ∙ subst (λ (es : List Edge). c.in_ok-places.places.items ≡ parents_of d.stands.history es) c.as_slice.ensures (c.in_ok-places.ensures.places f s d);
     })
+
+pub over_places-requires-clause-planned : goal.over_places-requires-clause-planned
+over_places-requires-clause-planned g c κs within =
+    planned_on (g.I.Ident.meaning c.args.ident.now) (g.K.Keeper.contents c.args.draft.now.keeper.now) (g.K.Keeper.contents c.places_of.new.draft.keeper.now) c.args.draft.now.pending c.places_of.new.draft.pending c.args.fresh.now.text.now c.args.planned
+    c.in_ok-places.ensures.stays.same c.in_ok-places.ensures.pending c.requires.planned
 
 pub returns-clause-stays : goal.returns-clause-stays
 returns-clause-stays g c = stays_trans g.K.Keeper.contents g.K.Keeper.leaves g.K.Keeper.faults _ _ _ c.in_ok-places.ensures.stays c.over_places.ensures.stays

@@ -1,15 +1,8 @@
 -- By what is refused of a new text.
-use Rattle.std.proofs.Common.{◌≡◌, ◌≤◌, ℕ, List, length, None, sym, arith}
-use Rattle.std.specs.Prelude.{IfSome}
+use Rattle.std.proofs.Common.{sym}
 use Rattle.std.proofs.lemmas.Result.{err_from_is_err_and}
-use Rattle.mtn_model.specs.State.{State}
 use Rattle.mtn_replay.specs.Lawful.{Spells}
-use Rattle.mtn_replay.specs.Making.{place_of, refusal_of}
-use Rattle.mtn_ports.specs.Kept.{with_all}
-use Rattle.mtn_history.specs.Errors.{IfStoreDamage}
-use Rattle.mtn_history.specs.Stands.{IsFounded}
 use Rattle.mtn_history.proofs.Founding.{founded}
-use Rattle.mtn_put_revision.specs.Finding.{IsFound, IsRefusal}
 use Rattle.mtn_put_revision.proofs.Deciding.{error_damage, new_accepted, new_refused, text_none}
 use Rattle.mtn_put_revision.proofs.put.put_new.Goals as goal
 

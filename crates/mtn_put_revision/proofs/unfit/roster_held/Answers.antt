@@ -5,7 +5,6 @@ use Rattle.mtn_ports.proofs.KeptLemmas.{stays_trans}
 use Rattle.mtn_history.specs.Errors.{IfDamage}
 use Rattle.mtn_history.specs.Rosters.{IsRosterHeld, IsRosterThere}
 use Rattle.mtn_history.specs.declared.pending.Pending.{Pending}
-use Rattle.mtn_history.proofs.Founding.{back}
 use Rattle.mtn_history.proofs.Knowing.{told_back}
 use Rattle.mtn_history.proofs.MarkedLemmas.{is_there}
 use Rattle.mtn_put_revision.proofs.Grounds.{unfounded_on, unfit_roster, unmade_found}

@@ -1,8 +1,6 @@
 -- By what is held under the id.
 use Rattle.std.proofs.Common.{sym, subst, arith}
 use Rattle.std.specs.Prelude.{◌≡◌, IfErr, IfSome, OnErr}
-use Rattle.mtn_model.specs.State.{State}
-use Rattle.mtn_model.specs.Table.{Contents}
 use Rattle.mtn_ports.specs.Kept.{with_all}
 use Rattle.mtn_ports.proofs.KeptLemmas.{stays_trans}
 use Rattle.mtn_history.specs.Damage.{IsDamage}
@@ -11,11 +9,17 @@ use Rattle.mtn_history.specs.Meta.{IsMetaOf}
 use Rattle.mtn_history.specs.Stands.{IsDraft}
 use Rattle.mtn_history.specs.declared.pending.Pending.{Pending}
 use Rattle.mtn_put_revision.proofs.Deciding.{held_other, held_same, none_under, other_under, same_under}
-use Rattle.mtn_put_revision.proofs.put.put_revision.Goals as goal
+use Rattle.mtn_put_revision.proofs.Planning.{planned_on}
+use Rattle.mtn_put_revision.proofs.put.put_made.Goals as goal
 
 pub put_new-requires-clause-new : goal.put_new-requires-clause-new
 put_new-requires-clause-new g c κs within = λ f x s tells draft.
     none_under s c.id-id.result c.args.text.now c.in_ok-same.field-0 (c.in_ok-same.ensures.held f x s tells (subst (λ (q : Pending). IsDraft f x q s) c.in_ok-same.ensures.pending draft)) c.in_default.is
+
+pub put_new-requires-clause-planned : goal.put_new-requires-clause-planned
+put_new-requires-clause-planned g c κs within =
+    planned_on (g.I.Ident.meaning c.args.ident.now) (g.K.Keeper.contents c.args.draft.now.keeper.now) (g.K.Keeper.contents c.held_text.new.draft.keeper.now) c.args.draft.now.pending c.held_text.new.draft.pending c.args.text.now c.args.tree
+    c.in_ok-same.ensures.stays.same c.in_ok-same.ensures.pending c.requires.planned
 
 pub returns-in_default-clause-stays : goal.returns-in_default-clause-stays
 returns-in_default-clause-stays g c = stays_trans g.K.Keeper.contents g.K.Keeper.leaves g.K.Keeper.faults _ _ _ c.in_ok-same.ensures.stays c.put_new.ensures.stays

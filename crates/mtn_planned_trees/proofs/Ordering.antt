@@ -1,9 +1,9 @@
 -- The sides of a merge that is not refused: the lesser id and the greater.
-use Rattle.std.specs.Prelude.{find, is_none, option_map, if◌then◌else◌, IsTrue}
+use Rattle.std.specs.Prelude.{option_map, if◌then◌else◌}
 use Rattle.std.specs.Ordering.{is_lt, ordering_reverse}
 use Rattle.std.specs.declared.cmp.Ordering.{Ordering}
 use Rattle.std.specs.declared.cmp.Ordering.TheVariants.{Less, Equal, Greater}
-use Rattle.std.proofs.Common.{◌≡◌, ℕ, Bool, true, false, cond, List, [], ◌∷◌, Option, Some, None, refl, sym, ap, ◌∙◌, subst}
+use Rattle.std.proofs.Common.{◌≡◌, ℕ, Bool, true, cond, List, [], ◌∷◌, Option, Some, None, refl, sym, ap, ◌∙◌}
 use Rattle.mtn_ancestry.specs.Ancestors.IsAncestor.{itself}
 use Rattle.mtn_answers.specs.Queries.{first_unknown}
 use Rattle.mtn_base.specs.Ids.{by_id}

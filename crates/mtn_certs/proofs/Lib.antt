@@ -1,0 +1,4 @@
+pub mod Ordered
+pub mod Certs
+pub mod Names
+pub mod Stanzas
