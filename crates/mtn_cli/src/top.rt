@@ -113,7 +113,9 @@ pub fn run<R: Threads + Sync, I: Ident, S: Source, O: Sink, K: Keeper>(
         (record { contents = K.contents keeper.new; left = S.left source.new; written = O.written sink.new })
         (K.leaves keeper.old) (K.leaves keeper.new) }
     ensures order_free { OrderFree (I.meaning ident.now) words.now }
-    ensures merges { MergesAreDecided (I.meaning ident.now) words.now }
+    ensures merges { MergesAreDecided (I.meaning ident.now) words.now
+        (record { contents = K.contents keeper.old; left = S.left source.old; written = O.written sink.old })
+        (record { contents = K.contents keeper.new; left = S.left source.new; written = O.written sink.new }) result }
 {
     run_words(alloc, words, ident, source, sink, keeper)
 }

@@ -14,5 +14,5 @@ returns g c =
       complete = all.complete;
       crash = all.crash;
       order_free = order_free (g.I.Ident.meaning c.args.ident.now) c.args.words.now;
-      merges = merges_are_decided (g.I.Ident.meaning c.args.ident.now) c.args.words.now;
+      merges = merges_are_decided (g.I.Ident.meaning c.args.ident.now) c.args.words.now _ _ c.run_words.result all.meets;
     }
