@@ -442,4 +442,5 @@ def main():
     sys.exit(revisions.failed > 0)
 
 
-main()
+if __name__ == '__main__':
+    main()
