@@ -1,7 +1,7 @@
 //! Cases over a store: calls of `run` over objects in memory, and what stands below it, on lines of standard input. Each
 //! line that asks gives one line that answers; lines of comment and empty lines are copied, so both files go side by side.
 //!
-//! A *session* begins with `store`; the lines behind it speak of its keeper. Texts are in escapes (`text.rt`), so that a
+//! A *session* begins with `store`; the lines behind it speak of its keeper. Texts are in escapes (`text.rt` of `mtn_case_records`), so that a
 //! payload is one line; records are in hexadecimal digits.
 //!
 //! - `store plain|doubtful sha1|toy FAILING..`: a store without records; the keeper's calls of these numbers fail.
@@ -12,17 +12,15 @@
 //! - `next TABLE KEY`, `body TABLE KEY`, `reads`: what the keeper holds then, and how often it was read.
 //! - `rosters ID COUNT`: how many reads a draft takes that is asked so often for a revision's roster.
 //! - `parts WORD..`: how words are parted.
-//! - `roster AT BODY`, `log AT BODY`, `fits AT BODY KEY`, `fronts AT BODY`: records (`records.rt`).
-//! - `rebuild ..`, `delta ..`, `number ..`: chains of records (`chains.rt`).
+//! - `roster AT BODY`, `log AT BODY`, `fits AT BODY KEY`, `fronts AT BODY`: records.
+//! - `rebuild ..`, `delta ..`, `number ..`: chains of records.
 #![tactic(auto)]
 
-mod chains;
 mod held;
 mod parts;
-mod records;
 mod session;
-mod text;
 
+use mtn_case_records::{chains, records, text};
 use session::Session;
 use std::alloc::Global;
 use std::io::{self, Read, Write};

@@ -1,5 +1,5 @@
 // How words are parted.
-use crate::text::{put_escaped, words_of};
+use mtn_case_records::text::{put_escaped, words_of};
 use mtn_cli::{Command, OptionWord, WordsError, step_words};
 use std::alloc::Global;
 

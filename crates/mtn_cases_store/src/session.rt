@@ -1,9 +1,9 @@
 // Sessions of commands over a keeper in memory.
 use crate::held::Held;
-use crate::text::{
+use mtn_base::{Bytes, Id};
+use mtn_case_records::text::{
     first_word, number_of, numbers_of, plain, put_escaped, put_hex, put_number, words_of,
 };
-use mtn_base::{Bytes, Id};
 use mtn_cli::{Status, run};
 use mtn_history::{Draft, Memory, Pending};
 use mtn_ports::{Batch, Keeper, MemKeeper, MemSink, MemSource, Sha1One, Toy};
