@@ -270,8 +270,8 @@ done
 row "no more is" 2 '' 'usage\n' --explain 10
 row "no other command has help" 2 '' 'usage\n' --help heads
 row "help of two is a store of that name" 2 '' 'usage\n' --help heads leaves
-row "the version" 0 '' 'mtn 0.1.0 (Sonnavil), store format 1\n' --version
-verdict "a store's record says the same format" asks "$store" "SELECT CAST(body AS TEXT) FROM kept WHERE kind = 1 AND name = CAST('version' AS BLOB)" 1
+row "the version" 0 '' 'mtn 0.1.0 (Sonnavil), store format 2\n' --version
+verdict "a store's record says the same format" asks "$store" "SELECT CAST(body AS TEXT) FROM kept WHERE kind = 1 AND name = CAST('version' AS BLOB)" 2
 
 # The walks in the documents, and histories, made and asked for; the rows of each script count here.
 for script in walk revisions merged_rows random_histories sessions; do

@@ -66,7 +66,7 @@ the requests that were answered were done, and after 5 the one whose answer was
 cut short too.";
 
 /// The program and its version, and what a store's record of its version says.
-pub const VERSION: &str = "mtn 0.1.0 (Sonnavil), store format 1";
+pub const VERSION: &str = "mtn 0.1.0 (Sonnavil), store format 2";
 
 /// What each command takes, prints and refuses; a paragraph begins with its name.
 pub const COMMANDS: &str = "\

@@ -1,17 +1,17 @@
 -- A whole step of the walk: note the position, come to its parents, and go on to the next.
-use Rattle.std.specs.Prelude.{Contains}
+use Rattle.std.specs.Prelude.{All, Contains}
 use Rattle.std.specs.List.Sorted.{IsStrictlyIncreasing}
 use Rattle.std.proofs.Common.{◌≡◌, ◌≢◌, ◌↔◌, ℕ, zero, suc, ◌-◌, ◌<◌, ◌≤◌, List, [], ◌∷◌, ◌++◌, reverse, ◌⊎◌, Option, Some, None, IfSome, IfNone, get_or, refl, sym, ◌∙◌, ap, inl, inr, arith, subst, ⊎_elim, add-one}
 use Rattle.std.proofs.Math.Decide.{ℕ_discrete}
 use Rattle.std.proofs.lemmas.List.{reverse-append}
-use Rattle.std.proofs.lemmas.List.Elements.{Contains-push_cases, Contains-get_or}
-use Rattle.std.proofs.lemmas.List.Sorted.{Contains-permutation, IsPermutation-reverse, IsPermutation-sym}
+use Rattle.std.proofs.lemmas.List.Elements.{All-nil, All-push, Contains-push_cases, Contains-get_or}
+use Rattle.std.proofs.lemmas.List.Sorted.{All-permutation, Contains-permutation, IsPermutation-reverse, IsPermutation-sym}
 use Rattle.mtn_ancestry.specs.Ancestors.{IsUncommon, ParentsAreEarlier, ReachesFrom}
 use Rattle.mtn_ancestry.specs.Sets.{IsAscendingListOf}
 use Rattle.mtn_ancestry.specs.declared.frontier.Reach.{Reach}
 use Rattle.mtn_ancestry.specs.declared.frontier.Reach.TheVariants.{Left, Right, Both}
 use Rattle.mtn_ancestry.specs.declared.frontier.Frontier.{Frontier}
-use Rattle.mtn_ancestry.specs.Walking.{pending_of, Pending, IsFromLeft, IsFromRight, IsLeftAt, IsRightAt, IsSingle, IsBelow, IsWalked, IsDescendingFrom, with_position, left_noted, right_noted, StandsAt, IsUnderWay, IsOrderly, IsNextBelow}
+use Rattle.mtn_ancestry.specs.Walking.{pending_of, Pending, IsFromLeft, IsFromRight, IsLeftAt, IsRightAt, IsSingle, IsBelow, IsWalked, IsDescendingFrom, with_position, left_noted, right_noted, StandsAt, IsUnderWay, IsOrderly, IsNextBelow, AreUpTo}
 use Rattle.mtn_ancestry.proofs.Members.{Contains-nil}
 use Rattle.mtn_ancestry.proofs.Ancestry.{IsAncestor-le, ancestor_at}
 use Rattle.mtn_ancestry.proofs.Walks as walks
@@ -122,6 +122,29 @@ orderly f g at r (Some p) left right below o dl dr =
       left_order = lower at (suc p.0) (left_noted r left at) h (left_descends r left at dl);
       right_order = lower at (suc p.0) (right_noted r right at) h (right_descends r right at dr);
     }
+
+-- what is noted is no higher than the position that the walk leaves
+left_up_to : (r : Reach) (xs : List ℕ) (at top : ℕ) → at ≤ top → All (λ x. x ≤ top) xs → All (λ x. x ≤ top) (left_noted r xs at)
+left_up_to Left xs at top h a = All-push (λ x. x ≤ top) xs at a h
+left_up_to Right xs at top h a = a
+left_up_to Both xs at top h a = a
+
+right_up_to : (r : Reach) (xs : List ℕ) (at top : ℕ) → at ≤ top → All (λ x. x ≤ top) xs → All (λ x. x ≤ top) (right_noted r xs at)
+right_up_to Left xs at top h a = a
+right_up_to Right xs at top h a = All-push (λ x. x ≤ top) xs at a h
+right_up_to Both xs at top h a = a
+
+pub noted_up_to : (r : Reach) (left right : List ℕ) (at top : ℕ) → at ≤ top → AreUpTo top left right → AreUpTo top (left_noted r left at) (right_noted r right at)
+noted_up_to r left right at top h a = record { left_up_to = left_up_to r left at top h a.left_up_to; right_up_to = right_up_to r right at top h a.right_up_to }
+
+pub none_up_to : (top : ℕ) (left right : List ℕ) → left ≡ [] → right ≡ [] → AreUpTo top left right
+none_up_to top left right e h = record {
+  left_up_to = subst (All (λ x. x ≤ top)) (sym e) (All-nil (λ x. x ≤ top));
+  right_up_to = subst (All (λ x. x ≤ top)) (sym h) (All-nil (λ x. x ≤ top));
+}
+
+pub All-reversed : (P : ℕ → Type 0) (xs : List ℕ) → All P xs → All P (reverse xs)
+All-reversed P xs a = All-permutation P xs (reverse xs) (IsPermutation-reverse xs) a
 
 floor_turned : (parents : ℕ → List ℕ) (a b low : ℕ) → ReachesFrom parents a b low → ReachesFrom parents b a low
 floor_turned parents a b low floor = record {

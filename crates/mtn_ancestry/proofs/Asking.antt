@@ -40,6 +40,10 @@ stands_within parents early a b low at count Right f left right s h k =
 stands_within parents early a b low at count Both f left right s h k =
     omega (arith, IsAncestor-le early (s.walked.left_ancestors at (subst IsLeftAt (sym (with_here f at Both)) tt)))
 
+pub next_under : (at top : ℕ) (next : Option (ℕ × Reach)) → IsNextBelow next at → at < top → IsNextBelow next top
+next_under at top None n h = tt
+next_under at top (Some p) n h = omega (arith, n, h)
+
 -- one more question leaves the bound kept
 pub spent_after : (spent more bound low at : ℕ) → spent + suc at ≤ bound → low ≤ at → more ≤ spent + 1 → more ≤ bound - low
 spent_after spent more bound low at h k m = omega arith

@@ -1,5 +1,5 @@
 -- Where a walk from two positions down to their common ancestors stands.
-use Rattle.std.specs.Prelude.{◌≡◌, ℕ, ◌<◌, ◌≤◌, ◌↔◌, ◌⊎◌, Option, Some, None, Bool, true, false, cond, nat_eq, suc, List, [], ◌∷◌, ◌++◌, Contains, reverse}
+use Rattle.std.specs.Prelude.{◌≡◌, ℕ, ◌<◌, ◌≤◌, ◌↔◌, ◌⊎◌, Option, Some, None, Bool, true, false, cond, nat_eq, suc, List, [], ◌∷◌, ◌++◌, All, Contains, reverse}
 use Rattle.std.specs.List.Sorted.{IsStrictlyIncreasing}
 use Rattle.mtn_ancestry.specs.Ancestors.{IsAncestor, IsUncommon}
 use Rattle.std.specs.Ordering.{nat_cmp}
@@ -93,6 +93,11 @@ abbrev pub right_noted : Reach → List ℕ → ℕ → List ℕ
 right_noted Left items at = items
 right_noted Right items at = items ++ at ∷ []
 right_noted Both items at = items
+
+-- no position that is found is above this one
+pub record AreUpTo (top : ℕ) (left right : List ℕ) : Type 0 where
+  pub left_up_to : All (λ x. x ≤ top) left
+  pub right_up_to : All (λ x. x ≤ top) right
 
 -- all uncommon positions are found
 pub record HasFound (parents : ℕ → List ℕ) (a b : ℕ) (left right : List ℕ) : Type 0 where

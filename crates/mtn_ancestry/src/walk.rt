@@ -2,7 +2,7 @@
 //
 // It goes by position: the greatest pending position is left first, so that what it was reached from is
 // final when it is left. It ends when no pending position was reached from one side alone.
-ghost use Rattle.std.specs.Prelude.{◌≡◌, ◌≢◌, ℕ, ◌+◌, ◌-◌, ◌↔◌, ◌<◌, ◌≤◌, ◌⊎◌, suc, max, [], List, Some, None, IfOk, IfErr, OnOk, Contains, reverse};
+ghost use Rattle.std.specs.Prelude.{◌≡◌, ◌≢◌, ℕ, ◌+◌, ◌-◌, ◌↔◌, ◌<◌, ◌≤◌, ◌⊎◌, suc, max, [], All, List, Some, None, IfOk, IfErr, OnOk, Contains, reverse};
 ghost use Rattle.std.specs.List.Sorted.{IsStrictlyIncreasing};
 ghost use Rattle.mtn_ancestry.specs.Ancestors.{IsUncommon, ParentsAreEarlier, ReachesFrom};
 ghost use Rattle.mtn_ancestry.specs.Log.{list_of};
@@ -79,7 +79,7 @@ struct Walk {
 }
 
 impl Walk {
-    ghost use Rattle.mtn_ancestry.specs.Walking.{pending_of, IsMatched, IsOrderly, IsUnderWay, IsInOrder, StandsAt, IsNextBelow, left_noted, right_noted};
+    ghost use Rattle.mtn_ancestry.specs.Walking.{pending_of, IsMatched, IsOrderly, IsUnderWay, IsInOrder, StandsAt, IsNextBelow, AreUpTo, left_noted, right_noted};
 
     // Begins at two unlike positions. The walk stands at the greater.
     fn begin(alloc: Global, left: Pos, right: Pos) -> Result<(Walk, Pos, Reach), NoMemory>
@@ -87,6 +87,7 @@ impl Walk {
         ensures matched { IfOk result (λ w. IsMatched w.0.frontier) }
         ensures greater { IfOk result (λ w. w.1 ≡ max left right) }
         ensures order { IfOk result (λ w. IsInOrder w.1 (pending_of w.0.frontier) w.0.left.items w.0.right.items) }
+        ensures none { IfOk result (λ w. (w.0.left.items ≡ []) × (w.0.right.items ≡ [])) }
         ensures stands { IfOk result (λ w. (graph : ℕ → List ℕ) (low : ℕ) →
             ParentsAreEarlier graph → ReachesFrom graph left right low →
             StandsAt graph left right low w.1 w.2 (pending_of w.0.frontier) w.0.left.items w.0.right.items) }
@@ -121,6 +122,8 @@ impl Walk {
         ensures below { IfOk result (λ next. IsNextBelow next at) }
         ensures order { IfOk result (λ next.
             IsOrderly next (pending_of self.new.frontier) self.new.left.items self.new.right.items) }
+        ensures up_to { OnOk result ((top : ℕ) → at ≤ top → AreUpTo top self.old.left.items self.old.right.items →
+            AreUpTo top self.new.left.items self.new.right.items) }
         ensures walked { IfOk result (λ next. (graph : ℕ → List ℕ) (a b low : ℕ) →
             ParentsAreEarlier graph → ReachesFrom graph a b low → list_of parents.now ≡ graph at →
             StandsAt graph a b low at reach (pending_of self.old.frontier) self.old.left.items self.old.right.items →
@@ -158,7 +161,7 @@ fn ascending(alloc: Global, mut items: Vec<Pos>) -> Result<PosSet, NoMemory>
 /// The uncommon positions of two: the ancestors of `left` that are none of `right`, and the reverse.
 ///
 /// What is told at the end was told at the start, and the answer is about the graph that is told at the end.
-/// Where one is, no position below the least of the uncommon ones and their parents is asked for, and none
+/// No position in it is above both of the given ones, also where no graph is told. Where one is, no position below the least of the uncommon ones and their parents is asked for, and none
 /// twice. So for W positions from there up to the greater of the two, this takes W log W steps.
 /// It answers `Asked` only with an error that the graph answered in this call.
 pub fn uncommon<P: Parents>(
@@ -173,6 +176,7 @@ pub fn uncommon<P: Parents>(
         P.tells graph.new count parents → IsAscendingListOf (IsUncommon parents left right) sets.0) }
     ensures right { IfOk result (λ sets. (count : ℕ) (parents : ℕ → List ℕ) →
         P.tells graph.new count parents → IsAscendingListOf (IsUncommon parents right left) sets.1) }
+    ensures within { IfOk result (λ sets. All (λ x. x ≤ max left right) sets.0 × All (λ x. x ≤ max left right) sets.1) }
     ensures same_graph { (count : ℕ) (parents : ℕ → List ℕ) →
         P.tells graph.new count parents → P.tells graph.old count parents }
     ensures count { (count : ℕ) (parents : ℕ → List ℕ) (low : ℕ) →

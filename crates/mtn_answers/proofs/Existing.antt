@@ -11,7 +11,8 @@ use Rattle.std.proofs.lemmas.List.Elements.{All-nil, All-cons}
 use Rattle.mtn_ancestry.specs.Ancestors.{IsAncestor}
 use Rattle.mtn_ancestry.proofs.Members.{Contains-nil, Contains-head, Contains-later, Contains-cases}
 use Rattle.mtn_answers.specs.Lines.{HasParents, IsGraph}
-use Rattle.mtn_answers.specs.Queries.{IsHeld, IsParent, IsAbove, IsProperlyAbove, IsAsked, IsListOf, IsAnswer, by_place, order_of, first_unknown, ids_of}
+use Rattle.mtn_base.specs.Lists.{IsListOf}
+use Rattle.mtn_answers.specs.Queries.{IsHeld, IsParent, IsAbove, IsProperlyAbove, IsAsked, IsAnswer, by_place, order_of, first_unknown, ids_of}
 use Rattle.mtn_answers.specs.declared.query.Line.{Line}
 use Rattle.mtn_answers.specs.declared.query.Query.{Query}
 use Rattle.mtn_answers.specs.declared.query.Query.TheVariants.{Parents, Children, Ancestors, Descendents, CommonAncestors, EraseAncestors, Toposort, AncestryDifference, Leaves, Roots}

@@ -7,7 +7,7 @@ use Rattle.std.specs.declared.cmp.Ordering.TheVariants.{Less}
 use Rattle.std.proofs.Common.{◌≡◌, List, [], ◌∷◌}
 use Rattle.mtn_base.specs.declared.id.Id.{Id}
 use Rattle.mtn_base.proofs.IdOrder.{contains_head, contains_later, one_list, OneWay}
-use Rattle.mtn_answers.specs.Queries.{IsListOf}
+use Rattle.mtn_base.specs.Lists.{IsListOf}
 
 pub each_to : {X : Type 0} (P : X → Type 0) (xs : List X) → ((x : X) → Contains xs x → P x) → AllByRecursion P xs
 each_to P [] all = tt

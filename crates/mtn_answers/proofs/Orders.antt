@@ -11,7 +11,8 @@ use Rattle.mtn_answers.specs.declared.query.Line.{Line}
 use Rattle.mtn_answers.specs.declared.query.Query.{Query}
 use Rattle.mtn_answers.specs.declared.query.Query.TheVariants.{Parents, Children, Ancestors, Descendents, CommonAncestors, EraseAncestors, Toposort, AncestryDifference, Leaves, Roots}
 use Rattle.mtn_answers.specs.Lines.{HasParents, IsGraph}
-use Rattle.mtn_answers.specs.Queries.{by_place, order_of, IsAnswer, IsHeld, IsListOf, IsParent}
+use Rattle.mtn_base.specs.Lists.{IsListOf}
+use Rattle.mtn_answers.specs.Queries.{by_place, order_of, IsAnswer, IsHeld, IsParent}
 use Rattle.mtn_base.specs.Ids.{by_id}
 use Rattle.mtn_base.proofs.IdOrder.{by_id_total, one_way_of, OneWay}
 use Rattle.mtn_answers.proofs.Lists.{one_list_of}

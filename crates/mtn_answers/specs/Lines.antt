@@ -2,7 +2,8 @@
 use Rattle.std.specs.Prelude.{List, map, All}
 use Rattle.mtn_history_laws.specs.History.{Revision}
 use Rattle.mtn_base.specs.Ids.{by_id}
-use Rattle.mtn_answers.specs.Queries.{IsHeld, IsParent, IsListOf}
+use Rattle.mtn_base.specs.Lists.{IsListOf}
+use Rattle.mtn_answers.specs.Queries.{IsHeld, IsParent}
 use Rattle.mtn_answers.specs.declared.query.Line.{Line}
 
 -- a line has exactly the parents of its revision, ascending

@@ -51,11 +51,6 @@ order_of h (Toposort of) = by_place h
 order_of h (AncestryDifference r without) = by_place h
 order_of h _ = by_id
 
--- exactly the ids with P, each once, in the order
-pub record IsListOf (order : Id → Id → Ordering) (P : Id → Type 0) (ids : List Id) : Type 0 where
-  pub ascending : IsStrictlySortedBy order ids
-  pub exact : (x : Id) → Contains ids x ↔ P x
-
 -- the answer to a query
 abbrev pub IsAnswer : List Revision → Query → List Id → Type 0
 IsAnswer h q ids = IsListOf (order_of h q) (IsAsked h q) ids

@@ -1,9 +1,11 @@
-pub mod IdLemmas
-pub mod PathLemmas
+pub mod Digits
+pub mod Dropping
 pub mod Finding
+pub mod IdLemmas
+pub mod IdOrder
 pub mod Members
-pub mod Tests
 pub mod Orders
+pub mod PathLemmas
 pub mod Placed
 pub mod Sorting
-pub mod IdOrder
+pub mod Tests

@@ -1,8 +1,9 @@
 pub mod Comps
+pub mod Front
 pub mod Hex
+pub mod Ids
+pub mod Lists
 pub mod Names
 pub mod Paths
 pub mod Quoted
 pub mod Refusals
-pub mod Lists
-pub mod Ids

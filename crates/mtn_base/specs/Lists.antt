@@ -1,7 +1,8 @@
 -- Lists in the order of a key. Our choice: what a list does not say in one way only, it says in rising order.
-use Rattle.std.specs.Prelude.{Bool, true, false, ◌&&◌, List, [], ◌∷◌, Option, Some, None}
+use Rattle.std.specs.Prelude.{◌↔◌, Bool, true, false, ◌&&◌, List, [], ◌∷◌, Option, Some, None, Contains}
 use Rattle.std.specs.FinMap.Entries.{by_order}
 use Rattle.std.specs.List.{list_all}
+use Rattle.std.specs.List.Sorted.{IsStrictlySortedBy}
 use Rattle.std.specs.declared.cmp.Ordering.{Ordering}
 use Rattle.std.specs.Ordering.{is_lt}
 
@@ -24,3 +25,8 @@ ordered cmp key (x ∷ xs) = placed cmp key x (ordered cmp key xs)
 abbrev pub rises : {K : Type 0} → (K → K → Ordering) → List K → Bool
 rises cmp [] = true
 rises cmp (k ∷ ks) = list_all (λ l. is_lt (cmp k l)) ks && rises cmp ks
+
+-- exactly those with P, each once, in the order
+pub record IsListOf {X : Type 0} (order : X → X → Ordering) (P : X → Type 0) (items : List X) : Type 0 where
+  pub ascending : IsStrictlySortedBy order items
+  pub exact : (x : X) → Contains items x ↔ P x

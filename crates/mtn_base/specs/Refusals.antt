@@ -12,7 +12,7 @@ use Rattle.mtn_base.specs.declared.refusal.PacketWhy.TheVariants as packet_why
 use Rattle.mtn_base.specs.declared.refusal.Field.{Field}
 use Rattle.mtn_base.specs.declared.refusal.Field.TheVariants as field
 use Rattle.mtn_base.specs.declared.refusal.Cause.{Cause}
-use Rattle.mtn_base.specs.declared.refusal.Cause.TheVariants.{TextTooLong, NotText, BadStanza, BadOrder, Repeated, BadEdge, Collision, LogFull, UnknownParent, BadChange, Disagree, Revived, TooManyNodes, PathTooLong, UnknownFile, ManifestDiffers, UnknownRevision, NoSuchPath, NotAFile, Related, UnknownNode, NotADirectory, NotAConflict, BadField, NoBranch, OneHead, BadPacket, IdMismatch, StoreNotEmpty, BadRequest}
+use Rattle.mtn_base.specs.declared.refusal.Cause.TheVariants.{TextTooLong, NotText, BadStanza, BadOrder, Repeated, BadEdge, Collision, LogFull, UnknownParent, BadChange, Disagree, Revived, TooManyNodes, PathTooLong, UnknownFile, ManifestDiffers, UnknownRevision, NoSuchPath, NotAFile, Related, UnknownNode, NotADirectory, NotAConflict, BadField, NoBranch, OneHead, BadPacket, IdMismatch, StoreNotEmpty, BadRequest, OldStore, NotOld, KeyNamed, UnknownKey}
 use Rattle.mtn_base.specs.declared.refusal.Refusal.{Refusal}
 
 abbrev pub why_name : Why → List ℕ
@@ -83,6 +83,10 @@ cause_name (BadPacket _ _) = codes "BadPacket"
 cause_name (IdMismatch _ _) = codes "IdMismatch"
 cause_name (StoreNotEmpty _) = codes "StoreNotEmpty"
 cause_name (BadRequest _) = codes "BadRequest"
+cause_name OldStore = codes "OldStore"
+cause_name NotOld = codes "NotOld"
+cause_name (KeyNamed _ _) = codes "KeyNamed"
+cause_name (UnknownKey _) = codes "UnknownKey"
 
 -- the fields, with one space before each
 abbrev pub cause_fields : Cause → List ℕ
@@ -116,6 +120,11 @@ cause_fields (BadPacket number why) = number_field number ++ word_field (packet_
 cause_fields (IdMismatch number computed) = number_field number ++ id_field computed
 cause_fields (StoreNotEmpty count) = number_field count
 cause_fields (BadRequest number) = number_field number
+-- the version of the store that is not read
+cause_fields OldStore = number_field 1
+cause_fields NotOld = []
+cause_fields (KeyNamed id held) = id_field id ++ word_field held
+cause_fields (UnknownKey name) = word_field name
 
 -- refusals of one packet among several say which
 abbrev pub packet_text : ℕ → List ℕ

@@ -2,7 +2,7 @@
 ghost use Rattle.std.specs.Prelude.{◌≡◌, IfOk};
 ghost use Rattle.mtn_base.specs.Refusals.{why_name, packet_why_name, field_name, cause_name};
 
-use crate::{Id, NoMemory, Path};
+use crate::{Bytes, Id, NoMemory, Path};
 use std::alloc::Global;
 
 /// Why a change of a changeset fails.
@@ -72,6 +72,10 @@ pub enum Cause {
     IdMismatch { number: u64, computed: Id },
     StoreNotEmpty { count: u64 },
     BadRequest { number: u64 },
+    OldStore,
+    NotOld,
+    KeyNamed { id: Id, held: Bytes },
+    UnknownKey { name: Bytes },
 }
 
 /// A cause, and the number of the packet that has it; 0 where no packets are read.
@@ -165,6 +169,10 @@ impl Cause {
             Cause::IdMismatch { .. } => "IdMismatch",
             Cause::StoreNotEmpty { .. } => "StoreNotEmpty",
             Cause::BadRequest { .. } => "BadRequest",
+            Cause::OldStore => "OldStore",
+            Cause::NotOld => "NotOld",
+            Cause::KeyNamed { .. } => "KeyNamed",
+            Cause::UnknownKey { .. } => "UnknownKey",
         }
     }
 
@@ -228,6 +236,15 @@ impl Cause {
             },
             Cause::StoreNotEmpty { count } => Cause::StoreNotEmpty { count: *count },
             Cause::BadRequest { number } => Cause::BadRequest { number: *number },
+            Cause::OldStore => Cause::OldStore,
+            Cause::NotOld => Cause::NotOld,
+            Cause::KeyNamed { id, held } => Cause::KeyNamed {
+                id: *id,
+                held: held.copy(alloc)?,
+            },
+            Cause::UnknownKey { name } => Cause::UnknownKey {
+                name: name.copy(alloc)?,
+            },
         })
     }
 }

@@ -10,8 +10,15 @@ use crate::{Cause, Id, NoMemory, Path, Refusal};
 fn push_word(out: &mut Vec<u8>, word: &str) -> Result<(), NoMemory>
     ensures { OnOk result (out.new.items ≡ out.old.items ++ word_field word.now) }
 {
+    push_bytes(out, word.as_bytes())
+}
+
+// One space and the bytes of a name.
+fn push_bytes(out: &mut Vec<u8>, bytes: &[u8]) -> Result<(), NoMemory>
+    ensures { OnOk result (out.new.items ≡ out.old.items ++ word_field bytes.now) }
+{
     out.push(b' ')?;
-    out.extend_from_slice(word.as_bytes())?;
+    out.extend_from_slice(bytes)?;
     Ok(())
 }
 
@@ -64,7 +71,8 @@ fn push_fields(out: &mut Vec<u8>, cause: &Cause) -> Result<(), NoMemory>
     ensures { OnOk result (out.new.items ≡ out.old.items ++ cause_fields cause.now) }
 {
     match cause {
-        Cause::NoBranch => Ok(()),
+        Cause::NoBranch | Cause::NotOld => Ok(()),
+        Cause::OldStore => push_number(out, 1),
         Cause::TextTooLong { length: number }
         | Cause::NotText { place: number }
         | Cause::BadStanza { number }
@@ -90,6 +98,11 @@ fn push_fields(out: &mut Vec<u8>, cause: &Cause) -> Result<(), NoMemory>
         | Cause::NoSuchPath { path }
         | Cause::NotAFile { path } => push_path(out, path),
         Cause::BadField { field } => push_word(out, field.name()),
+        Cause::KeyNamed { id, held } => {
+            push_id(out, id)?;
+            push_bytes(out, held.as_slice())
+        }
+        Cause::UnknownKey { name } => push_bytes(out, name.as_slice()),
         Cause::Related { older, newer } => {
             push_id(out, older)?;
             push_id(out, newer)

@@ -2,7 +2,7 @@
 use Rattle.std.proofs.Common.{◌≡◌, ℕ, List, [], ◌++◌, length, take, sym, ap, ◌∙◌, append_assoc}
 use Rattle.std.proofs.Math.Seq.{take-append_seam}
 use Rattle.std.proofs.lemmas.List.{append-nil}
-use Rattle.mtn_basic_io.specs.Front.{IsFront}
+use Rattle.mtn_base.specs.Front.{IsFront}
 
 pub front_same : (old new : List ℕ) → new ≡ old → IsFront old new
 front_same old new e = record { more = []; whole = e ∙ sym (append-nil old) }

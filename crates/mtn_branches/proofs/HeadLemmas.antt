@@ -23,7 +23,8 @@ use Rattle.mtn_base.proofs.Orders.{bytes_total, exact_bytes}
 use Rattle.mtn_base.proofs.Tests.{both_true, same_bytes-is, same_bytes-self}
 use Rattle.mtn_certs.specs.Certificates.{Certificate}
 use Rattle.mtn_certs.proofs.Ordered.{ordered_ascends, ordered_same}
-use Rattle.mtn_branches.specs.Branches.{IsHead, IsListOf, IsMember, NamesBranch, NamesMember, is_for, is_of_branch}
+use Rattle.mtn_base.specs.Lists.{IsListOf}
+use Rattle.mtn_branches.specs.Branches.{IsHead, IsMember, NamesBranch, NamesMember, is_for, is_of_branch}
 use Rattle.mtn_branches.specs.Graphs.{IsAbove, IsHeldBy, IsIdAt, IsProperlyAbove, StandsAt}
 use Rattle.mtn_branches.specs.Images.{IsImage}
 use Rattle.mtn_branches.proofs.Images.{image_pass, image_push}

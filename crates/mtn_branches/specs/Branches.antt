@@ -1,16 +1,9 @@
 -- The members and heads of a branch, over a set of certificates and the ids of revisions. Branches and heads are those of
 -- Monotone's manual; that a certificate counts whatever its key and signature is our choice.
 use Rattle.std.specs.Prelude.{◌≡◌, ◌↔◌, ◌&&◌, ℕ, Bool, List, Contains, codes}
-use Rattle.std.specs.List.Sorted.{IsStrictlySortedBy}
-use Rattle.std.specs.declared.cmp.Ordering.{Ordering}
 use Rattle.mtn_base.specs.Names.{same_bytes}
 use Rattle.mtn_base.specs.declared.id.Id.{Id}
 use Rattle.mtn_certs.specs.Certificates.{Certificate}
-
--- exactly those with P, each once, in the order
-pub record IsListOf {X : Type 0} (order : X → X → Ordering) (P : X → Type 0) (items : List X) : Type 0 where
-  pub ascending : IsStrictlySortedBy order items
-  pub exact : (x : X) → Contains items x ↔ P x
 
 -- the certificate is one of a branch
 pub record NamesBranch (c : Certificate) (branch : List ℕ) : Type 0 where

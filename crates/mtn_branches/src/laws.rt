@@ -5,7 +5,8 @@ ghost use Rattle.mtn_ancestry.specs.declared.pos.LogEntry.{LogEntry};
 ghost use Rattle.mtn_base.specs.Ids.{by_id};
 ghost use Rattle.mtn_base.specs.Names.{bytes_cmp};
 ghost use Rattle.mtn_base.specs.declared.id.Id.{Id};
-ghost use Rattle.mtn_branches.specs.Branches.{IsBranch, IsHead, IsListOf, IsMember};
+ghost use Rattle.mtn_base.specs.Lists.{IsListOf};
+ghost use Rattle.mtn_branches.specs.Branches.{IsBranch, IsHead, IsMember};
 ghost use Rattle.mtn_branches.specs.Graphs.{IsAbove, IsHeldBy, IsProperlyAbove};
 ghost use Rattle.mtn_certs.specs.Certificates.{Certificate};
 

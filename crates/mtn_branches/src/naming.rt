@@ -1,7 +1,8 @@
 // The members of a branch.
 ghost use Rattle.std.specs.Prelude.{◌≡◌, Contains, IfOk};
 ghost use Rattle.mtn_base.specs.Ids.{by_id};
-ghost use Rattle.mtn_branches.specs.Branches.{IsListOf, IsMember, NamesMember, is_of_branch as branch_test, is_for};
+ghost use Rattle.mtn_base.specs.Lists.{IsListOf};
+ghost use Rattle.mtn_branches.specs.Branches.{IsMember, NamesMember, is_of_branch as branch_test, is_for};
 ghost use Rattle.mtn_branches.specs.Images.{IsImage};
 
 use mtn_base::{Id, NoMemory, put_in_order};

@@ -2,7 +2,8 @@
 ghost use Rattle.std.specs.Prelude.{Contains, IfOk};
 ghost use Rattle.mtn_base.specs.Ids.{by_id};
 ghost use Rattle.mtn_base.specs.declared.id.Id.{Id as Named};
-ghost use Rattle.mtn_branches.specs.Branches.{IsHead, IsListOf, IsMember};
+ghost use Rattle.mtn_base.specs.Lists.{IsListOf};
+ghost use Rattle.mtn_branches.specs.Branches.{IsHead, IsMember};
 ghost use Rattle.mtn_branches.specs.Graphs.{IsHeldBy, IsProperlyAbove, StandsAt, IsIdAt};
 ghost use Rattle.mtn_branches.specs.Images.{IsImage};
 

@@ -2,7 +2,8 @@
 ghost use Rattle.std.specs.Prelude.{◌≡◌, Contains, map, IfOk};
 ghost use Rattle.std.specs.Ordering.{is_eq};
 ghost use Rattle.mtn_base.specs.Names.{bytes_cmp};
-ghost use Rattle.mtn_branches.specs.Branches.{IsBranch, IsListOf, NamesBranch};
+ghost use Rattle.mtn_base.specs.Lists.{IsListOf};
+ghost use Rattle.mtn_branches.specs.Branches.{IsBranch, NamesBranch};
 ghost use Rattle.mtn_branches.specs.Images.{IsImage};
 
 use crate::naming::is_of_branch;

@@ -4,7 +4,7 @@ use Rattle.std.proofs.Common.{◌≡◌, ◌↔◌, inl, inr, ◌<◌, ◌+◌, 
 use Rattle.std.specs.BTreeMap.{BTreeMap, get, is_at}
 use Rattle.std.specs.Option.{option_copied}
 use Rattle.std.proofs.lemmas.Map.Text.{is_eq-slice_cmp}
-use native.Mathlib.Numerals.{add-one}
+use Rattle.mtn_base.proofs.Dropping.{drop_step}
 use Rattle.mtn_base.specs.Ids.{by_id}
 use Rattle.mtn_base.specs.Names.{same_id}
 use Rattle.mtn_base.specs.declared.id.Id.{Id}
@@ -50,11 +50,6 @@ name_tells keys once k name = (
         let whole : f ≡ record { id = k; name = name } = λ i. record { id = same i; name = named i } in
         subst (Contains keys) whole (split_contains keys f at.at)
 
-drop_next : {X : Type 0} (xs : List X) (i : ℕ) (x : X) → i < length xs → x ≡ get_or xs i x → drop i xs ≡ x ∷ drop (suc i) xs
-drop_next [] i x lt is = absurd (omega (arith, lt))
-drop_next (y ∷ xs) zero x lt is = λ j. sym is j ∷ xs
-drop_next (y ∷ xs) (suc i) x lt is = drop_next xs i x (omega (arith, lt)) is
-
 -- one more name, before those of the table
 pub names_more : (keys : List KeyName) (i : ℕ) (k : KeyName) (name : Bor (List ℕ)) (old new : BTreeMap Id (Bor (List ℕ))) → i < length keys → k ≡ get_or keys i k → name.now ≡ k.name →
     ((id : Id) → option_copied (get by_id old id) ≡ name_in (drop (i + 1) keys) id) → ((q : Id) → get by_id new q ≡ cond (is_at (by_id k.id) q) (Some name) (get by_id old q)) →
@@ -63,7 +58,7 @@ names_more keys i k name old new lt is named so_far h id =
     ap option_copied (h id)
     ∙ here (is_at (by_id k.id) id) (get by_id old id) (so_far id)
     ∙ ap (λ b. option_map (λ (n : KeyName). n.name) (cond b (Some k) (find (of_id id) (drop (i + 1) keys)))) (is_eq-slice_cmp k.id.0 id.0)
-    ∙ sym (ap (λ l. name_in l id) (drop_next keys i k lt is ∙ ap (λ n. k ∷ drop n keys) (sym (add-one i))))
+    ∙ sym (ap (λ l. name_in l id) (drop_step keys i k lt is))
   where
     here : (b : Bool) (o : Option (Bor (List ℕ))) → option_copied o ≡ name_in (drop (i + 1) keys) id →
         option_copied (cond b (Some name) o) ≡ option_map (λ (n : KeyName). n.name) (cond b (Some k) (find (of_id id) (drop (i + 1) keys)))

@@ -3,7 +3,8 @@ ghost use Rattle.std.specs.Prelude.{Contains, IfOk};
 ghost use Rattle.mtn_base.specs.Ids.{by_id};
 ghost use Rattle.mtn_base.specs.Names.{bytes_cmp};
 ghost use Rattle.mtn_base.specs.declared.id.Id.{Id as Named};
-ghost use Rattle.mtn_branches.specs.Branches.{IsBranch, IsHead, IsListOf, IsMember};
+ghost use Rattle.mtn_base.specs.Lists.{IsListOf};
+ghost use Rattle.mtn_branches.specs.Branches.{IsBranch, IsHead, IsMember};
 ghost use Rattle.mtn_branches.specs.Graphs.{IsHeldBy, IsProperlyAbove};
 
 use mtn_ancestry::{Graph, ParentList, Pos};

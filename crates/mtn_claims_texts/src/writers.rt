@@ -1,7 +1,7 @@
 // Texts of stanzas, written.
 ghost use Rattle.std.specs.Prelude.{◌≡◌, ◌≤◌, ◌∷◌, [], ◌++◌, Some, OnErr, OnOk, length, map};
 ghost use Rattle.mtn_base.specs.declared.id.Id.{Id as Named};
-ghost use Rattle.mtn_basic_io.specs.Front.{IsFront};
+ghost use Rattle.mtn_base.specs.Front.{IsFront};
 ghost use Rattle.mtn_basic_io.specs.Spelling.{AreStanzas, line_text, spelling};
 ghost use Rattle.mtn_basic_io.specs.declared.stanza.Value.TheVariants.{Hex, Text};
 

@@ -48,10 +48,10 @@ module _ (f : List ℕ → List ℕ) (c : Contents) (p : Pending) (s : State) wh
     record { long = read.long ∙ no_revision same new; each = λ r e v here at. absurd (let lt = inside {X = Revision} [] r v at in omega (arith, lt)) },
   )
   told_by false same stands entries read =
-      let long : p.count ≡ length stands.history = same ∙ sym stands.spelled.long in (
-        stands.history,
-        stands.spelled,
-        read_tells (with_all c p.batch) stands.history stands.kept (history_is_grown f s.files s.log stands.history stands.spelled) stands.revisions.long stands.log entries (subst (λ n. IsReadTo (with_all c p.batch) n entries) long read),
+      let long : p.count ≡ length stands.base.history = same ∙ sym stands.base.spelled.long in (
+        stands.base.history,
+        stands.base.spelled,
+        read_tells (with_all c p.batch) stands.base.history stands.base.kept (history_is_grown f s.files s.log stands.base.history stands.base.spelled) stands.base.revisions.long stands.base.log entries (subst (λ n. IsReadTo (with_all c p.batch) n entries) long read),
       )
 
   -- the graph that was read tells the history of the state
@@ -61,7 +61,7 @@ module _ (f : List ℕ → List ℕ) (c : Contents) (p : Pending) (s : State) wh
   sound_by : (b : Bool) → p.count ≡ length s.log → MatchBool b (IsNew (with_all c p.batch) s) (StandsFor f (with_all c p.batch) s) → (d : Damage) → WrongBelow p.count (with_all c p.batch) d → ⊥
   sound_by true same new d wrong = let none = no_revision same new in omega (arith, none, wrong.below)
   sound_by false same stands d wrong =
-      never_wrong (with_all c p.batch) stands.history stands.kept (history_is_grown f s.files s.log stands.history stands.spelled) stands.revisions.long stands.log p.count d (same ∙ sym stands.spelled.long) wrong
+      never_wrong (with_all c p.batch) stands.base.history stands.base.kept (history_is_grown f s.files s.log stands.base.history stands.base.spelled) stands.base.revisions.long stands.base.log p.count d (same ∙ sym stands.base.spelled.long) wrong
 
   -- no damage is found in the log of a state
   pub graph_sound : IsDraft f c p s → (e : StoreError) → IfDamage e (WrongBelow p.count (with_all c p.batch)) → IfDamage e (λ _. ⊥)

@@ -20,7 +20,8 @@ use Rattle.mtn_replay.specs.Graphs.{Tells}
 use Rattle.mtn_replay.specs.Making.{place_of}
 use Rattle.mtn_replay.proofs.Places.{inside}
 use Rattle.mtn_graph_queries.specs.Places.{ids_at}
-use Rattle.mtn_answers.specs.Queries.{IsListOf, IsAsked, IsHeld, IsParent, by_place}
+use Rattle.mtn_base.specs.Lists.{IsListOf}
+use Rattle.mtn_answers.specs.Queries.{IsAsked, IsHeld, IsParent, by_place}
 use Rattle.mtn_answers.specs.declared.query.Query.TheVariants.{Children, Ancestors, Descendents, CommonAncestors, EraseAncestors, Toposort, AncestryDifference, Leaves, Roots}
 use Rattle.mtn_graph_queries.proofs.Placing.{stands, stood}
 use Rattle.mtn_base.specs.Ids.{by_id}

@@ -2,7 +2,7 @@
 use Rattle.std.specs.Prelude.{Contains}
 use Rattle.std.specs.List.Sorted.{IsStrictlySortedBy}
 use Rattle.std.proofs.Common.{◌≡◌, ◌↔◌, List, subst, sym}
-use Rattle.mtn_answers.specs.Queries.{IsListOf}
+use Rattle.mtn_base.specs.Lists.{IsListOf}
 use Rattle.mtn_base.specs.declared.id.Id.{Id}
 use Rattle.mtn_base.specs.Ids.{by_id, in_id_order}
 use Rattle.mtn_base.proofs.IdOrder.{in_order_ascends, in_order_same}

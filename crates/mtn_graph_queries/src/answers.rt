@@ -4,7 +4,8 @@ ghost use Rattle.mtn_base.specs.declared.id.Id.{Id};
 ghost use Rattle.mtn_history_laws.specs.History.{IsPlaceOf, Revision};
 ghost use Rattle.mtn_replay.specs.Graphs.{Tells};
 ghost use Rattle.mtn_base.specs.Ids.{by_id};
-ghost use Rattle.mtn_answers.specs.Queries.{IsAnswer, IsListOf, IsParent};
+ghost use Rattle.mtn_base.specs.Lists.{IsListOf};
+ghost use Rattle.mtn_answers.specs.Queries.{IsAnswer, IsParent};
 ghost use Rattle.mtn_graph_queries.specs.Queries.{AnswersQuery};
 
 use crate::ids::{ids_at, sorted_ids};

@@ -3,7 +3,7 @@ ghost use Rattle.std.specs.Prelude.{◌≡◌, Contains, IfOk};
 ghost use Rattle.mtn_ancestry.specs.Log.{IsLog};
 ghost use Rattle.mtn_graph_queries.specs.Places.{ids_at as at_places};
 ghost use Rattle.mtn_base.specs.Ids.{by_id};
-ghost use Rattle.mtn_answers.specs.Queries.{IsListOf};
+ghost use Rattle.mtn_base.specs.Lists.{IsListOf};
 
 use mtn_ancestry::{Graph, Pos};
 use mtn_base::{Id, List, NoMemory, put_in_order};

@@ -1,5 +1,5 @@
 -- Call after call that only asks.
-use Rattle.std.proofs.Common.{◌≡◌, ◌≤◌, ◌+◌, ℕ, Option, refl, ◌∙◌, arith}
+use Rattle.std.proofs.Common.{◌≤◌, ◌+◌, ℕ, Option, refl, ◌∙◌, arith}
 use Rattle.mtn_model.specs.Table.{Contents}
 use Rattle.mtn_ports.proofs.KeptLemmas.{stays_itself, stays_trans}
 use Rattle.mtn_history.specs.Asking.{OnlyAsks}

@@ -32,7 +32,8 @@ use Rattle.mtn_history.specs.Meta.{meta_of, count_key, version_key, version}
 use Rattle.mtn_history.specs.Revisions.{Kept, next_of, all_entries, depth_on, deeper, IsKept, AreKept, AreTexts, OnlyBelow, IsLogBody, AreLogged, IsRosterOf, IsRosterBody, AreRosters}
 use Rattle.mtn_ports.proofs.KeptLemmas.{with_all-append}
 use Rattle.mtn_history.specs.Stands.{StandsFor, IsDraft, IsFounded, based}
-use Rattle.mtn_history.proofs.FileLemmas.{other_table}
+use Rattle.mtn_history.proofs.FileLemmas.{behind_meta, other_table}
+use Rattle.mtn_replay.proofs.CertLemmas.{lawful_text}
 use Rattle.mtn_replay.proofs.FileLemmas.{get_inserted}
 
 -- what is found under another key, and under the key itself
@@ -68,9 +69,9 @@ turned false true x y z w never = refl
 turned false false x y z w never = refl
 
 -- the count of one more
-recounted : (n : ℕ) → insert (meta_of n) count_key (to_be_bytes w64 (n + 1)) ≡ meta_of (n + 1)
+recounted : (n : ℕ) → insert (meta_of version n) count_key (to_be_bytes w64 (n + 1)) ≡ meta_of version (n + 1)
 recounted n = same_map nat_list_cmp_total (slice_cmp-IsAntisymmetric nat_cmp-IsAntisymmetric) _ _
-    (λ q. get_inserted (meta_of n) count_key (to_be_bytes w64 (n + 1)) q
+    (λ q. get_inserted (meta_of version n) count_key (to_be_bytes w64 (n + 1)) q
     ∙ ap (λ o. cond (bytes_eq q count_key) (Some (to_be_bytes w64 (n + 1))) o) (get_inserted (insert empty count_key (to_be_bytes w64 n)) version_key version q ∙ ap (λ o. cond (bytes_eq q version_key) (Some version) o) (get_inserted empty count_key (to_be_bytes w64 n) q))
     ∙ turned (bytes_eq q count_key) (bytes_eq q version_key) (Some (to_be_bytes w64 (n + 1))) (Some version) (Some (to_be_bytes w64 n)) _ (two_keys q)
     ∙ sym (get_inserted (insert empty count_key (to_be_bytes w64 (n + 1))) version_key version q ∙ ap (λ o. cond (bytes_eq q version_key) (Some version) o) (get_inserted empty count_key (to_be_bytes w64 (n + 1)) q)))
@@ -244,27 +245,32 @@ abbrev pub with_text : State → Logged → State
 with_text s l = record s { log = s.log ++ l ∷ [] }
 
 pub more_stands : (f : List ℕ → List ℕ) (c : Contents) (s : State) (l : Logged) (v : Revision) (new : Kept) (log roster : List ℕ) (stands : StandsFor f c s) → length s.log < 2 ^ 64 →
-    IsNext f s.files stands.history l v → Adds stands.history stands.kept v new → IsLogBody (length s.log) v new log → IsRosterBody stands.kept (length s.log) v new roster →
+    IsNext f s.files stands.base.history l v → Adds stands.base.history stands.base.kept v new → IsLogBody (length s.log) v new log → IsRosterBody stands.base.kept (length s.log) v new roster →
     StandsFor f (with_all c (revision_puts (length s.log) l log roster)) (with_text s l)
 more_stands f c s l v new log roster stands fits next adds log_is roster_is =
-    let h = stands.history in
-    let ks = stands.kept in
-    let n : length h ≡ length s.log = stands.spelled.long in
-    let more = history_more f s.files s.log h l v stands.spelled next in
+    let base = stands.base in
+    let h = base.history in
+    let ks = base.kept in
+    let n : length h ≡ length s.log = base.spelled.long in
+    let more = history_more f s.files s.log h l v base.spelled next in
     let fits_h : length h < 2 ^ 64 = subst (λ m. m < 2 ^ 64) (sym n) fits in
     record {
-      lawful = record { files = stands.lawful.files; history = h ++ v ∷ []; log = more; certs = stands.lawful.certs };
-      meta = ap (λ m. insert m count_key (to_be_bytes w64 (length s.log + 1))) stands.meta ∙ recounted (length s.log) ∙ ap meta_of (sym (length-append s.log (l ∷ [])));
-      files = stands.files;
-      texts = texts_more s.log l (c 3) stands.texts (new_id f s.files s.log h l stands.spelled next.fresh);
-      history = h ++ v ∷ [];
-      spelled = more;
-      kept = ks ++ new ∷ [];
-      revisions = kept_more h ks v new (history_is_grown f s.files (s.log ++ l ∷ []) (h ++ v ∷ []) more) stands.revisions adds;
-      log = subst (λ m. AreLogged (h ++ v ∷ []) (ks ++ new ∷ []) (insert (c 4) (number_text m) log)) n
-          (log_more h ks v new stands.revisions.long fits_h (c 4) log stands.log (subst (λ m. IsLogBody m v new log) (sym n) log_is));
-      rosters = subst (λ m. AreRosters (h ++ v ∷ []) (ks ++ new ∷ []) (insert (c 5) (number_text m) roster)) n
-          (rosters_more h ks v new stands.revisions.long fits_h (c 5) roster stands.rosters (subst (λ m. IsRosterBody ks m v new roster) (sym n) roster_is));
+      lawful = lawful_text f s h l v stands.lawful base.spelled next;
+      base = record {
+        meta = ap (λ m. insert m count_key (to_be_bytes w64 (length s.log + 1))) base.meta ∙ recounted (length s.log) ∙ ap (meta_of version) (sym (length-append s.log (l ∷ [])));
+        files = base.files;
+        texts = texts_more s.log l (c 3) base.texts (new_id f s.files s.log h l base.spelled next.fresh);
+        history = h ++ v ∷ [];
+        spelled = more;
+        kept = ks ++ new ∷ [];
+        revisions = kept_more h ks v new (history_is_grown f s.files (s.log ++ l ∷ []) (h ++ v ∷ []) more) base.revisions adds;
+        log = subst (λ m. AreLogged (h ++ v ∷ []) (ks ++ new ∷ []) (insert (c 4) (number_text m) log)) n
+            (log_more h ks v new base.revisions.long fits_h (c 4) log base.log (subst (λ m. IsLogBody m v new log) (sym n) log_is));
+        rosters = subst (λ m. AreRosters (h ++ v ∷ []) (ks ++ new ∷ []) (insert (c 5) (number_text m) roster)) n
+            (rosters_more h ks v new base.revisions.long fits_h (c 5) roster base.rosters (subst (λ m. IsRosterBody ks m v new roster) (sym n) roster_is));
+      };
+      keys = stands.keys;
+      certs = stands.certs;
       others = λ t other. other_table 1 t _ _ other.meta ∙ other_table 5 t _ _ other.rosters ∙ other_table 4 t _ _ other.log ∙ other_table 3 t _ _ other.texts ∙ stands.others t other;
     }
 
@@ -275,7 +281,9 @@ pub draft_more : (f : List ℕ → List ℕ) (told : Option Contents) (p : Pendi
 draft_more f told p s l v new log roster d fits next adds log_is roster_is = record {
   count = ap (λ n. n + 1) d.count ∙ sym (length-append s.log (l ∷ []));
   stands =
-      let more = more_stands f (based p d.records) s l v new log roster d.stands fits next adds log_is roster_is in
+      let beside = behind_meta p.is_new f (with_all d.records p.batch) p.count s d.count d.draft.stands in
+      let whole : StandsFor f (based p d.records) s = record { lawful = beside.lawful; base = d.stands; keys = beside.keys; certs = beside.certs; others = beside.others } in
+      let more = more_stands f (based p d.records) s l v new log roster whole fits next adds log_is roster_is in
       let counted : StandsFor f (with_all (based p d.records) (revision_puts p.count l log roster)) (with_text s l) = subst (λ n. StandsFor f (with_all (based p d.records) (revision_puts n l log roster)) (with_text s l)) (sym d.count) more in
       subst (λ (c : Contents). StandsFor f c (with_text s l)) (sym (with_all-append d.records p.batch (meta_puts p.is_new p.count ++ revision_puts p.count l log roster) ∙ with_all-append (with_all d.records p.batch) (meta_puts p.is_new p.count) (revision_puts p.count l log roster))) counted;
 }

@@ -1,17 +1,15 @@
 -- Putting a file leads from a state to a state.
-use Rattle.std.proofs.Common.{◌≡◌, ◌≢◌, ◌≤◌, ℕ, Bool, true, false, cond, nat_lt, List, [], ◌∷◌, ◌++◌, length, Option, Some, None, refl, sym, ap, ◌∙◌, subst, inl, inr, ◌⊎◌, arith, eqb}
+use Rattle.std.proofs.Common.{◌≡◌, ◌≢◌, ◌≤◌, ℕ, Bool, true, false, cond, nat_lt, List, [], ◌∷◌, ◌++◌, length, Option, Some, None, refl, sym, ap, ◌∙◌, subst, inl, inr, arith, eqb}
 use Rattle.std.specs.Prelude.{bytes_eq, MatchBool, IfSome, not}
-use Rattle.std.specs.FinMap.{get-insert, get-empty, same_map, insert, get, empty, slice_cmp-IsAntisymmetric, nat_cmp-IsAntisymmetric}
+use Rattle.std.specs.FinMap.{get-empty, insert, get, empty}
 use Rattle.std.specs.Ordering.{nat_cmp}
-use Rattle.std.specs.Cmp.Lexicographic.{slice_cmp, texts_ties}
-use Rattle.std.proofs.lemmas.Cmp.{nat_list_cmp_total}
+use Rattle.std.specs.Cmp.Lexicographic.{slice_cmp}
 use Rattle.std.proofs.lemmas.Bool.Decides.{nat_tests}
 use Rattle.mtn_base.specs.declared.refusal.Cause.TheVariants.{Collision}
 use Rattle.std.proofs.lemmas.Slice.Eq.{bytes_eq-Decides}
 use Rattle.mtn_model.specs.Table.{Table, Contents, body_at, with_record, nothing, no_table}
-use Rattle.mtn_model.specs.State.{State, AreFiles, empty_state}
-use Rattle.mtn_replay.specs.Lawful.{Keeps, IsLawful}
-use Rattle.mtn_replay.proofs.FileLemmas.{insert_held, keeps_more, lawful_more, empty_lawful}
+use Rattle.mtn_model.specs.State.{State, empty_state}
+use Rattle.mtn_replay.proofs.FileLemmas.{insert_held, keeps_more, lawful_more, empty_lawful, no_certificate}
 use Rattle.mtn_replay.proofs.Histories.{history_none, history_kept}
 use Rattle.mtn_ports.specs.Kept.{with_all, IsBody}
 use Rattle.mtn_ports.proofs.KeptLemmas.{with_all-append}
@@ -29,15 +27,19 @@ file_stands : (f : List ℕ → List ℕ) (c : Contents) (s : State) (bytes : Li
     StandsFor f (with_record c 2 (f bytes) bytes) (with_file f s bytes)
 file_stands f c s bytes stands none small = record {
   lawful = lawful_more f s bytes stands.lawful none small;
-  meta = stands.meta;
-  files = ap (λ m. insert m (f bytes) bytes) stands.files;
-  texts = stands.texts;
-  history = stands.history;
-  spelled = history_kept f s.files (insert s.files (f bytes) bytes) s.log stands.history (keeps_more s.files (f bytes) bytes none) stands.spelled;
-  kept = stands.kept;
-  revisions = stands.revisions;
-  log = stands.log;
-  rosters = stands.rosters;
+  base = record {
+    meta = stands.base.meta;
+    files = ap (λ m. insert m (f bytes) bytes) stands.base.files;
+    texts = stands.base.texts;
+    history = stands.base.history;
+    spelled = history_kept f s.files (insert s.files (f bytes) bytes) s.log stands.base.history (keeps_more s.files (f bytes) bytes none) stands.base.spelled;
+    kept = stands.base.kept;
+    revisions = stands.base.revisions;
+    log = stands.base.log;
+    rosters = stands.base.rosters;
+  };
+  keys = stands.keys;
+  certs = stands.certs;
   others = λ t other. other_table 2 t _ _ other.files ∙ stands.others t other;
 }
 
@@ -48,15 +50,19 @@ none_in key body found = let none : get (empty {X = List ℕ} {R = slice_cmp nat
 new_stands : (f : List ℕ → List ℕ) → StandsFor f (with_all nothing (meta_puts true 0)) empty_state
 new_stands f = record {
   lawful = empty_lawful f;
-  meta = refl;
-  files = refl;
-  texts = record { each = λ r l at. absurd cc; only = λ id body found. absurd (none_in id body found) };
-  history = [];
-  spelled = history_none f empty;
-  kept = [];
-  revisions = record { long = refl; each = λ r v k at below. absurd cc };
-  log = record { each = λ r v k at below. absurd cc; only = λ key body found. absurd (none_in key body found) };
-  rosters = record { each = λ r v k at below. absurd cc; only = λ key body found. absurd (none_in key body found) };
+  base = record {
+    meta = refl;
+    files = refl;
+    texts = record { each = λ r l at. absurd cc; only = λ id body found. absurd (none_in id body found) };
+    history = [];
+    spelled = history_none f empty;
+    kept = [];
+    revisions = record { long = refl; each = λ r v k at below. absurd cc };
+    log = record { each = λ r v k at below. absurd cc; only = λ key body found. absurd (none_in key body found) };
+    rosters = record { each = λ r v k at below. absurd cc; only = λ key body found. absurd (none_in key body found) };
+  };
+  keys = refl;
+  certs = record { each = λ c held. absurd (no_certificate c held); only = λ key body found. absurd (none_in key body found) };
   others = λ t other. other_table 1 t _ _ other.meta ∙ other_table 1 t _ _ other.meta;
 }
 
@@ -67,7 +73,7 @@ StandsIn b f c s = MatchBool b (IsNew c s) (StandsFor f c s)
 -- table 2 is the files
 files_of : (b : Bool) (f : List ℕ → List ℕ) (c : Contents) (s : State) → StandsIn b f c s → c 2 ≡ s.files
 files_of true f c s new = ap (λ (d : Contents). d 2) new.records ∙ ap (λ (x : State). x.files) (sym new.state)
-files_of false f c s stands = stands.files
+files_of false f c s stands = stands.base.files
 
 pub behind_meta : (b : Bool) (f : List ℕ → List ℕ) (c : Contents) (count : ℕ) (s : State) → count ≡ length s.log → StandsIn b f c s → StandsFor f (with_all c (meta_puts b count)) s
 behind_meta true f c count s counted new =

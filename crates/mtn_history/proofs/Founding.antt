@@ -28,7 +28,7 @@ founded f told c p s tells draft = record {
   tells = tells;
   draft = draft;
   count = draft.count;
-  stands = behind_meta p.is_new f (with_all c p.batch) p.count s draft.count draft.stands;
+  stands = (behind_meta p.is_new f (with_all c p.batch) p.count s draft.count draft.stands).base;
 }
 
 -- what is told at the end was told before

@@ -19,7 +19,7 @@ use Rattle.mtn_records.specs.declared.record.RosterRecord.{RosterRecord}
 use Rattle.mtn_records.specs.declared.record.RosterRecord.TheVariants.{Whole, Delta}
 use Rattle.mtn_history.specs.Cache.{AreRecalled, IsAdded, IsAmong, IsNoted}
 use Rattle.mtn_history.specs.Logs.{IsLogged}
-use Rattle.mtn_history.specs.Records.{meta_puts, put_of, record_puts, revision_puts, with_revision}
+use Rattle.mtn_history.specs.Records.{is_beside, meta_puts, put_of, record_puts, revision_puts, with_revision}
 use Rattle.mtn_history.specs.Rosters.{IsChainDown, IsRostered, Rebuilds}
 use Rattle.mtn_history.specs.declared.cache.Cache.{Cache}
 use Rattle.mtn_history.specs.declared.cache.Recalled.{Recalled}
@@ -64,26 +64,30 @@ pub mapped : (told : Option Contents) (P Q : Contents → Type 0) → ((c : Cont
 mapped None P Q f fact = tt
 mapped (Some c) P Q f fact = f c fact
 
--- tables 4 and 5 stay where records are put in tables 1 and 2
-file_puts : (c : Contents) (ps : List Put) (is_new : Bool) (count : ℕ) (key body : List ℕ) (t : ℕ) → t ≢ 1 → t ≢ 2 → with_all c (ps ++ record_puts is_new count 2 key body) t ≡ with_all c ps t
-file_puts c ps is_new count key body t other file =
-    ap (λ (d : Contents). d t) (with_all-append c ps (record_puts is_new count 2 key body)) ∙ ap (λ (d : Contents). d t) (with_all-append (with_all c ps) (meta_puts is_new count) (put_of 2 key body ∷ []))
-    ∙ other_table 2 t _ _ file ∙ table_of is_new count (with_all c ps) t other
+-- another table than one in which a record joins alone
+pub not_beside : (kind t : ℕ) → is_beside kind ≡ true → is_beside t ≡ false → t ≢ kind
+not_beside kind t beside other same = absurd (let both : true ≡ false = sym beside ∙ ap is_beside (sym same) ∙ other in cc)
 
-recalled_file : (c : Contents) (ps : List Put) (is_new : Bool) (count : ℕ) (key body : List ℕ) (k : Cache) → AreRecalled (with_all c ps) count k → AreRecalled (with_all c (ps ++ record_puts is_new count 2 key body)) count k
-recalled_file c ps is_new count key body k known =
-    recalled_kept (with_all c ps) (with_all c (ps ++ record_puts is_new count 2 key body)) count count k (omega arith)
-    (λ r lt. ap (λ (t : Table). get_body t (number_text r)) (file_puts c ps is_new count key body 4 (λ e. omega (arith, e)) (λ e. omega (arith, e))))
-    (λ r lt. ap (λ (t : Table). get_body t (number_text r)) (file_puts c ps is_new count key body 5 (λ e. omega (arith, e)) (λ e. omega (arith, e)))) known
+-- tables 4 and 5 stay where records are put in table 1 and one of these
+file_puts : (kind : ℕ) (c : Contents) (ps : List Put) (is_new : Bool) (count : ℕ) (key body : List ℕ) (t : ℕ) → t ≢ 1 → t ≢ kind → with_all c (ps ++ record_puts is_new count kind key body) t ≡ with_all c ps t
+file_puts kind c ps is_new count key body t other file =
+    ap (λ (d : Contents). d t) (with_all-append c ps (record_puts is_new count kind key body)) ∙ ap (λ (d : Contents). d t) (with_all-append (with_all c ps) (meta_puts is_new count) (put_of kind key body ∷ []))
+    ∙ other_table kind t _ _ file ∙ table_of is_new count (with_all c ps) t other
+
+recalled_file : (kind : ℕ) → is_beside kind ≡ true → (c : Contents) (ps : List Put) (is_new : Bool) (count : ℕ) (key body : List ℕ) (k : Cache) → AreRecalled (with_all c ps) count k → AreRecalled (with_all c (ps ++ record_puts is_new count kind key body)) count k
+recalled_file kind beside c ps is_new count key body k known =
+    recalled_kept (with_all c ps) (with_all c (ps ++ record_puts is_new count kind key body)) count count k (omega arith)
+    (λ r lt. ap (λ (t : Table). get_body t (number_text r)) (file_puts kind c ps is_new count key body 4 (λ e. omega (arith, e)) (not_beside kind 4 beside refl)))
+    (λ r lt. ap (λ (t : Table). get_body t (number_text r)) (file_puts kind c ps is_new count key body 5 (λ e. omega (arith, e)) (not_beside kind 5 beside refl))) known
 
 -- the same over what a call makes pending
-pub file_recalled : {E : Type 0} (told : Option Contents) (p after : Pending) (key body : List ℕ) (k : Cache) (result : Result (Unit {0}) E) →
-    OnOk result (after ≡ record p { batch = p.batch ++ record_puts p.is_new p.count 2 key body; is_new = false }) → OnErr result (after ≡ p) →
+pub file_recalled : {E : Type 0} (kind : ℕ) → is_beside kind ≡ true → (told : Option Contents) (p after : Pending) (key body : List ℕ) (k : Cache) (result : Result (Unit {0}) E) →
+    OnOk result (after ≡ record p { batch = p.batch ++ record_puts p.is_new p.count kind key body; is_new = false }) → OnErr result (after ≡ p) →
     IfSome told (λ c. AreRecalled (with_all c p.batch) p.count k) → IfSome told (λ c. AreRecalled (with_all c after.batch) after.count k)
-file_recalled told p after key body k (Ok done) ok err known =
+file_recalled kind beside told p after key body k (Ok done) ok err known =
     subst (λ (q : Pending). IfSome told (λ c. AreRecalled (with_all c q.batch) q.count k)) (sym ok)
-    (mapped told (λ c. AreRecalled (with_all c p.batch) p.count k) _ (λ c h. recalled_file c p.batch p.is_new p.count key body k h) known)
-file_recalled told p after key body k (Err e) ok err known = subst (λ (q : Pending). IfSome told (λ c. AreRecalled (with_all c q.batch) q.count k)) (sym err) known
+    (mapped told (λ c. AreRecalled (with_all c p.batch) p.count k) _ (λ c h. recalled_file kind beside c p.batch p.is_new p.count key body k h) known)
+file_recalled kind beside told p after key body k (Err e) ok err known = subst (λ (q : Pending). IfSome told (λ c. AreRecalled (with_all c q.batch) q.count k)) (sym err) known
 
 -- tables 4 and 5 with one more revision
 revision_logs : (d : Contents) (n : ℕ) (l : Logged) (log roster : List ℕ) (r : ℕ) → r < n → n < 2 ^ 64 → body_at (with_all d (revision_puts n l log roster)) 4 (number_text r) ≡ body_at d 4 (number_text r)

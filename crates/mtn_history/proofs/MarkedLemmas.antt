@@ -195,7 +195,7 @@ past_damage None p r at e low there far held = tt
 past_damage (Some c) p r at Failed low there far held = λ counts known. tt
 past_damage (Some c) p r at NoMemory low there far held = λ counts known. tt
 past_damage (Some c) p r at (Damaged d) low there far held = λ counts known.
-    inr (inr (inr (inr (inr (record {
+    inr (inr (inr (inr (inr (inl (record {
       count = p.count;
       counted = counted_some p.is_new (with_all c p.batch) p.count counts (not_none p.count r low);
       place = r;
@@ -203,7 +203,7 @@ past_damage (Some c) p r at (Damaged d) low there far held = λ counts known.
       bad = roster_bad (with_all c p.batch) r d there held;
       held = inr held;
       unfit = λ f s stands. let lt : at < p.count = known f s (founded_stands f (Some c) c p s refl counts stands) at (0, omega arith, refl) in omega (arith, lt, far);
-    })))))
+    }))))))
 
 -- the count of a draft is what its records say
 pub draft_counts : (f : List ℕ → List ℕ) (c : Contents) (p : Pending) (s : State) → IsDraft f c p s → IsCounted p c
@@ -218,7 +218,7 @@ draft_counts f c p s draft = by p.is_new p.count (with_all c p.batch) draft.coun
       body = to_be_bytes w64 (length s.log);
       held = held_count f x s stands;
       eight = eight (length s.log);
-      number = long ∙ sym (told_back (length s.log) (log_is_short f s.files s.log stands.history stands.spelled));
+      number = long ∙ sym (told_back (length s.log) (log_is_short f s.files s.log stands.base.history stands.base.spelled));
       version = held_version f x s stands;
     }
 

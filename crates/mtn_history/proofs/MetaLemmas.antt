@@ -30,21 +30,22 @@ use Rattle.mtn_history.proofs.RosterLemmas.{never_unmade, shown_roster}
 use Rattle.mtn_history.proofs.LogLemmas.{never_wrong, shown_log}
 use Rattle.mtn_history.proofs.TextLemmas.{text_found}
 use Rattle.mtn_history.specs.Stands.{StandsFor, Stands, IsNew, IsDraft, WasTold, Finishes, FinishLeaves}
+use Rattle.mtn_history.proofs.CertRecords.{no_cert_damage, no_key_damage, shown_cert, shown_key}
 use Rattle.mtn_history.proofs.FileLemmas.{draft_stands}
 use Rattle.mtn_replay.proofs.FileLemmas.{get_inserted, empty_lawful}
 
-count_of : (n : ℕ) → get (meta_of n) count_key ≡ Some (to_be_bytes w64 n)
+count_of : (n : ℕ) → get (meta_of version n) count_key ≡ Some (to_be_bytes w64 n)
 count_of n = get_inserted (insert empty count_key (to_be_bytes w64 n)) version_key version count_key ∙ get_inserted empty count_key (to_be_bytes w64 n) count_key
 
-version_of : (n : ℕ) → get (meta_of n) version_key ≡ Some version
+version_of : (n : ℕ) → get (meta_of version n) version_key ≡ Some version
 version_of n = get_inserted (insert empty count_key (to_be_bytes w64 n)) version_key version version_key
 
 -- the records of table 1 of a store that is not new
 pub held_count : (f : List ℕ → List ℕ) (c : Contents) (s : State) → StandsFor f c s → body_at c 1 count_key ≡ Some (to_be_bytes w64 (length s.log))
-held_count f c s stands = ap (λ (m : Table). get m count_key) stands.meta ∙ count_of (length s.log)
+held_count f c s stands = ap (λ (m : Table). get m count_key) stands.base.meta ∙ count_of (length s.log)
 
 pub held_version : (f : List ℕ → List ℕ) (c : Contents) (s : State) → StandsFor f c s → body_at c 1 version_key ≡ Some version
-held_version f c s stands = ap (λ (m : Table). get m version_key) stands.meta ∙ version_of (length s.log)
+held_version f c s stands = ap (λ (m : Table). get m version_key) stands.base.meta ∙ version_of (length s.log)
 
 pub none_held : (c : Contents) (s : State) (key : List ℕ) → IsNew c s → body_at c 1 key ≡ None
 none_held c s key new = ap (λ (d : Contents). body_at d 1 key) new.records ∙ get-empty (slice_cmp nat_cmp) key
@@ -65,7 +66,7 @@ one_body o a b x y = cc
 count_told : (n : ℕ) (f : List ℕ → List ℕ) (c : Contents) (s : State) → Counted c n → StandsFor f c s → n ≡ length s.log
 count_told n f c s meta stands =
     let body : meta.body ≡ to_be_bytes w64 (length s.log) = one_body (body_at c 1 count_key) meta.body (to_be_bytes w64 (length s.log)) meta.held (held_count f c s stands) in
-    meta.number ∙ ap (from_be_bytes w64) body ∙ told_back (length s.log) (log_is_short f s.files s.log stands.history stands.spelled)
+    meta.number ∙ ap (from_be_bytes w64) body ∙ told_back (length s.log) (log_is_short f s.files s.log stands.base.history stands.base.spelled)
 
 pub opened_by : (b : Bool) (n : ℕ) (f : List ℕ → List ℕ) (c : Contents) (s : State) →
     MatchBool b ((body_at c 1 count_key ≡ None) × (n ≡ 0)) (Counted c n) → Stands f c s → (n ≡ length s.log) × MatchBool b (IsNew c s) (StandsFor f c s)
@@ -104,20 +105,20 @@ no_meta_damage f c s (Missing table key) (inr stands) damage = elim damage.1 [
 no_text_damage : (f : List ℕ → List ℕ) (c : Contents) (s : State) (d : Damage) → Stands f c s → TextDamage c d → ⊥
 no_text_damage f c s (Missing table key) stands damage = damage
 no_text_damage f c s (Bad table key body) (inl new) damage = absurd (clash (body_at c 3 key) body damage.1 (ap (λ (d : Contents). body_at d 3 key) new.records ∙ get-empty (slice_cmp nat_cmp) key))
-no_text_damage f c s (Bad table key body) (inr stands) damage = let t = text_found s.log (c 3) key body stands.texts damage.1 in omega (arith, t.0, damage.2)
+no_text_damage f c s (Bad table key body) (inr stands) damage = let t = text_found s.log (c 3) key body stands.base.texts damage.1 in omega (arith, t.0, damage.2)
 
 -- nor of table 4
 no_log_damage : (f : List ℕ → List ℕ) (c : Contents) (s : State) (d : Damage) → Stands f c s → LogDamage c d → ⊥
 no_log_damage f c s d (inl new) damage = clash (body_at c 1 count_key) damage.counted.body damage.counted.held (none_held c s count_key new)
 no_log_damage f c s d (inr stands) damage =
-    never_wrong c stands.history stands.kept (history_is_grown f s.files s.log stands.history stands.spelled) stands.revisions.long stands.log damage.count d
-    (count_told damage.count f c s damage.counted stands ∙ sym stands.spelled.long) damage.wrong
+    never_wrong c stands.base.history stands.base.kept (history_is_grown f s.files s.log stands.base.history stands.base.spelled) stands.base.revisions.long stands.base.log damage.count d
+    (count_told damage.count f c s damage.counted stands ∙ sym stands.base.spelled.long) damage.wrong
 
 -- nor of table 5
 no_roster_damage : (f : List ℕ → List ℕ) (c : Contents) (s : State) (d : Damage) → Stands f c s → RosterDamage c d → ⊥
 no_roster_damage f c s d (inl new) damage = clash (body_at c 1 count_key) damage.counted.body damage.counted.held (none_held c s count_key new)
 no_roster_damage f c s d (inr stands) damage =
-    never_unmade c stands.history stands.kept stands.revisions stands.rosters damage.count d (count_told damage.count f c s damage.counted stands ∙ sym stands.spelled.long) damage.wrong
+    never_unmade c stands.base.history stands.base.kept stands.base.revisions stands.base.rosters damage.count d (count_told damage.count f c s damage.counted stands ∙ sym stands.base.spelled.long) damage.wrong
 
 -- nor of the positions in table 3
 no_place_damage : (f : List ℕ → List ℕ) (c : Contents) (s : State) (d : Damage) → Stands f c s → PlaceDamage c d → ⊥
@@ -128,11 +129,11 @@ no_place_damage f c s d stands damage =
     by : (d : Damage) → Stands f c s → damage.meta.count ≡ length s.log → UnplacedBelow damage.meta.count c d → ⊥
     by (Missing table key) st is wrong = wrong
     by (Bad table key body) (inl new) is wrong = clash (body_at c 3 key) body wrong.1 (ap (λ (d : Contents). body_at d 3 key) new.records ∙ get-empty (slice_cmp nat_cmp) key)
-    by (Bad table key body) (inr st) is wrong = never_unplaced s.log (c 3) st.texts c refl damage.meta.count (Bad table key body) is wrong
+    by (Bad table key body) (inr st) is wrong = never_unplaced s.log (c 3) st.base.texts c refl damage.meta.count (Bad table key body) is wrong
 
 -- records that stand for a state show no damage
 pub no_damage : (f : List ℕ → List ℕ) (c : Contents) (s : State) (d : Damage) → Stands f c s → IsDamage c d → ⊥
-no_damage f c s d stands damage = ⊎_elim (no_meta_damage f c s d stands) (⊎_elim (no_text_damage f c s d stands) (⊎_elim (no_log_damage f c s d stands) (⊎_elim (no_roster_damage f c s d stands) (⊎_elim (no_place_damage f c s d stands) (λ (u : UnfitDamage c d). u.unfit f s stands))))) damage
+no_damage f c s d stands damage = ⊎_elim (no_meta_damage f c s d stands) (⊎_elim (no_text_damage f c s d stands) (⊎_elim (no_log_damage f c s d stands) (⊎_elim (no_roster_damage f c s d stands) (⊎_elim (no_place_damage f c s d stands) (⊎_elim (λ (u : UnfitDamage c d). u.unfit f s stands) (⊎_elim (no_key_damage f c s d stands) (no_cert_damage f c s d stands))))))) damage
 
 pub err_no_damage : (f : List ℕ → List ℕ) (told : Option Contents) (e : StoreError) → IfSome told (λ c. IfDamage e (IsDamage c)) →
     (c : Contents) (s : State) → told ≡ Some c → Stands f c s → IfDamage e (λ _. ⊥)
@@ -199,7 +200,7 @@ shown_unfit c r (Missing table key) (inr w) = ap (λ t. body_at c t key) w.0 ∙
 
 -- The record that is printed is one of the contents, or it is not in them.
 pub shown : (c : Contents) (d : Damage) → IsDamage c d → IsShown c d
-shown c d damage = ⊎_elim (shown_meta c d) (⊎_elim (shown_text c d) (⊎_elim (λ l. shown_log c l.wrong.place d l.wrong.wrong) (⊎_elim (λ l. shown_roster c l.wrong.place d l.wrong.wrong) (⊎_elim (λ p. shown_place c p.meta.count d p.wrong) (λ (u : UnfitDamage c d). shown_unfit c u.place d u.held))))) damage
+shown c d damage = ⊎_elim (shown_meta c d) (⊎_elim (shown_text c d) (⊎_elim (λ l. shown_log c l.wrong.place d l.wrong.wrong) (⊎_elim (λ l. shown_roster c l.wrong.place d l.wrong.wrong) (⊎_elim (λ p. shown_place c p.meta.count d p.wrong) (⊎_elim (λ (u : UnfitDamage c d). shown_unfit c u.place d u.held) (⊎_elim (shown_key c d) (shown_cert c d))))))) damage
 
 -- what was found wrong in table 1 is damage
 pub meta_damage : (told : Option Contents) (e : StoreError) → IfSome told (λ c. IfDamage e (MetaDamage c)) → IfSome told (λ c. IfDamage e (IsDamage c))

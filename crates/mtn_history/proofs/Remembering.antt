@@ -4,7 +4,7 @@ use Rattle.std.specs.BTreeMap.{get as get_noted}
 use Rattle.std.specs.FinMap.{get, insert}
 use Rattle.std.specs.Int.{w64, to_be_bytes, from_be_bytes}
 use Rattle.std.specs.Ordering.{nat_cmp}
-use Rattle.std.proofs.Common.{◌≡◌, ◌<◌, ◌+◌, ◌^◌, ℕ, Bool, true, false, List, [], ◌∷◌, ◌++◌, length, Option, Some, None, Result, Ok, Err, refl, sym, ap, ◌∙◌, subst, arith}
+use Rattle.std.proofs.Common.{◌≡◌, ◌<◌, ◌+◌, ◌^◌, ℕ, Bool, true, false, List, [], ◌∷◌, ◌++◌, Option, Some, None, Result, Ok, Err, refl, sym, ap, ◌∙◌, subst, arith}
 use Rattle.std.proofs.lemmas.Nat.{from_be_bytes-to_be_bytes_8}
 use Rattle.mtn_model.specs.State.{Logged}
 use Rattle.mtn_model.specs.Table.{Table, Contents, body_at}
@@ -16,13 +16,14 @@ use Rattle.mtn_history.specs.Marked.{IsCounted}
 use Rattle.mtn_history.specs.Memory.{Knows}
 use Rattle.mtn_history.specs.declared.memory.Memory.{Memory}
 use Rattle.mtn_history.specs.Meta.{Counted, IsMetaOf, count_key, version_key, version}
-use Rattle.mtn_history.specs.Records.{meta_puts, put_of, record_puts, revision_puts, with_revision}
+use Rattle.mtn_history.specs.Records.{is_beside, meta_puts, put_of, record_puts, revision_puts, with_revision}
 use Rattle.mtn_history.specs.declared.cache.Cache.{Cache}
 use Rattle.mtn_history.specs.declared.cache.Recalled.{Recalled}
 use Rattle.mtn_history.specs.declared.meta.Meta.{Meta}
 use Rattle.mtn_history.specs.declared.pending.Pending.{Pending}
 use Rattle.mtn_replay.proofs.FileLemmas.{get_inserted}
-use Rattle.mtn_history.proofs.Knowing.{grown_is, mapped}
+use Rattle.mtn_history.proofs.FileLemmas.{other_table}
+use Rattle.mtn_history.proofs.Knowing.{grown_is, mapped, not_beside}
 
 -- nothing is true of any records
 pub nothing_known : (k : Cache) → k.rosters.items ≡ [] → ((at : ℕ) → get_noted nat_cmp k.log at ≡ None) → (c : Contents) (n : ℕ) → AreRecalled c n k
@@ -88,18 +89,19 @@ counted_kept c d n same is = record {
   version = ap (λ (t : Table). get t version_key) same ∙ is.version;
 }
 
-file_is : (c : Contents) (ps : List Put) (b : Bool) (n : ℕ) (key body : List ℕ) → with_all c (ps ++ record_puts b n 2 key body) 1 ≡ with_all (with_all c ps) (meta_puts b n) 1
-file_is c ps b n key body =
-    ap (λ (d : Contents). d 1) (with_all-append c ps (record_puts b n 2 key body)) ∙ ap (λ (d : Contents). d 1) (with_all-append (with_all c ps) (meta_puts b n) (put_of 2 key body ∷ []))
+file_is : (kind : ℕ) → is_beside kind ≡ true → (c : Contents) (ps : List Put) (b : Bool) (n : ℕ) (key body : List ℕ) → with_all c (ps ++ record_puts b n kind key body) 1 ≡ with_all (with_all c ps) (meta_puts b n) 1
+file_is kind beside c ps b n key body =
+    ap (λ (d : Contents). d 1) (with_all-append c ps (record_puts b n kind key body)) ∙ ap (λ (d : Contents). d 1) (with_all-append (with_all c ps) (meta_puts b n) (put_of kind key body ∷ []))
+    ∙ other_table kind 1 _ _ (not_beside kind 1 beside refl)
 
-pub file_counted : {E : Type 0} (told : Option Contents) (p after : Pending) (key body : List ℕ) (result : Result (Unit {0}) E) →
-    OnOk result (after ≡ record p { batch = p.batch ++ record_puts p.is_new p.count 2 key body; is_new = false }) → OnErr result (after ≡ p) → IfSome told (IsCounted p) → IfSome told (IsCounted after)
-file_counted told p after key body (Err e) ok err counted = subst (λ (q : Pending). IfSome told (IsCounted q)) (sym err) counted
-file_counted told p after key body (Ok done) ok err counted =
+pub file_counted : {E : Type 0} (kind : ℕ) → is_beside kind ≡ true → (told : Option Contents) (p after : Pending) (key body : List ℕ) (result : Result (Unit {0}) E) →
+    OnOk result (after ≡ record p { batch = p.batch ++ record_puts p.is_new p.count kind key body; is_new = false }) → OnErr result (after ≡ p) → IfSome told (IsCounted p) → IfSome told (IsCounted after)
+file_counted kind beside told p after key body (Err e) ok err counted = subst (λ (q : Pending). IfSome told (IsCounted q)) (sym err) counted
+file_counted kind beside told p after key body (Ok done) ok err counted =
     subst (λ (q : Pending). IfSome told (IsCounted q)) (sym ok)
-    (mapped told (IsCounted p) (IsCounted (record p { batch = p.batch ++ record_puts p.is_new p.count 2 key body; is_new = false }))
-    (λ c is. counted_kept (with_all (with_all c p.batch) (meta_puts p.is_new p.count)) (with_all c (p.batch ++ record_puts p.is_new p.count 2 key body)) p.count
-    (file_is c p.batch p.is_new p.count key body) (counted_meta p.is_new p.count (with_all c p.batch) is)) counted)
+    (mapped told (IsCounted p) (IsCounted (record p { batch = p.batch ++ record_puts p.is_new p.count kind key body; is_new = false }))
+    (λ c is. counted_kept (with_all (with_all c p.batch) (meta_puts p.is_new p.count)) (with_all c (p.batch ++ record_puts p.is_new p.count kind key body)) p.count
+    (file_is kind beside c p.batch p.is_new p.count key body) (counted_meta p.is_new p.count (with_all c p.batch) is)) counted)
 
 -- one more revision
 counted_more : (c : Contents) (n : ℕ) (l : Logged) (log roster : List ℕ) → n < 2 ^ 63 → Counted c n → Counted (with_all c (revision_puts n l log roster)) (n + 1)

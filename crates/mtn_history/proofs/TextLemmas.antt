@@ -24,7 +24,7 @@ texts_of true f c s new = subst (λ (d : Contents). AreTexts s.log (d 3)) (sym n
   where
     none_kept : AreTexts [] (empty {X = List ℕ} {R = slice_cmp nat_cmp})
     none_kept = record { each = λ r l at. absurd cc; only = λ id body found. absurd (let none : get (empty {X = List ℕ} {R = slice_cmp nat_cmp}) id ≡ None = get-empty (slice_cmp nat_cmp) id in cc) }
-texts_of false f c s stands = stands.texts
+texts_of false f c s stands = stands.base.texts
 
 -- the first of an id
 record First (log : List Logged) (id : List ℕ) : Type 0 where

@@ -4,6 +4,7 @@ use Rattle.mtn_model.specs.State.{State}
 use Rattle.mtn_model.specs.Table.{Contents, body_at}
 use Rattle.mtn_history.specs.declared.errors.Damage.{Damage}
 use Rattle.mtn_history.specs.declared.errors.Damage.TheVariants.{Bad, Missing}
+use Rattle.mtn_history.specs.Certificates.{CertDamage, KeyDamage}
 use Rattle.mtn_history.specs.Logs.{LogDamage, IsHeldAt}
 use Rattle.mtn_history.specs.Meta.{Counted, MetaDamage}
 use Rattle.mtn_history.specs.Places.{PlaceDamage}
@@ -28,9 +29,9 @@ pub record UnfitDamage (c : Contents) (d : Damage) : Type 0 where
   pub unfit : (f : List ℕ → List ℕ) (s : State) → Stands f c s → ⊥
 
 -- A record that fails its reader or cannot stand beside the others, or a key that another record asks for: of
--- table 1, 3, 4 or 5. A command that reads more records has its own cases beside these.
+-- table 1, 3, 4, 5, 7 or 8.
 abbrev pub IsDamage : Contents → Damage → Type 0
-IsDamage c d = MetaDamage c d ⊎ (TextDamage c d ⊎ (LogDamage c d ⊎ (RosterDamage c d ⊎ (PlaceDamage c d ⊎ UnfitDamage c d))))
+IsDamage c d = MetaDamage c d ⊎ (TextDamage c d ⊎ (LogDamage c d ⊎ (RosterDamage c d ⊎ (PlaceDamage c d ⊎ (UnfitDamage c d ⊎ (KeyDamage c d ⊎ CertDamage c d))))))
 
 -- a bad record is one of the contents, and a missing one is not
 abbrev pub IsShown : Contents → Damage → Type 0

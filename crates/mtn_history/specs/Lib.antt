@@ -1,5 +1,6 @@
 pub mod Asking
 pub mod Cache
+pub mod Certificates
 pub mod Damage
 pub mod Drafts
 pub mod Errors

@@ -1,4 +1,4 @@
--- Table 1: `count` with the number of revisions in eight bytes, greatest first, and `version` with the byte `1`. The layout is
+-- Table 1: `count` with the number of revisions in eight bytes, greatest first, and `version` with the byte `2`. The layout is
 -- our choice.
 use Rattle.std.specs.Prelude.{◌≡◌, ◌≢◌, ◌⊎◌, ℕ, List, [], ◌∷◌, length, Some, None, IsSome, MatchBool, codes}
 use Rattle.std.specs.Int.{w64, to_be_bytes, from_be_bytes}
@@ -14,13 +14,13 @@ count_key = codes "count"
 abbrev pub version_key : List ℕ
 version_key = codes "version"
 
--- the byte `1`
+-- the byte `2`
 abbrev pub version : List ℕ
-version = 49 ∷ []
+version = 50 ∷ []
 
--- the two records of a store of so many revisions
-abbrev pub meta_of : ℕ → Table
-meta_of n = insert (insert empty count_key (to_be_bytes w64 n)) version_key version
+-- the two records of a store of a version and so many revisions
+abbrev pub meta_of : List ℕ → ℕ → Table
+meta_of v n = insert (insert empty count_key (to_be_bytes w64 n)) version_key v
 
 -- the number under `count`
 pub record Counted (c : Contents) (n : ℕ) : Type 0 where

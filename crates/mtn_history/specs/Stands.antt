@@ -2,37 +2,48 @@
 use Rattle.std.specs.Prelude.{◌≡◌, ◌≢◌, ◌⊎◌, ℕ, List, length, MatchBool, Option, Some, Result, Ok, Err}
 use Rattle.mtn_history.specs.declared.errors.StoreError.{StoreError}
 use Rattle.mtn_history.specs.Errors.{IfDamage}
-use Rattle.mtn_model.specs.Table.{Contents, nothing, no_table}
-use Rattle.mtn_model.specs.State.{State, empty_state}
+use Rattle.mtn_model.specs.Table.{Contents, Table, nothing, no_table}
+use Rattle.mtn_model.specs.State.{Logged, State, empty_state}
 use Rattle.mtn_replay.specs.Lawful.{IsHistory, IsLawful}
 use Rattle.mtn_history_laws.specs.History.{Revision}
 use Rattle.mtn_history.specs.Revisions.{Kept, AreKept, AreTexts, AreLogged, AreRosters}
 use Rattle.mtn_ports.specs.Kept.{with_all, IfTold}
-use Rattle.mtn_history.specs.Meta.{meta_of}
+use Rattle.mtn_history.specs.Certificates.{AreCertRecords}
+use Rattle.mtn_history.specs.Meta.{meta_of, version}
 use Rattle.mtn_history.specs.Records.{meta_puts}
 use Rattle.mtn_history.specs.declared.pending.Pending.{Pending}
 
--- The tables that have no field below are empty. A command that keeps more takes its table out of these and gives it a field.
+-- The tables that have no field below are empty, but for table 6, which may hold anything: there an older version kept its
+-- certificates. A command that keeps more takes its table out of these and gives it a field.
 pub record IsOther (t : ℕ) : Type 0 where
   pub meta : t ≢ 1
   pub files : t ≢ 2
   pub texts : t ≢ 3
   pub log : t ≢ 4
   pub rosters : t ≢ 5
+  pub older : t ≢ 6
+  pub keys : t ≢ 7
+  pub certs : t ≢ 8
 
--- The records of a store that is not new: table 1 is `count` and `version`, table 2 the files, table 3 the texts of the log,
--- and tables 4 and 5 what is kept of the history that they spell
-pub record StandsFor (f : List ℕ → List ℕ) (c : Contents) (s : State) : Type 0 where
-  pub lawful : IsLawful f s
-  pub meta : c 1 ≡ meta_of (length s.log)
-  pub files : c 2 ≡ s.files
-  pub texts : AreTexts s.log (c 3)
+-- The records of files and a log in a version of the store: table 1 is `count` and `version`, table 2 the files, table 3 the
+-- texts of the log, and tables 4 and 5 what is kept of the history that they spell
+pub record HoldsLog (f : List ℕ → List ℕ) (v : List ℕ) (c : Contents) (stored : Table) (logged : List Logged) : Type 0 where
+  pub meta : c 1 ≡ meta_of v (length logged)
+  pub files : c 2 ≡ stored
+  pub texts : AreTexts logged (c 3)
   pub history : List Revision
-  pub spelled : IsHistory f s.files s.log history
+  pub spelled : IsHistory f stored logged history
   pub kept : List Kept
   pub revisions : AreKept history kept
   pub log : AreLogged history kept (c 4)
   pub rosters : AreRosters history kept (c 5)
+
+-- The records of a store that is not new
+pub record StandsFor (f : List ℕ → List ℕ) (c : Contents) (s : State) : Type 0 where
+  pub lawful : IsLawful f s
+  pub base : HoldsLog f version c s.files s.log
+  pub keys : c 7 ≡ s.keys
+  pub certs : AreCertRecords s.certs (c 8)
   pub others : (t : ℕ) → IsOther t → c t ≡ no_table
 
 -- both are empty
@@ -52,13 +63,13 @@ pub record IsDraft (f : List ℕ → List ℕ) (c : Contents) (p : Pending) (s :
 abbrev pub based : Pending → Contents → Contents
 based p c = with_all (with_all c p.batch) (meta_puts p.is_new p.count)
 
--- the same of a draft at a moment, by what its keeper tells then: with both records of table 1 it stands for the state
+-- the same of a draft at a moment, by what its keeper tells then: with both records of table 1 it holds the log of the state
 pub record IsFounded (f : List ℕ → List ℕ) (told : Option Contents) (p : Pending) (s : State) : Type 0 where
   pub records : Contents
   pub tells : told ≡ Some records
   pub draft : IsDraft f records p s
   pub count : p.count ≡ length s.log
-  pub stands : StandsFor f (based p records) s
+  pub stands : HoldsLog f version (based p records) s.files s.log
 
 -- a draft begins at the state that the records stand for, and finds no damage
 abbrev pub Opens : (List ℕ → List ℕ) → Contents → State → Result Pending StoreError → Type 0

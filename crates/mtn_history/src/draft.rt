@@ -1,19 +1,19 @@
 // A keeper with pending records.
-ghost use Rattle.std.specs.Prelude.{◌≡◌, ◌<◌, ◌≤◌, ◌+◌, ◌^◌, ◌++◌, false, Err, IfOk, IfErr, IfSome, IsSome, IsTrue, OnOk, OnErr};
+ghost use Rattle.std.specs.Prelude.{◌≡◌, ◌<◌, ◌≤◌, ◌+◌, ◌^◌, ◌++◌, true, false, length, Err, IfOk, IfErr, IfSome, IsSome, IsTrue, OnOk, OnErr};
 ghost use Rattle.mtn_model.specs.Table.{Contents, body_at};
 ghost use Rattle.mtn_ports.specs.Causes.{Rose};
-ghost use Rattle.mtn_ports.specs.Kept.{IsBody, with_all};
-ghost use Rattle.mtn_history.specs.Asking.{OnlyAsks};
+ghost use Rattle.mtn_ports.specs.Kept.{IsBody, IsNext, StaysAbove, with_all};
+ghost use Rattle.mtn_history.specs.Asking.{OnlyAsks, first_key};
 ghost use Rattle.mtn_history.specs.Errors.{IfDamage};
 ghost use Rattle.mtn_history.specs.Marked.{IsCounted};
 ghost use Rattle.mtn_history.specs.Memory.{Knows};
 ghost use Rattle.mtn_history.specs.Logs.{IsLogged};
-ghost use Rattle.mtn_history.specs.Records.{record_puts, with_revision};
+ghost use Rattle.mtn_history.specs.Records.{is_beside, record_puts, with_revision};
 ghost use Rattle.mtn_history.specs.Rosters.{Rebuilds};
 ghost use Rattle.mtn_records.specs.Bounds.{IsLogWithin};
 
 use crate::cache::Cache;
-use crate::{FILES, Memory, Meta, Pending, Rebuilt, StoreError};
+use crate::{Memory, Meta, Pending, Rebuilt, StoreError};
 use mtn_ancestry::Pos;
 use mtn_base::{Bytes, Id, NoMemory};
 use mtn_ports::Keeper;
@@ -128,13 +128,35 @@ impl<'a, K: Keeper> Draft<'a, K> {
         Ok(found && next.as_slice() == key.as_slice())
     }
 
-    /// Puts a file's record, behind both records of table 1 where there are none. An error leaves all as it was.
-    pub(crate) fn keep_file(&mut self, id: Id, bytes: &[u8]) -> Result<(), NoMemory>
+    /// Replaces `key` by the least key of a table above `after`, of the pending records and the keeper's, and answers `true`,
+    /// or answers `false` where there is none. An empty `after` stands before all keys. After `false` or an error `key` may
+    /// hold anything.
+    pub fn next(&mut self, table: u8, after: &[u8], key: &mut Vec<u8>) -> Result<bool, StoreError>
+        ensures asks { OnlyAsks K.contents K.leaves K.faults K.reads 1 self.old self.new }
+
+        ensures found { IfSome (K.contents self.new.keeper.now) (λ c. IfOk result (λ found. IsNext (with_all c self.old.pending.batch) table after.now found key.new.items)) }
+        ensures above { StaysAbove after.now result key.new.items }
+        ensures failed { result ≡ Err StoreError.Failed → Rose (K.faults self.old.keeper.now) (K.faults self.new.keeper.now) }
+        ensures damaged { IfErr result (λ e. IfDamage e (λ _. ⊥)) }
+    {
+        let found = self.keeper.next(table, after, key)?;
+        let Some(least) = self.pending.batch.least_above(table, after)? else {
+            return Ok(found);
+        };
+        take_first(found, key, least)?;
+        Ok(true)
+    }
+
+    /// Puts a record of a file, a key name or a certificate, behind both records of table 1 where there are none. An error
+    /// leaves all as it was.
+    pub fn keep(&mut self, table: u8, key: &[u8], body: &[u8]) -> Result<(), NoMemory>
+        requires beside { is_beside table ≡ true }
+        requires keyed { 0 < length key.now }
         ensures keeper { self.new.keeper ≡ self.old.keeper }
-        ensures ok { OnOk result (self.new.pending ≡ record self.old.pending { batch = self.old.pending.batch ++ record_puts self.old.pending.is_new self.old.pending.count 2 id.0 bytes.now; is_new = false }) }
+        ensures ok { OnOk result (self.new.pending ≡ record self.old.pending { batch = self.old.pending.batch ++ record_puts self.old.pending.is_new self.old.pending.count table key.now body.now; is_new = false }) }
         ensures err { OnErr result (self.new.pending ≡ self.old.pending) }
     {
-        self.pending.put(FILES, id.as_slice(), bytes)
+        self.pending.put(table, key, body)
     }
 
     /// Puts the records of one more revision, behind both records of table 1 where there are none: its text under its id,
@@ -203,6 +225,18 @@ impl<'a, K: Keeper> Draft<'a, K> {
     {
         self.pending.count
     }
+}
+
+// Replaces the key that a keeper gave, if it gave one, by a pending one that is less.
+fn take_first(found: bool, key: &mut Vec<u8>, pending: &[u8]) -> Result<(), NoMemory>
+    ensures { OnOk result (key.new.items ≡ first_key found key.old.items pending.now) }
+{
+    if found && !pending.cmp(key.as_slice()).is_lt() {
+        return Ok(());
+    }
+    key.clear();
+    key.extend_from_slice(pending)?;
+    Ok(())
 }
 
 // What stands just below a key of twenty bytes among keys of twenty, and how many of these bytes it has.

@@ -36,7 +36,7 @@ impl<'a, K: Keeper> Draft<'a, K> {
         let key = id.0.as_slice();
         let mut held = Vec::new(self.alloc());
         if !self.get(FILES, key, &mut held)? {
-            self.keep_file(id, bytes)?;
+            self.keep(FILES, key, bytes)?;
             return Ok(id);
         }
         if held.as_slice() != bytes {

@@ -33,4 +33,4 @@ pub use memory::Memory;
 pub use meta::Meta;
 pub use pending::Pending;
 pub use rosters::Rebuilt;
-pub use tables::{FILES, LOG, META, ROSTERS, TEXTS};
+pub use tables::{CERTS, FILES, KEYS, LOG, META, ROSTERS, TEXTS};

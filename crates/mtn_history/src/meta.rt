@@ -66,7 +66,7 @@ fn read_version<K: Keeper>(alloc: Global, keeper: &mut K) -> Result<(), StoreErr
     if !keeper.get(META, b"version", &mut body)? {
         return Err(missing(alloc, META, b"version"));
     }
-    if body.as_slice() != b"1".as_slice() {
+    if body.as_slice() != b"2".as_slice() {
         return Err(bad(alloc, META, b"version", &body));
     }
     Ok(())

@@ -165,7 +165,7 @@ fn put_meta(batch: &mut Batch, is_new: bool, count: u64) -> Result<(), NoMemory>
 {
     if is_new {
         batch.put(META, b"count", &count.to_be_bytes())?;
-        batch.put(META, b"version", b"1")?;
+        batch.put(META, b"version", b"2")?;
     }
     Ok(())
 }

@@ -14,3 +14,9 @@ pub const LOG: u8 = 4;
 
 /// Under each position the roster of its revision, whole or as it differs from another.
 pub const ROSTERS: u8 = 5;
+
+/// Each key's name under the key's id. Table 6 is that of an older version's certificates, and is never read.
+pub const KEYS: u8 = 7;
+
+/// Each certificate as a key, without a body.
+pub const CERTS: u8 = 8;

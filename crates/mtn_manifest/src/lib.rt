@@ -12,7 +12,7 @@
 
 ghost use Rattle.std.specs.Prelude.{◌≡◌, ◌++◌, ◌∷◌, IfOk, OnOk, OnErr};
 ghost use Rattle.mtn_basic_io.specs.Spelling.{stanza_text, spelling};
-ghost use Rattle.mtn_basic_io.specs.Front.{IsFront};
+ghost use Rattle.mtn_base.specs.Front.{IsFront};
 ghost use Rattle.mtn_manifest.specs.Manifest.{node_stanza, manifest_of, text_at, kept_at, IsMet};
 
 mod printing;

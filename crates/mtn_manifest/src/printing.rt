@@ -2,7 +2,7 @@
 ghost use Rattle.std.specs.Prelude.{◌≡◌, ◌≤◌, ◌++◌, ◌∷◌, [], ℕ, List, filter_map, is_some, true, OnOk};
 ghost use Rattle.std.specs.List.{flat_map, list_any, cons_option};
 ghost use Rattle.mtn_basic_io.specs.Spelling.{line_text, longest, stanza_text, spelling};
-ghost use Rattle.mtn_basic_io.specs.Front.{IsFront};
+ghost use Rattle.mtn_base.specs.Front.{IsFront};
 ghost use Rattle.mtn_roster.specs.declared.entry.Attr.{Attr};
 ghost use Rattle.mtn_manifest.specs.Manifest.{attr_line, body_lines, node_stanza, head_stanza};
 

@@ -1,6 +1,6 @@
 -- What a merge comes to it comes to in another order of the log.
 use Rattle.std.specs.Prelude.{if◌then◌else◌}
-use Rattle.std.proofs.Common.{◌≡◌, ℕ, Bool, true, false, List, [], ◌∷◌, Option, Some, None, Result, Ok, Err, option_map, refl, sym, ap, ◌∙◌, subst, inl, inr, ◌⊎◌}
+use Rattle.std.proofs.Common.{◌≡◌, ℕ, Bool, List, [], ◌∷◌, Option, Some, None, Result, Ok, Err, option_map, refl, sym, ap, ◌∙◌, subst, inl, inr, ◌⊎◌}
 use Rattle.mtn_base.specs.Hex.{id_of}
 use Rattle.mtn_base.specs.declared.id.Id.{Id}
 use Rattle.mtn_base.specs.declared.refusal.Cause.{Cause}
@@ -18,7 +18,7 @@ use Rattle.mtn_model.specs.Outcome.{Outcome}
 use Rattle.mtn_model.specs.State.{State}
 use Rattle.mtn_model.specs.Table.{Table}
 use Rattle.mtn_order.proofs.Framing.{is_outcome, of_history_free, same_done, same_refused}
-use Rattle.mtn_order.proofs.Merging.{kept_merge, same_edges, same_sides}
+use Rattle.mtn_order.proofs.Merging.{kept_merge, same_edges}
 use Rattle.mtn_order.proofs.Queries.{same_unknown}
 use Rattle.mtn_order.specs.Free.{IsOrderFree, IsSameOutcome}
 use Rattle.mtn_plans.specs.Plans.{Ends, EndsUnless, IsConflicted, IsMade, IsResult, IsUnborn, Looks, LooksAtSides, Merges, Plan, PlansGiven, PlansPayload, PlansSides, Unless, merge_text, merged_or, text_refusal}
@@ -27,7 +27,7 @@ use Rattle.mtn_plans.specs.declared.outcome.Outcome.TheVariants.{Conflicted, Mer
 use Rattle.mtn_renaming.proofs.Refusing.{same_above, same_parent, same_place}
 use Rattle.mtn_renaming.specs.Order.{IsSameUpToOrder}
 use Rattle.mtn_renaming.specs.Renaming.{IsRenaming}
-use Rattle.mtn_replay.specs.Making.{is_above, place_of, too_long, too_many}
+use Rattle.mtn_replay.specs.Making.{place_of, too_long, too_many}
 use Rattle.mtn_resolve.specs.Overriding.{overridden}
 use Rattle.mtn_resolve.specs.declared.resolution.Resolution.{Resolution}
 use Rattle.mtn_roster.specs.Tree.{Tree}

@@ -10,7 +10,8 @@ use Rattle.mtn_answers.specs.declared.query.Line.{Line}
 use Rattle.mtn_answers.specs.declared.query.Query.{Query}
 use Rattle.mtn_answers.specs.declared.query.Query.TheVariants.{Parents, Children, Ancestors, Descendents, CommonAncestors, EraseAncestors, Toposort, AncestryDifference, Leaves, Roots}
 use Rattle.mtn_answers.specs.Lines.{HasParents, IsGraph}
-use Rattle.mtn_answers.specs.Queries.{first_unknown, IsAbove, IsAnswer, IsAsked, IsHeld, IsListOf, IsParent, IsProperlyAbove}
+use Rattle.mtn_base.specs.Lists.{IsListOf}
+use Rattle.mtn_answers.specs.Queries.{first_unknown, IsAbove, IsAnswer, IsAsked, IsHeld, IsParent, IsProperlyAbove}
 use Rattle.mtn_answers.proofs.Lists.{listed_by}
 use Rattle.mtn_step.specs.declared.call.Call.TheVariants.{Ask}
 use Rattle.mtn_order.specs.Free.{in_log_order}

@@ -13,7 +13,8 @@ use Rattle.mtn_replay.specs.Making.{made, refusal_of}
 use Rattle.mtn_model.specs.State.{Logged, State}
 use Rattle.mtn_order.specs.Free.{IsOrderFree}
 use Rattle.mtn_order.proofs.Framing.{is_outcome, other_history, same_unless}
-use Rattle.mtn_order.proofs.States.{lawful_text, same_with_text}
+use Rattle.mtn_replay.proofs.CertLemmas.{lawful_text}
+use Rattle.mtn_order.proofs.States.{same_with_text}
 use Rattle.mtn_order.proofs.Texts.{same_text, text_none}
 use Rattle.mtn_renaming.specs.Order.{IsSameUpToOrder}
 use Rattle.mtn_renaming.specs.Renaming.{elsewhere}

@@ -8,11 +8,10 @@ use Rattle.std.proofs.lemmas.Slice.Eq.{bytes_eq-Decides}
 use Rattle.mtn_base.specs.Hex.{id_of}
 use Rattle.mtn_base.specs.declared.refusal.Cause.{Cause}
 use Rattle.mtn_base.specs.declared.refusal.Cause.TheVariants.{Collision, TextTooLong}
-use Rattle.mtn_history_laws.specs.History.{Revision}
 use Rattle.mtn_replay.specs.Files.{collision, file_refusal, with_file}
 use Rattle.mtn_replay.proofs.FileLemmas.{insert_held, lawful_more}
-use Rattle.mtn_replay.specs.Lawful.{IsHistory, IsLawful, IsNext}
-use Rattle.mtn_replay.proofs.Histories.{history_more}
+use Rattle.mtn_replay.specs.Lawful.{IsLawful}
+use Rattle.mtn_replay.proofs.CertLemmas.{with_text}
 use Rattle.mtn_model.specs.State.{Logged, State}
 use Rattle.mtn_model.specs.Table.{Table}
 use Rattle.mtn_renaming.specs.Order.{IsSameUpToOrder}
@@ -38,19 +37,6 @@ lawful_file f s bytes law fine = by (nat_lt 67108864 (length bytes)) refl fine
         let small : length bytes ≤ 67108864 = grind (arith, nat_tests) in
         lawful_held f s bytes law (get s.files (f bytes)) refl e small
 
--- a state with one more text
-abbrev pub with_text : State → Logged → State
-with_text s l = record s { log = s.log ++ l ∷ [] }
-
--- a text that is accepted leads to a lawful state
-pub lawful_text : (f : List ℕ → List ℕ) (s : State) (h : List Revision) (l : Logged) (v : Revision) → IsLawful f s → IsHistory f s.files s.log h → IsNext f s.files h l v → IsLawful f (with_text s l)
-lawful_text f s h l v law is next = record {
-  files = law.files;
-  history = h ++ v ∷ [];
-  log = history_more f s.files s.log h l v is next;
-  certs = law.certs;
-}
-
 texts_more : (a b : List Logged) (l m : Logged) → ((k : Logged) → Contains a k → Contains b k) → Contains (a ++ l ∷ []) m → Contains (b ++ l ∷ []) m
 texts_more a b l m to c =
     ⊎_elim (λ d. Contains-append_left b (l ∷ []) m (to m d)) (λ e. subst (Contains (b ++ l ∷ [])) e (Contains-push b l)) (Contains-push_cases a l m c)
@@ -63,6 +49,7 @@ same_with_text f s t l same one other = record {
   files = same.files;
   texts = λ m. (texts_more s.log t.log l m (λ k. (same.texts k).0), texts_more t.log s.log l m (λ k. (same.texts k).1));
   certs = same.certs;
+  keys = same.keys;
 }
 
 pub same_file_refusal : (f : List ℕ → List ℕ) (s t : State) (bytes : List ℕ) → IsSameUpToOrder f s t → file_refusal f t bytes ≡ file_refusal f s bytes
@@ -76,4 +63,5 @@ same_with_file f s t bytes same fine = record {
   files = ap (λ m. insert m (f bytes) bytes) same.files;
   texts = same.texts;
   certs = same.certs;
+  keys = same.keys;
 }

@@ -14,7 +14,8 @@ use Rattle.mtn_packets.specs.declared.packet.PacketKey.{PacketKey}
 use Rattle.mtn_packets.specs.declared.packet.PacketKey.TheVariants as key
 use Rattle.mtn_packets.specs.Packets.{is_space, is_plain, is_field_byte, has_no_bracket, IsField, IsBase64, IsBlank, SpacedId, SpacedField, IsData, IsCert, IsPacket, ArePackets, key_from, key_of, end_mark}
 use Rattle.mtn_packets.specs.Printed.{payload_text, value_text, key_text, printed, IsKey, IsWritable, IsId, IsKeyOfBytes, IsOfBytes}
-use Rattle.mtn_packets.proofs.Symbols.{all_both, plain_payload, packed_payload, plain_value, packed_value, id_again, id_text}
+use Rattle.mtn_packets.proofs.Symbols.{all_both, plain_payload, packed_payload, plain_value, packed_value}
+use Rattle.mtn_base.proofs.Digits.{id_again, id_text}
 
 lower_is_plain : (b : ℕ) → is_lower_digit b ≡ true → is_plain b ≡ true
 lower_is_plain b e = grind (arith, e)
@@ -33,7 +34,7 @@ all_weaker p q h (x ∷ xs) all = let parts = and_parts (p x) (list_all p xs) al
 -- ---- the head
 
 pub spaced_id : (id : Id) (text rest : List ℕ) → IsId id → text ≡ 32 ∷ (encode_lower id.0 ++ rest) → SpacedId text id rest
-spaced_id id text rest is whole = record { gap = 32 ∷ []; digits = encode_lower id.0; is_gap = (omega arith, refl); forty = id_text id is; is_id = id_again id is; whole = whole }
+spaced_id id text rest is whole = record { gap = 32 ∷ []; digits = encode_lower id.0; is_gap = (omega arith, refl); forty = id_text id is.0 is.1; is_id = id_again id is.0 is.1; whole = whole }
 
 -- LF, seven spaces and a field, on a line of its own
 pub spaced_field : (field rest : List ℕ) → IsField field → SpacedField (codes "\n       " ++ (field ++ 10 ∷ rest)) field (10 ∷ rest)
@@ -46,7 +47,7 @@ key_is_field (key.Id id) ok bytes =
 key_is_field (key.Name name) ok bytes = ok.0
 
 pub key_again : (k : PacketKey) → IsKey k → IsKeyOfBytes k → k ≡ key_of (key_text k)
-key_again (key.Id id) ok bytes = sym (ap (λ o. key_from o (encode_lower id.0)) (id_again id bytes))
+key_again (key.Id id) ok bytes = sym (ap (λ o. key_from o (encode_lower id.0)) (id_again id bytes.0 bytes.1))
 key_again (key.Name name) ok bytes = sym (ap (λ o. key_from o name) ok.1)
 
 plain_id : (id : Id) → IsId id → has_no_bracket (encode_lower id.0) ≡ true

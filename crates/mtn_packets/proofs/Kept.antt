@@ -1,7 +1,7 @@
 -- The old bytes stay in front.
 use Rattle.std.proofs.Common.{◌≡◌, ℕ, List, [], ◌∷◌, ◌++◌, sym, ap, ◌∙◌, append_assoc}
 use Rattle.std.proofs.lemmas.List.{append-nil}
-use Rattle.mtn_packets.specs.Front.{IsFront}
+use Rattle.mtn_base.specs.Front.{IsFront}
 
 pub front_same : (old new : List ℕ) → new ≡ old → IsFront old new
 front_same old new e = record { more = []; whole = e ∙ sym (append-nil old) }

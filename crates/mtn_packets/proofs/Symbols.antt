@@ -8,13 +8,9 @@ use Rattle.std.proofs.lemmas.Bool.{and_parts, and_from, agree_below_at}
 use Rattle.std.proofs.lemmas.List.{take-append-drop, take_all, append-nil}
 use Rattle.std.proofs.lemmas.List.Folds.{list_all-append}
 use Rattle.std.proofs.lemmas.List.Elements.{filter-append}
-use Rattle.hex.specs.Hex.{encode_lower, encode_with, lower_digits}
-use Rattle.hex.proofs.HexLemmas.{length-encode_with, decode_sized-encode_lower}
 use Rattle.base64.specs.Engines.{standard}
 use Rattle.base64.specs.GeneralPurpose.{encode_of, IsBytes}
 use Rattle.base64.specs.Rfc4648.{encode_symbols, padding_len}
-use Rattle.mtn_base.specs.declared.id.Id.{Id}
-use Rattle.mtn_base.specs.Hex.{is_lower_digit, IsIdText, read_id}
 use Rattle.mtn_packets.specs.Packets.{is_space, is_plain, has_no_bracket}
 use Rattle.mtn_packets.specs.Printed.{line, payload_text, value_text, IsId}
 use Rattle.mtn_packets.proofs.Lines.{payload_some, payload_none, value_none}
@@ -111,23 +107,3 @@ packed_value (b ∷ bs) =
     let whole = payload_some (b ∷ bs) (omega arith) in
     let feed = filter-append is_ink (value_text (b ∷ bs)) (10 ∷ []) in
     sym (append-nil (filter is_ink (value_text (b ∷ bs)))) ∙ sym feed ∙ sym (ap (filter is_ink) whole) ∙ packed_payload (b ∷ bs)
-
--- ---- ids
-
-digit_is_lower : (k : ℕ) → k < 16 → is_lower_digit (slice_index lower_digits k) ≡ true
-digit_is_lower k lt = agree_below_at (λ (n : ℕ). is_lower_digit (slice_index lower_digits n)) (λ n. true) 16 k refl lt
-
-pub digits_are_lower : (bytes : List ℕ) → IsBytes bytes → list_all is_lower_digit (encode_lower bytes) ≡ true
-unfolding encode_with
-digits_are_lower [] small = refl
-digits_are_lower (b ∷ bytes) small =
-    let below : b < 256 = small 0 in
-    let high : b / 16 < 16 = omega arith in
-    let low : b % 16 < 16 = omega arith in
-    rw (digit_is_lower (b / 16) high, digit_is_lower (b % 16) low) (digits_are_lower bytes (λ i. small (suc i)))
-
-pub id_again : (id : Id) → IsId id → read_id (encode_lower id.0) ≡ Some id
-id_again id is = rw (digits_are_lower id.0 is.1, decode_sized-encode_lower id.0 20 is.0 is.1) refl
-
-pub id_text : (id : Id) → IsId id → IsIdText (encode_lower id.0)
-id_text id is = record { forty = omega (arith, length-encode_with lower_digits id.0, is.0); digits = digits_are_lower id.0 is.1 }

@@ -1,5 +1,5 @@
 -- What the parents of a new revision make its basis.
-use Rattle.std.specs.Prelude.{slice_get, find, is_none, option_and_then, filter_map, option_map}
+use Rattle.std.specs.Prelude.{All, slice_get, find, is_none, option_and_then, filter_map, option_map}
 use Rattle.std.specs.List.{cons_option}
 use Rattle.std.proofs.Common.{◌≡◌, ◌<◌, ℕ, Bool, true, false, cond, List, [], ◌∷◌, length, Option, Some, None, refl, sym, ap, ◌∙◌, subst, arith}
 use Rattle.mtn_base.specs.declared.id.Id.{Id}
@@ -11,6 +11,8 @@ use Rattle.mtn_roster_deltas.specs.Chain.{Entries}
 use Rattle.mtn_history.specs.Revisions.{Kept}
 use Rattle.mtn_make_roster.specs.Basis.{IsBasis, IsParentAt, AreTwoParents, AreUncommonIn, Underlies}
 use Rattle.mtn_make_roster.specs.declared.basis.Basis.{Basis}
+use Rattle.mtn_make_roster.specs.declared.basis.Basis.TheVariants.{Root}
+use Rattle.mtn_history_laws.proofs.Growing.{grown_none}
 use Rattle.mtn_model.specs.State.{State}
 use Rattle.mtn_model.specs.Table.{Contents}
 use Rattle.mtn_history.specs.Stands.{IsFounded}
@@ -175,6 +177,19 @@ moved_based told p q is edges basis id places known depth h = subst (λ (x : Pen
 
 pub under : (h : List Revision) (edges : List Edge) (basis : Basis) (id : Id) (shape : List Edge) → IsGrown h → place_of h id ≡ None → edges ≡ shape → IsBasis h shape basis → Underlies h edges basis id
 under h edges basis id shape grown new is has = record { grown = grown; fresh = new; parents = subst (λ (es : List Edge). IsBasis h es basis) (sym is) has }
+
+-- edges without a parent are one, over which nothing has to stand
+pub root_alone : (edges : List Edge) → AreEdges edges → All (λ (e : Edge). e.parent ≡ None) edges → (e : Edge) × (edges ≡ e ∷ []) × (e.parent ≡ None)
+root_alone [] lawful none = absurd lawful
+root_alone (e ∷ []) lawful none = (e, refl, none 0 e (omega arith))
+root_alone (e ∷ f ∷ []) lawful none = absurd (subst (λ o. Ascend o f.parent) (none 0 e (omega arith)) lawful.2)
+root_alone (e ∷ f ∷ g ∷ more) lawful none = absurd lawful
+
+pub under_none : (edges : List Edge) (id : Id) → AreEdges edges → All (λ (e : Edge). e.parent ≡ None) edges → Underlies [] edges Root id
+under_none edges id lawful none = let alone = root_alone edges lawful none in under [] edges Root id (alone.0 ∷ []) grown_none refl alone.1 alone.2
+
+pub some_places : (at : ℕ) (more places : List ℕ) → places ≡ at ∷ more → places ≡ [] → ⊥
+some_places at more places is none = let long : length (at ∷ more) ≡ 0 = ap length (sym is ∙ none) in omega (arith, long)
 
 pub no_places : (places : List ℕ) → length places < 1 → places ≡ []
 no_places [] lt = refl

@@ -210,7 +210,7 @@ found_damage told c p x tells meta (inr (inl w)) = inr (inr (inl (record { count
 found_damage told c p x tells meta (inr (inr (inl w))) = inr (inr (inr (inl (record { count = p.count; counted = below_counted (with_all c p.batch) p.is_new p.count w.place meta w.below; wrong = w }))))
 found_damage told c p x tells meta (inr (inr (inr u))) =
     let same : u.records ≡ c = one told u.records c u.tells tells in
-    inr (inr (inr (inr (inr (record {
+    inr (inr (inr (inr (inr (inl (record {
       count = p.count;
       counted = below_counted (with_all c p.batch) p.is_new p.count u.place meta u.below;
       place = u.place;
@@ -218,7 +218,7 @@ found_damage told c p x tells meta (inr (inr (inr u))) =
       bad = u.bad;
       held = subst (λ (y : Contents). IsHeldAt (with_all y p.batch) u.place x ⊎ IsRosterHeld (with_all y p.batch) u.place x) same u.held;
       unfit = λ f s stands. let o = opened_by p.is_new p.count f (with_all c p.batch) s meta stands in u.unfit f s (founded f told c p s tells (record { count = o.0; stands = o.1 }));
-    })))))
+    }))))))
   where
     one : (o : Option Contents) (a b : Contents) → o ≡ Some a → o ≡ Some b → a ≡ b
     one o a b x y = cc

@@ -1,5 +1,5 @@
 -- What is looked for one after the other.
-use Rattle.std.specs.Prelude.{slice_get, find, filter_map, is_none, option_map, option_and_then, if◌then◌else◌, All, Contains}
+use Rattle.std.specs.Prelude.{slice_get, find, filter_map, is_none, option_map, option_and_then, if◌then◌else◌, All, Contains, max}
 use Rattle.std.specs.List.{cons_option}
 use Rattle.std.specs.FinMap.{get}
 use Rattle.std.specs.BTreeSet.{BTreeSet, contains}
@@ -24,6 +24,7 @@ use Rattle.mtn_mark_laws.specs.Rule.{AreUncommon}
 use Rattle.mtn_join.specs.Join.{id_cmp}
 use Rattle.mtn_replay.specs.Making.{place_of, parents_of, unknown_parent, new_content, new_contents}
 use Rattle.mtn_model.specs.Table.{Table}
+use Rattle.mtn_history.specs.declared.pending.Pending.{Pending}
 use Rattle.mtn_history.specs.declared.errors.HistoryError.{HistoryError}
 use Rattle.mtn_history.specs.declared.errors.HistoryError.TheVariants.{Refused, Store}
 use Rattle.mtn_put_revision.specs.Finding.{unknown_in, first_unknown, IsRefusal, IsUnknown, AreIdsAt}
@@ -281,3 +282,8 @@ all_snoc P (y ∷ ys) x all h (suc k) d lt = all_snoc P ys x (λ j e low. all (s
 
 pub uncommon_in : (h : List Revision) (p q : ℕ) (positions : List ℕ) (ids : BTreeSet Id) → AreUncommon (parents_at h) p q positions → AreIdsAt h positions ids → AreUncommonIn h p q (record { positions = positions; ids = ids })
 uncommon_in h p q positions ids exact are = record { positions = exact; ids = are }
+
+-- what is at most the greater of two positions of the log is one
+pub within_count : (xs ys : List ℕ) (a b : ℕ) (p q : Pending) → ys ≡ xs → q ≡ p → a < p.count → b < p.count → All (λ x. x ≤ max a b) xs → All (λ x. x < q.count) ys
+within_count xs ys a b p q is same left right all =
+    subst (λ (zs : List ℕ). All (λ x. x < q.count) zs) (sym is) (subst (λ (r : Pending). All (λ x. x < r.count) xs) (sym same) (λ i d lt. let h = all i d lt in omega arith))

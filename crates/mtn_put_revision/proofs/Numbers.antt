@@ -167,3 +167,8 @@ pub never_past : (f : List ℕ → List ℕ) (told : Option Contents) (p : Pendi
 never_past f told p s d n is over =
     past n (length d.stands.kept) 0 (subst (λ m. m ≤ 1 + 100000 * length d.stands.kept) (sym is) (next_low f s.files s.log d.stands.history d.stands.kept d.stands.spelled d.stands.revisions))
     (subst (λ m. m ≤ 2147483648) (sym (d.stands.revisions.long ∙ d.stands.spelled.long)) (log_is_short f s.files s.log d.stands.history d.stands.spelled)) over
+
+-- where no node has a number yet, nothing clashes but behind a record
+pub logged : (known : List Entries) (next count : ℕ) → (count ≡ 0 → next ≡ 1) → known ≡ [] → (AreKnown known next → ⊥) → 0 < count
+logged known next zero first none clash = absurd (clash (subst (λ (k : List Entries). AreKnown k next) (sym none) (subst (AreKnown []) (sym (first refl)) none_known)))
+logged known next (suc n) first none clash = omega arith

@@ -1,5 +1,5 @@
 // The records of a new revision, put behind the others.
-ghost use Rattle.std.specs.Prelude.{◌≡◌, ◌<◌, ◌≤◌, ◌^◌, All, List, ℕ, length, Err, IfErr, IfSome, OnOk, OnErr};
+ghost use Rattle.std.specs.Prelude.{◌≡◌, ◌<◌, ◌≤◌, ◌^◌, [], All, List, ℕ, length, Err, IfErr, IfSome, OnOk, OnErr};
 ghost use Rattle.mtn_roster_deltas.specs.Numbering.{shown};
 ghost use Rattle.mtn_changes.specs.declared.change.Edge.{Edge};
 ghost use Rattle.mtn_replay.specs.Lawful.{IsNext};
@@ -35,6 +35,7 @@ pub fn keep<K: Keeper>(
     requires room { draft.old.pending.count < 2147483648 }
     requires few { length known.now.places.now ≤ 2 }
     requires below { All (λ p. p < draft.old.pending.count) known.now.places.now }
+    requires unknown { known.now.places.now ≡ [] → shown known.now.entries.now ≡ [] }
     requires parents { (f : List ℕ → List ℕ) (s : State) → (d : IsFounded f (K.contents draft.old.keeper.now) draft.old.pending s) →
         AreKeptAt d.stands.kept known.now.places.now (shown known.now.entries.now) }
     requires first { IfSome (K.contents draft.old.keeper.now) (λ c. IsFirstRebuilt (with_all c draft.old.pending.batch) known.now.places.now (shown known.now.entries.now) known.now.depth) }

@@ -45,6 +45,7 @@ fn tree_or<I: Ident, K: Keeper>(
 ) -> Result<Roster, HistoryError>
     requires edges { AreEdges fresh.now.read.now.edges }
     requires parent { IfSome parent (λ p. p < draft.old.pending.count) }
+    requires root { parent ≡ None → Underlies [] fresh.now.read.now.edges basis.now fresh.now.id }
     requires based { (f : List ℕ → List ℕ) (s : State) → (d : IsFounded f (K.contents draft.old.keeper.now) draft.old.pending s) →
         Underlies d.stands.history fresh.now.read.now.edges basis.now fresh.now.id }
     requires planned { (s : State) → (d : IsFounded (I.meaning ident.now) (K.contents draft.old.keeper.now) draft.old.pending s) →
@@ -82,6 +83,8 @@ fn over<I: Ident, K: Keeper>(
     requires room { draft.old.pending.count < 2147483648 }
     requires few { length known.now.places.now ≤ 2 }
     requires below { All (λ p. p < draft.old.pending.count) known.now.places.now }
+    requires root { known.now.places.now ≡ [] → Underlies [] fresh.now.read.now.edges basis.now fresh.now.id }
+    requires unknown { known.now.places.now ≡ [] → shown known.now.entries.now ≡ [] }
     requires based { (f : List ℕ → List ℕ) (s : State) → (d : IsFounded f (K.contents draft.old.keeper.now) draft.old.pending s) →
         Underlies d.stands.history fresh.now.read.now.edges basis.now fresh.now.id × AreParents d.stands.history d.stands.kept fresh.now.read.now.edges known.now.places.now (shown known.now.entries.now) known.now.depth }
     requires first { IfSome (K.contents draft.old.keeper.now) (λ c. IsFirstRebuilt (with_all c draft.old.pending.batch) known.now.places.now (shown known.now.entries.now) known.now.depth) }
@@ -217,6 +220,7 @@ pub fn over_places<I: Ident, K: Keeper>(
     requires room { draft.old.pending.count < 2147483648 }
     requires few { length places.now ≤ 2 }
     requires below { All (λ p. p < draft.old.pending.count) places.now }
+    requires root { places.now ≡ [] → All (λ e. e.parent ≡ None) fresh.now.read.now.edges }
     requires parents { (f : List ℕ → List ℕ) (s : State) → (d : IsFounded f (K.contents draft.old.keeper.now) draft.old.pending s) →
         AreOn d.stands.history fresh.now places.now }
     requires planned { (s : State) → (d : IsFounded (I.meaning ident.now) (K.contents draft.old.keeper.now) draft.old.pending s) →

@@ -1,5 +1,5 @@
 // Where the parents of a revision stand.
-ghost use Rattle.std.specs.Prelude.{◌≡◌, ◌<◌, ◌≤◌, All, length, List, ℕ, Some, None, Err, IfOk, IfErr, IfSome, OnOk};
+ghost use Rattle.std.specs.Prelude.{◌≡◌, ◌<◌, ◌≤◌, All, length, [], List, ℕ, Some, None, Err, IfOk, IfErr, IfSome, OnOk};
 ghost use Rattle.mtn_replay.specs.Making.{parents_of, place_of as place_in, unknown_parent};
 ghost use Rattle.mtn_model.specs.State.{State};
 ghost use Rattle.mtn_ports.specs.Causes.{Rose};
@@ -51,6 +51,7 @@ pub fn places_of<K: Keeper>(
     ensures pending { draft.new.pending ≡ draft.old.pending }
     ensures few { IfOk result (λ ps. length ps.items ≤ length edges.now) }
     ensures below { IfOk result (λ ps. All (λ p. p < draft.old.pending.count) ps.items) }
+    ensures none { IfOk result (λ ps. ps.items ≡ [] → All (λ e. e.parent ≡ None) edges.now) }
     ensures places { (f : List ℕ → List ℕ) (s : State) → (d : IsFounded f (K.contents draft.new.keeper.now) draft.old.pending s) →
         IfOk result (λ ps. ps.items ≡ parents_of d.stands.history edges.now) }
     ensures known { (f : List ℕ → List ℕ) (s : State) → (d : IsFounded f (K.contents draft.new.keeper.now) draft.old.pending s) →

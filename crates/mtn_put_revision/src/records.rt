@@ -41,6 +41,7 @@ pub fn next_number<K: Keeper>(draft: &mut Draft<'_, K>) -> Result<u64, StoreErro
     ensures stays { Stays K.contents K.leaves K.faults draft.old.keeper.now draft.new.keeper.now }
     ensures pending { draft.new.pending ≡ draft.old.pending }
     ensures room { IfOk result (λ n. n ≤ 214748364800001) }
+    ensures first { draft.old.pending.count ≡ 0 → IfOk result (λ n. n ≡ 1) }
     ensures next { (f : List ℕ → List ℕ) (s : State) → (d : IsFounded f (K.contents draft.new.keeper.now) draft.old.pending s) →
         IfOk result (λ n. n ≡ next_of d.stands.kept) }
     ensures damaged { IfSome (K.contents draft.new.keeper.now) (λ c. IfErr result (λ e. IfDamage e

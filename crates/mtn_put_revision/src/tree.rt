@@ -1,5 +1,5 @@
 // The tree of a new revision, or its first refusal behind the parents.
-ghost use Rattle.std.specs.Prelude.{◌≡◌, ◌<◌, List, ℕ, None, Err, IfOk, IfErr, IfSome, OnOk};
+ghost use Rattle.std.specs.Prelude.{◌≡◌, ◌<◌, [], List, ℕ, None, Err, IfOk, IfErr, IfSome, OnOk};
 ghost use Rattle.mtn_changes.specs.RevisionText.{AreEdges};
 ghost use Rattle.mtn_basic_io.specs.Spelling.{spelling};
 ghost use Rattle.mtn_replay.specs.Making.{made_tree};
@@ -46,6 +46,7 @@ pub fn tree_of<I: Ident, K: Keeper>(
 ) -> Result<Roster, HistoryError>
     requires edges { AreEdges read.now.edges }
     requires parent { IfSome parent (λ p. p < draft.old.pending.count) }
+    requires root { parent ≡ None → Underlies [] read.now.edges basis.now new }
     requires based { (f : List ℕ → List ℕ) (s : State) → (d : IsFounded f (K.contents draft.old.keeper.now) draft.old.pending s) →
         Underlies d.stands.history read.now.edges basis.now new }
     ensures same_reference { draft.new.keeper.ghost_name ≡ draft.old.keeper.ghost_name }

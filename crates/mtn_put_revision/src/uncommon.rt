@@ -1,5 +1,5 @@
 // What each of two parents has above it that the other lacks.
-ghost use Rattle.std.specs.Prelude.{◌≡◌, ◌<◌, List, ℕ, true, if◌then◌else◌, Err, IfOk, IfErr, IfSome, OnOk};
+ghost use Rattle.std.specs.Prelude.{◌≡◌, ◌<◌, All, List, ℕ, true, if◌then◌else◌, Err, IfOk, IfErr, IfSome, OnOk};
 ghost use Rattle.std.specs.BTreeSet.{contains};
 ghost use Rattle.std.specs.Ordering.{is_eq};
 ghost use Rattle.mtn_base.specs.declared.id.Id.{Id as Named};
@@ -21,8 +21,9 @@ use mtn_ports::Keeper;
 use std::alloc::Global;
 use std::collections::BTreeSet;
 
-// The id of a revision. No position from `count` up stands above a revision, so that none is asked for.
+// The id of a revision.
 fn id_at<K: Keeper>(draft: &mut Draft<'_, K>, at: Pos) -> Result<Id, StoreError>
+    requires { at < draft.old.pending.count }
     ensures same_reference { draft.new.keeper.ghost_name ≡ draft.old.keeper.ghost_name }
     ensures stays { Stays K.contents K.leaves K.faults draft.old.keeper.now draft.new.keeper.now }
     ensures pending { draft.new.pending ≡ draft.old.pending }
@@ -32,9 +33,6 @@ fn id_at<K: Keeper>(draft: &mut Draft<'_, K>, at: Pos) -> Result<Id, StoreError>
         (IsFound (K.contents draft.new.keeper.now) draft.old.pending (with_all c draft.old.pending.batch)))) }
     ensures failed { result ≡ Err StoreError.Failed → Rose (K.faults draft.old.keeper.now) (K.faults draft.new.keeper.now) }
 {
-    if at.0 >= draft.count() {
-        return Err(StoreError::NoMemory);
-    }
     Ok(draft.log_at(at)?.id)
 }
 
@@ -52,6 +50,7 @@ fn ids_of<K: Keeper>(
     draft: &mut Draft<'_, K>,
     positions: &[Pos],
 ) -> Result<BTreeSet<Id>, StoreError>
+    requires { All (λ p. p < draft.old.pending.count) positions.now }
     ensures same_reference { draft.new.keeper.ghost_name ≡ draft.old.keeper.ghost_name }
     ensures stays { Stays K.contents K.leaves K.faults draft.old.keeper.now draft.new.keeper.now }
     ensures pending { draft.new.pending ≡ draft.old.pending }

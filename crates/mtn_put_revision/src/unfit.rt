@@ -1,5 +1,5 @@
 // The record from which no history goes on.
-ghost use Rattle.std.specs.Prelude.{◌≡◌, ◌<◌, IfSome};
+ghost use Rattle.std.specs.Prelude.{◌≡◌, ◌<◌, None, IfSome};
 ghost use Rattle.mtn_ports.specs.Causes.{Rose};
 ghost use Rattle.mtn_ports.specs.Kept.{Stays, with_all};
 ghost use Rattle.mtn_history.specs.Errors.{IfDamage};
@@ -9,8 +9,9 @@ use mtn_ancestry::Pos;
 use mtn_history::{Draft, StoreError};
 use mtn_ports::Keeper;
 
-// The last record of the log; an empty one has none, and nothing but want of memory.
+// The last record of the log, which has one.
 fn last_held<K: Keeper>(draft: &mut Draft<'_, K>) -> StoreError
+    requires { 0 < draft.old.pending.count }
     ensures same_reference { draft.new.keeper.ghost_name ≡ draft.old.keeper.ghost_name }
     ensures stays { Stays K.contents K.leaves K.faults draft.old.keeper.now draft.new.keeper.now }
     ensures pending { draft.new.pending ≡ draft.old.pending }
@@ -18,11 +19,7 @@ fn last_held<K: Keeper>(draft: &mut Draft<'_, K>) -> StoreError
         (IsFound (K.contents draft.new.keeper.now) draft.old.pending (with_all c draft.old.pending.batch))) }
     ensures failed { result ≡ StoreError.Failed → Rose (K.faults draft.old.keeper.now) (K.faults draft.new.keeper.now) }
 {
-    let count = draft.count();
-    if count == 0 {
-        return StoreError::NoMemory;
-    }
-    let at = Pos(count - 1);
+    let at = Pos(draft.count() - 1);
     match draft.logged(at) {
         Ok(_) => draft.log_held(at),
         Err(error) => error,
@@ -49,6 +46,7 @@ pub fn roster_held<K: Keeper>(draft: &mut Draft<'_, K>, at: Pos) -> StoreError
 /// stands for no state, as the caller found.
 pub fn unfit<K: Keeper>(draft: &mut Draft<'_, K>, parent: Option<Pos>) -> StoreError
     requires below { IfSome parent (λ at. at < draft.old.pending.count) }
+    requires logged { parent ≡ None → 0 < draft.old.pending.count }
     ensures same_reference { draft.new.keeper.ghost_name ≡ draft.old.keeper.ghost_name }
     ensures stays { Stays K.contents K.leaves K.faults draft.old.keeper.now draft.new.keeper.now }
     ensures pending { draft.new.pending ≡ draft.old.pending }

@@ -7,7 +7,9 @@ use Rattle.std.specs.Cmp.Lexicographic.{slice_cmp, texts_ties}
 use Rattle.std.proofs.lemmas.Cmp.{nat_list_cmp_total}
 use Rattle.std.proofs.lemmas.Slice.Eq.{bytes_eq-Decides}
 use Rattle.mtn_model.specs.Table.{Table}
-use Rattle.mtn_model.specs.State.{State, AreFiles, empty_state}
+use Rattle.mtn_certs.specs.Certificates.{Certificate}
+use Rattle.mtn_certs.specs.Order.{cert_cmp}
+use Rattle.mtn_model.specs.State.{State, AreFiles, Holds, empty_state}
 use Rattle.mtn_replay.specs.Files.{with_file}
 use Rattle.mtn_replay.specs.Lawful.{Keeps, IsLawful}
 use Rattle.mtn_replay.proofs.Histories.{history_none, history_kept}
@@ -60,7 +62,12 @@ lawful_more f s bytes law none small = record {
   history = law.history;
   log = history_kept f s.files (insert s.files (f bytes) bytes) s.log law.history (keeps_more s.files (f bytes) bytes none) law.log;
   certs = law.certs;
+  spoken_of = law.spoken_of;
+  keys = law.keys;
 }
+
+pub no_certificate : (c : Certificate) → Holds empty c → ⊥
+no_certificate c held = let none : get (empty {X = Unit {0}} {R = cert_cmp}) c ≡ None = get-empty cert_cmp c in cc
 
 pub empty_lawful : (f : List ℕ → List ℕ) → IsLawful f empty_state
 empty_lawful f = record {
@@ -70,7 +77,16 @@ empty_lawful f = record {
   };
   history = [];
   log = history_none f empty;
-  certs = refl;
+  certs = record {
+    lawful = λ c held. absurd (no_certificate c held);
+    revisions = λ c held. absurd (no_certificate c held);
+    keys = λ c held. absurd (no_certificate c held);
+  };
+  spoken_of = λ c held. absurd (no_certificate c held);
+  keys = record {
+    ids = λ id name found. absurd (none_there id name found);
+    names = λ id name found. absurd (none_there id name found);
+  };
 }
   where
     none_there : (id b : List ℕ) → get (empty {X = List ℕ} {R = slice_cmp nat_cmp}) id ≡ Some b → ⊥

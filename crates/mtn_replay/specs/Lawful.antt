@@ -1,14 +1,16 @@
 -- The history that the texts of a log spell, and lawful states.
-use Rattle.std.specs.Prelude.{◌≡◌, ◌≤◌, ℕ, List, length, take, Some, None, slice_get}
-use Rattle.std.specs.FinMap.{empty, get}
+use Rattle.std.specs.Prelude.{◌≡◌, ◌≤◌, ℕ, List, length, take, Some, None, IsSome, slice_get}
+use Rattle.std.specs.FinMap.{get}
 use Rattle.mtn_base.specs.Hex.{id_of}
 use Rattle.mtn_basic_io.specs.Spelling.{AreStanzas}
+use Rattle.mtn_certs.specs.Certificates.{Certificate}
 use Rattle.mtn_changes.specs.declared.change.Revision.{Revision as Spelled}
 use Rattle.mtn_changes.specs.RevisionText.{IsRevisionText, revision_stanzas}
 use Rattle.mtn_history_laws.specs.History.{Revision}
 use Rattle.mtn_model.specs.Table.{Table}
-use Rattle.mtn_model.specs.State.{Logged, State, AreFiles}
+use Rattle.mtn_model.specs.State.{Logged, State, AreCertificates, AreFiles, AreKeys, Holds}
 use Rattle.mtn_replay.specs.Making.{made, place_of, refusal_of}
+use Rattle.mtn_replay.specs.Texts.{text_under}
 
 -- the text spells this revision, whose ids are twenty bytes each
 pub record Spells (text : List ℕ) (r : Spelled) : Type 0 where
@@ -35,10 +37,11 @@ pub record IsHistory (f : List ℕ → List ℕ) (files : Table) (log : List Log
   pub long : length h ≡ length log
   pub each : (k : ℕ) (l : Logged) (v : Revision) → slice_get log k ≡ Some l → slice_get h k ≡ Some v → IsNext f files (take k h) l v
 
--- A lawful state: its files, and a log that spells a history. No command of today adds a certificate; one that does puts
--- their law in place of the last field
+-- A lawful state: its files, a log that spells a history, certificates that each speak of a revision of the log, and key names
 pub record IsLawful (f : List ℕ → List ℕ) (s : State) : Type 0 where
   pub files : AreFiles f s.files
   pub history : List Revision
   pub log : IsHistory f s.files s.log history
-  pub certs : s.certs ≡ empty
+  pub certs : AreCertificates s.certs
+  pub spoken_of : (c : Certificate) → Holds s.certs c → IsSome (text_under s.log c.revision.0)
+  pub keys : AreKeys s.keys

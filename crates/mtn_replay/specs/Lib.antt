@@ -4,3 +4,4 @@ pub mod Graphs
 pub mod Files
 pub mod Texts
 pub mod Accepting
+pub mod Certificates

@@ -10,14 +10,16 @@
 //! by one revision, and more files leave it as it is.
 #![tactic(auto)]
 
-ghost use Rattle.std.specs.Prelude.{◌≡◌, ◌≤◌, ℕ, List, [], ◌∷◌, ◌++◌, length, Some};
+ghost use Rattle.std.specs.Prelude.{◌≡◌, ◌≤◌, ℕ, List, [], ◌∷◌, ◌++◌, length, true, None, Some};
 ghost use Rattle.std.specs.FinMap.{get};
 ghost use Rattle.mtn_history_laws.specs.History.{Revision, IsGrown, TellsAncestors};
-ghost use Rattle.mtn_model.specs.State.{Logged};
+ghost use Rattle.mtn_certs.specs.Certificates.{Certificate, IsIdBytes, IsLawfulCertificate, is_field};
+ghost use Rattle.mtn_model.specs.State.{Logged, State};
 ghost use Rattle.mtn_model.specs.Table.{Table};
 ghost use Rattle.mtn_base.specs.declared.id.Id.{Id};
 ghost use Rattle.mtn_replay.specs.Making.{place_of, is_above};
-ghost use Rattle.mtn_replay.specs.Lawful.{IsHistory, IsNext, Keeps};
+ghost use Rattle.mtn_replay.specs.Certificates.{cert_refusal, with_cert, with_key};
+ghost use Rattle.mtn_replay.specs.Lawful.{IsHistory, IsLawful, IsNext, Keeps};
 
 /// The history that a log spells is grown, so that the laws of marks hold in it.
 pub fn history_is_grown()
@@ -47,4 +49,15 @@ pub fn history_grows()
         IsHistory f files log h → IsNext f files h l v → IsHistory f files (log ++ l ∷ []) (h ++ v ∷ []) }
     ensures files { (f : List ℕ → List ℕ) (files more : Table) (log : List Logged) (h : List Revision) →
         Keeps files more → IsHistory f files log h → IsHistory f more log h }
+{}
+
+/// A lawful state stays lawful with one more accepted text, with one more certificate of a revision that it has, and with one
+/// more key name.
+pub fn stays_lawful()
+    ensures text { (f : List ℕ → List ℕ) (s : State) (h : List Revision) (l : Logged) (v : Revision) →
+        IsLawful f s → IsHistory f s.files s.log h → IsNext f s.files h l v → IsLawful f (record s { log = s.log ++ l ∷ [] }) }
+    ensures cert { (f : List ℕ → List ℕ) (s : State) (c : Certificate) → IsLawful f s → IsLawfulCertificate c → IsIdBytes c.revision.0 → IsIdBytes c.key.0 →
+        cert_refusal s c ≡ None → IsLawful f (with_cert s c) }
+    ensures key { (f : List ℕ → List ℕ) (s : State) (id : Id) (name : List ℕ) → IsLawful f s → IsIdBytes id.0 → is_field name ≡ true →
+        IsLawful f (with_key s id name) }
 {}

@@ -2,10 +2,10 @@
 use Rattle.std.specs.Prelude.{drop, find, filter, filter_map, map, not, option_and_then, slice_get, IfSome, ◌||◌}
 use Rattle.std.specs.BTreeMap.{BTreeMap, get, is_at}
 use Rattle.std.proofs.Common.{◌≡◌, ℕ, zero, suc, ◌+◌, ◌<◌, Bool, true, false, cond, List, [], ◌∷◌, ◌++◌, length, take, get_or, append_assoc, Option, Some, None, refl, sym, ◌∙◌, ap, subst, arith}
-use native.Mathlib.Numerals.{add-one}
 use Rattle.std.proofs.lemmas.List.{take_more, map-append}
 use Rattle.std.proofs.lemmas.List.Elements.{filter-append, filter_map-append}
 use Rattle.mtn_roster.specs.declared.entry.Attr.{Attr}
+use Rattle.mtn_base.proofs.Dropping.{drop_step}
 use Rattle.mtn_base.proofs.Members.{taken}
 use Rattle.mtn_decide.specs.declared.decision.Decision.{Decision}
 use Rattle.mtn_decide.specs.declared.decision.Pending.{Pending}
@@ -37,14 +37,6 @@ pub pending_over : (rs : List Resolution) (xs ys : List Pending) → still_pendi
 pending_over rs xs ys = filter-append (λ (p : Pending). not (is_dropped rs p.entry.name || is_kept rs p.entry.name)) xs ys
 
 -- one more resolution, before those of the table
-drop_next : {X : Type 0} (xs : List X) (i : ℕ) (x : X) → i < length xs → x ≡ get_or xs i x → drop i xs ≡ x ∷ drop (suc i) xs
-drop_next [] i x lt is = absurd (omega (arith, lt))
-drop_next (y ∷ xs) zero x lt is = λ j. sym is j ∷ xs
-drop_next (y ∷ xs) (suc i) x lt is = drop_next xs i x (omega (arith, lt)) is
-
-pub drop_step : {X : Type 0} (xs : List X) (i : ℕ) (x : X) → i < length xs → x ≡ get_or xs i x → drop i xs ≡ x ∷ drop (i + 1) xs
-drop_step xs i x lt is = drop_next xs i x lt is ∙ ap (λ n. x ∷ drop n xs) (sym (add-one i))
-
 pub table_more : (rs : List Resolution) (i : ℕ) (r : Resolution) (s : Subject) (old new : BTreeMap Subject ℕ) → i < length rs → r ≡ get_or rs i r → s ≡ subject_of r →
     IsTable rs (i + 1) old → ((q : Subject) → get subject_cmp new q ≡ cond (is_at (subject_cmp s) q) (Some i) (get subject_cmp old q)) → IsTable rs i new
 table_more rs i r s old new lt is about table h = record {

@@ -12,7 +12,7 @@ use Rattle.mtn_resolve.specs.declared.error.ResolveTextError.TheVariants.{NotTex
 use Rattle.mtn_resolve.specs.Subjects.{subject_of, is_about, is_repeat, AreApart}
 use Rattle.mtn_resolve.specs.Texts.{stanza_of, header, IsResolution, IsNothing, AreResolutions, StandsAt}
 use Rattle.mtn_resolve.specs.Reading.{IsNext, IsRefused, IsList, IsListFault}
-use Rattle.mtn_resolve.proofs.Growing.{drop_step}
+use Rattle.mtn_base.proofs.Dropping.{drop_step}
 
 none_left : {X : Type 0} (f : X → Bool) (xs ys : List X) → list_any f (xs ++ ys) ≡ false → list_any f xs ≡ false
 none_left f [] ys h = refl

@@ -5,7 +5,7 @@ ghost use Rattle.mtn_base.specs.Names.{bytes_cmp};
 ghost use Rattle.mtn_base.specs.declared.id.Id.{Id};
 ghost use Rattle.mtn_base.specs.declared.name.NodeName.{NodeName};
 ghost use Rattle.mtn_basic_io.specs.Spelling.{line_text, longest, stanza_text};
-ghost use Rattle.mtn_basic_io.specs.Front.{IsFront};
+ghost use Rattle.mtn_base.specs.Front.{IsFront};
 ghost use Rattle.mtn_history_laws.specs.Scalars.{Scalar};
 ghost use Rattle.mtn_marking.specs.declared.node.AttrMarks.{AttrMarks};
 ghost use Rattle.mtn_roster.specs.declared.entry.Attr.{Attr};

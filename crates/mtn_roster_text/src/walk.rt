@@ -1,7 +1,7 @@
 // The walk over the nodes.
 ghost use Rattle.std.specs.Prelude.{◌≡◌, ◌++◌, ◌∷◌, map, OnOk, OnErr, IsTrue};
 ghost use Rattle.mtn_base.specs.Names.{bytes_cmp};
-ghost use Rattle.mtn_basic_io.specs.Front.{IsFront};
+ghost use Rattle.mtn_base.specs.Front.{IsFront};
 ghost use Rattle.mtn_basic_io.specs.Spelling.{spelling, stanza_text};
 ghost use Rattle.mtn_marking.specs.declared.node.AttrMarks.{AttrMarks};
 ghost use Rattle.mtn_marking.specs.Marking.{AreFor};

@@ -1,1 +1,2 @@
 mod OneState
+mod SpelledCerts

@@ -1,7 +1,7 @@
 //! Laws of what the records of a store stand for, over the definitions of `mtn_history` alone. Nothing here runs.
 //!
 //! Contents *stand* for a state (`Stands`) where their tables are its files, its texts, and what is kept of the history that
-//! these spell. The crates above, and readers, rely on this: the state is a function of the contents, read off tables 1 to 4
+//! these spell. The crates above, and readers, rely on this: the state is a function of the contents, read off tables 1 to 4, 7 and 8
 //! (`specs/Spelled.antt`), so that `the state of a store` has one meaning in every clause of `run`.
 #![tactic(auto)]
 

@@ -1,7 +1,7 @@
 use Rattle.std.proofs.Common.{◌≡◌, ◌∷◌, ◌++◌, take, map}
 use Rattle.mtn_base.specs.Paths.{path_text}
 use Rattle.mtn_basic_io.specs.Spelling.{spelling}
-use Rattle.mtn_basic_io.specs.Front.{IsFront}
+use Rattle.mtn_base.specs.Front.{IsFront}
 use Rattle.mtn_roster.specs.declared.entry.Entry.{Entry}
 use Rattle.mtn_roster.specs.Tree.{path_of}
 use Rattle.mtn_roster.specs.Walk.{by_path}

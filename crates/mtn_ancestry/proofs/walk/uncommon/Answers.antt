@@ -1,16 +1,18 @@
-use Rattle.std.specs.Prelude.{max}
-use Rattle.std.proofs.Common.{ℕ, ◌+◌, ◌-◌, Option, sym, subst, arith}
+use Rattle.std.specs.Prelude.{All, max}
+use Rattle.std.proofs.Common.{ℕ, suc, ◌+◌, ◌-◌, ◌≤◌, Option, sym, subst, arith}
 use Rattle.mtn_ancestry.specs.Ancestors.{IsUncommon}
 use Rattle.mtn_ancestry.specs.Sets.{IsAscendingListOf}
 use Rattle.mtn_ancestry.specs.declared.frontier.Reach.{Reach}
-use Rattle.mtn_ancestry.specs.Walking.{pending_of, IsUnderWay, IsOrderly}
-use Rattle.mtn_ancestry.proofs.Advancing.{listed_found}
-use Rattle.mtn_ancestry.proofs.Asking.{IsSpent, anywhere, stands_within, spent_next}
+use Rattle.mtn_ancestry.specs.Walking.{pending_of, IsUnderWay, IsOrderly, IsNextBelow}
+use Rattle.mtn_ancestry.proofs.Advancing.{All-reversed, listed_found, none_up_to}
+use Rattle.mtn_ancestry.proofs.Asking.{IsSpent, anywhere, next_under, stands_within, spent_next}
 use Rattle.mtn_ancestry.proofs.walk.uncommon.Goals as goal
 
 pub loop-next-init : goal.loop-next-init
 loop-next-init g c = record {
   matched = c.in_ok-walk.ensures.matched;
+  next_up_to = omega (arith, c.in_ok-walk.ensures.greater);
+  up_to = none_up_to (max c.args.left c.args.right) c.in_ok-walk.walk.left.items c.in_ok-walk.walk.right.items c.in_ok-walk.ensures.none.0 c.in_ok-walk.ensures.none.1;
   asking = record {
     order = c.in_ok-walk.ensures.order;
     same = λ count parents t. t;
@@ -58,6 +60,11 @@ loop-next-preserved g c =
     let inv = c.loop-next.invariant.asking in
     record {
       matched = c.in_ok-next.ensures.matched;
+      next_up_to = next_under c.in-Some.here.0 (suc (max c.args.left c.args.right)) c.in_ok-next.next c.in_ok-next.ensures.below
+          (subst (λ (n : Option (ℕ × Reach)). IsNextBelow n (suc (max c.args.left c.args.right))) c.in-Some.is c.loop-next.invariant.next_up_to);
+      up_to = c.in_ok-next.ensures.up_to (max c.args.left c.args.right)
+          (let h = subst (λ (n : Option (ℕ × Reach)). IsNextBelow n (suc (max c.args.left c.args.right))) c.in-Some.is c.loop-next.invariant.next_up_to in omega arith)
+          c.loop-next.invariant.up_to;
       asking = record {
         order = c.in_ok-next.ensures.order;
         same = λ count parents t. inv.same count parents (c.parents.ensures.same_graph count parents t);
@@ -99,3 +106,10 @@ returns-clause-right g c = λ count parents told.
     c.in_default.is inv.order in
     subst (IsAscendingListOf (IsUncommon parents c.args.right c.args.left)) (sym c.in_ok-ascending-2.ensures)
     (listed_found (IsUncommon parents c.args.right c.args.left) c.loop-next.walk.right.items order.1 all.right_found)
+
+pub returns-clause-within : goal.returns-clause-within
+returns-clause-within g c =
+    let top = max c.args.left c.args.right in (
+      subst (All (λ x. x ≤ top)) (sym c.in_ok-ascending.ensures) (All-reversed (λ x. x ≤ top) c.loop-next.walk.left.items c.loop-next.invariant.up_to.left_up_to),
+      subst (All (λ x. x ≤ top)) (sym c.in_ok-ascending-2.ensures) (All-reversed (λ x. x ≤ top) c.loop-next.walk.right.items c.loop-next.invariant.up_to.right_up_to),
+    )

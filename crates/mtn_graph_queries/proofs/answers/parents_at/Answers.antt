@@ -4,7 +4,7 @@ use Rattle.std.proofs.lemmas.Result.{IfOk-weaker}
 use Rattle.mtn_ancestry.specs.declared.pos.ParentList.TheVariants.{Zero, One, Two}
 use Rattle.mtn_graph_queries.specs.Places.{ids_at}
 use Rattle.mtn_base.specs.Ids.{by_id}
-use Rattle.mtn_answers.specs.Queries.{IsListOf}
+use Rattle.mtn_base.specs.Lists.{IsListOf}
 use Rattle.mtn_graph_queries.proofs.Members.{parents_are}
 use Rattle.mtn_graph_queries.proofs.Wanting.{parents_here}
 use Rattle.mtn_graph_queries.proofs.answers.parents_at.Goals as goal

@@ -5,7 +5,8 @@ use Rattle.mtn_ancestry.specs.declared.pos.LogEntry.{LogEntry}
 use Rattle.mtn_base.specs.declared.id.Id.{Id}
 use Rattle.mtn_history_laws.specs.History.{Revision}
 use Rattle.mtn_replay.specs.Graphs.{Tells}
-use Rattle.mtn_answers.specs.Queries.{IsListOf, IsParent}
+use Rattle.mtn_base.specs.Lists.{IsListOf}
+use Rattle.mtn_answers.specs.Queries.{IsParent}
 use Rattle.mtn_base.specs.Ids.{by_id}
 use Rattle.mtn_base.proofs.IdOrder.{contains_nil}
 use Rattle.mtn_answers.proofs.Lists.{sorted_nil}

@@ -4,7 +4,8 @@ use Rattle.std.proofs.lemmas.List.{get_or_default, take_all}
 use Rattle.std.proofs.lemmas.List.Elements.{All-nil, All-push}
 use Rattle.mtn_answers.specs.Lines.{HasParents}
 use Rattle.mtn_base.specs.Ids.{by_id}
-use Rattle.mtn_answers.specs.Queries.{IsListOf, IsHeld}
+use Rattle.mtn_base.specs.Lists.{IsListOf}
+use Rattle.mtn_answers.specs.Queries.{IsHeld}
 use Rattle.mtn_answers.specs.declared.query.Line.{Line}
 use Rattle.mtn_graph_queries.proofs.Members.{all_are}
 use Rattle.mtn_graph_queries.proofs.Orders.{line_more}

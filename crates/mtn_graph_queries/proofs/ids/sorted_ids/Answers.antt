@@ -2,7 +2,7 @@ use Rattle.std.proofs.Common.{sym, subst}
 use Rattle.std.specs.Prelude.{Contains}
 use Rattle.mtn_graph_queries.specs.Places.{ids_at}
 use Rattle.mtn_base.specs.Ids.{by_id}
-use Rattle.mtn_answers.specs.Queries.{IsListOf}
+use Rattle.mtn_base.specs.Lists.{IsListOf}
 use Rattle.mtn_graph_queries.proofs.Sorting.{by_id_once}
 use Rattle.mtn_graph_queries.proofs.ids.sorted_ids.Goals as goal
 

@@ -2,7 +2,7 @@ use Rattle.std.proofs.Common.{◌≡◌, ◌++◌, take}
 use Rattle.std.specs.Prelude.{filter_map}
 use Rattle.std.specs.List.{flat_map}
 use Rattle.mtn_basic_io.specs.Spelling.{line_text}
-use Rattle.mtn_basic_io.specs.Front.{IsFront}
+use Rattle.mtn_base.specs.Front.{IsFront}
 use Rattle.mtn_manifest.specs.Manifest.{attr_line}
 use Rattle.mtn_manifest.proofs.printing.write_attrs.Given as goal
 

@@ -1,5 +1,5 @@
 use Rattle.std.proofs.Common.{◌≡◌, ◌-◌, ◌≤◌, ◌++◌, length, drop}
-use Rattle.mtn_packets.specs.Front.{IsFront}
+use Rattle.mtn_base.specs.Front.{IsFront}
 use Rattle.mtn_packets.specs.Printed.{value_text}
 use Rattle.mtn_packets.proofs.Lines.{more_lines}
 use Rattle.mtn_packets.proofs.writing.put_value.Given as goal

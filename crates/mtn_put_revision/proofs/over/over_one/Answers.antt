@@ -14,7 +14,7 @@ use Rattle.mtn_history.specs.declared.pending.Pending.{Pending}
 use Rattle.mtn_history.proofs.Founding.{back, grown}
 use Rattle.mtn_put_revision.specs.Finding.{IsRefusal, made_refusal_of}
 use Rattle.mtn_put_revision.specs.Keeping.{Accepts, AreParents, IsFirstRebuilt, IsNew}
-use Rattle.mtn_put_revision.proofs.Bases.{one_basis, moved_based, under}
+use Rattle.mtn_put_revision.proofs.Bases.{some_places, one_basis, moved_based, under}
 use Rattle.mtn_put_revision.proofs.Grounds.{moved, rebuilt_at}
 use Rattle.mtn_put_revision.proofs.Planning.{planned_on}
 use Rattle.mtn_put_revision.proofs.over.over_one.Goals as goal
@@ -55,3 +55,9 @@ returns-clause-accepts g c = moved (λ (q : Pending). (s : State) → (d : IsFou
 
 pub returns-clause-refused : goal.returns-clause-refused
 returns-clause-refused g c = moved (λ (q : Pending). (s : State) → (d : IsFounded (g.I.Ident.meaning c.args.ident.now) (g.K.Keeper.contents c.over.new.draft.keeper.now) q s) → IfErr c.over.result (IsRefusal (made_refusal_of (g.I.Ident.meaning c.args.ident.now) s.files d.stands.history c.args.fresh.now.id c.args.fresh.now.read.now))) c.roster_at.new.self.pending c.args.draft.now.pending c.roster_at.ensures.asks.pending c.over.ensures.refused
+
+pub over-requires-clause-root : goal.over-requires-clause-root
+over-requires-clause-root g c κs within = λ e. absurd (some_places _ _ c.args.places.now c.requires.one e)
+
+pub over-requires-clause-unknown : goal.over-requires-clause-unknown
+over-requires-clause-unknown g c κs within = λ e. absurd (some_places _ _ c.args.places.now c.requires.one e)

@@ -1,7 +1,7 @@
 -- By how many there are.
 use Rattle.std.proofs.Common.{[], ◌∷◌}
 use Rattle.mtn_history.proofs.Founding.{grown}
-use Rattle.mtn_put_revision.proofs.Bases.{no_places, root_basis, under}
+use Rattle.mtn_put_revision.proofs.Bases.{no_places, root_basis, under, under_none}
 use Rattle.mtn_put_revision.proofs.over.over_places.Goals as goal
 
 pub over-requires-clause-based : goal.over-requires-clause-based
@@ -11,3 +11,6 @@ over-requires-clause-based g c κs within = λ f s d.
       under d.stands.history c.args.fresh.now.read.now.edges _ c.args.fresh.now.id (b.0 ∷ []) (grown f (g.K.Keeper.contents c.args.draft.now.keeper.now) c.args.draft.now.pending s d) on.new b.1 b.2,
       b.3,
     )
+
+pub over-requires-clause-root : goal.over-requires-clause-root
+over-requires-clause-root g c κs within = λ e. under_none c.args.fresh.now.read.now.edges c.args.fresh.now.id c.requires.edges (c.requires.root e)

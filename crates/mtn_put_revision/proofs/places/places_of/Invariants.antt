@@ -1,5 +1,6 @@
-use Rattle.std.proofs.Common.{◌≡◌, ◌<◌, ◌≤◌, List, ℕ, length, take}
+use Rattle.std.proofs.Common.{◌≡◌, ◌<◌, ◌≤◌, List, [], ℕ, None, length, take}
 use Rattle.std.specs.Prelude.{All}
+use Rattle.mtn_changes.specs.declared.change.Edge.{Edge}
 use Rattle.mtn_replay.specs.Making.{parents_of}
 use Rattle.mtn_model.specs.State.{State}
 use Rattle.mtn_ports.specs.Kept.{Stays}
@@ -14,6 +15,7 @@ invariant-loop-edge g l = record {
   pending : l.draft.pending ≡ l.fn.draft.pending;
   few : length l.places.items ≤ l.edge-index;
   below : All (λ p. p < l.fn.draft.pending.count) l.places.items;
+  none : l.places.items ≡ [] → All (λ (e : Edge). e.parent ≡ None) (take l.edge-index l.edges);
   places : (f : List ℕ → List ℕ) (s : State) → (d : IsFounded f (g.K.Keeper.contents l.draft.keeper.now) l.fn.draft.pending s) → l.places.items ≡ parents_of d.stands.history (take l.edge-index l.edges);
   known : (f : List ℕ → List ℕ) (s : State) → (d : IsFounded f (g.K.Keeper.contents l.draft.keeper.now) l.fn.draft.pending s) → NoneLost d.stands.history (take l.edge-index l.edges);
 }

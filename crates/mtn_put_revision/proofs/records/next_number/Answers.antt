@@ -26,6 +26,9 @@ returns-then-log-gt-LAST_NUMBER-clause-damaged g c =
     never_past f mid p s b c.in_ok-log.log.next_node (next_told f mid p s b (c.count-count.result - 1) c.in_ok-log.log (omega (arith, c.count-count.ensures, c.if-count-eq0.false)) c.in_ok-log.ensures.read) c.if-log-gt-LAST_NUMBER.true)
     (subst (λ (q : Pending). IfSome told (λ x. IfDamage c.log_held.result (IsHeldAt (with_all x q.batch) (c.count-count.result - 1)))) c.logged.ensures.asks.pending c.log_held.ensures.damaged)
 
+pub returns-clause-first : goal.returns-clause-first
+returns-clause-first g c = λ e. absurd (omega (arith, e, c.count-count.ensures, c.if-count-eq0.false))
+
 pub returns-clause-next : goal.returns-clause-next
 returns-clause-next g c = λ f s d.
     next_told f (g.K.Keeper.contents c.logged.new.self.keeper.now) c.args.draft.now.pending s d (c.count-count.result - 1) c.in_ok-log.log (omega (arith, c.count-count.ensures, c.if-count-eq0.false)) c.in_ok-log.ensures.read

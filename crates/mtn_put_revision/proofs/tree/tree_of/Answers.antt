@@ -1,5 +1,5 @@
 -- The first refusal, and the tree.
-use Rattle.std.proofs.Common.{◌≡◌, ◌∙◌, true, false, List, None, Some, sym, ap, subst}
+use Rattle.std.proofs.Common.{◌≡◌, ◌∙◌, true, false, List, [], None, Some, sym, ap, subst}
 use Rattle.std.specs.Prelude.{find, is_none}
 use Rattle.std.specs.FinMap.{get}
 use Rattle.mtn_base.specs.declared.id.Id.{Id}
@@ -18,6 +18,9 @@ returns-in-Err-Refused-clause-refused g c = λ s d.
 
 pub returns-in-Err-Damaged-clause-damaged : goal.returns-in-Err-Damaged-clause-damaged
 returns-in-Err-Damaged-clause-damaged g c = c.unfit.ensures.damaged (λ f s d. (subst (λ (es : List Edge). (h : List Revision) → Underlies h es c.args.basis.now c.args.new → ⊥) c.as_slice-edges.ensures (rw c.in-Err-Damaged.field-0-is at c.in-Err-Damaged.ensures.err)) d.stands.history (c.requires.based f s d))
+
+pub unfit-requires-clause-logged : goal.unfit-requires-clause-logged
+unfit-requires-clause-logged g c = λ none. absurd ((subst (λ (es : List Edge). (h : List Revision) → Underlies h es c.args.basis.now c.args.new → ⊥) c.as_slice-edges.ensures (rw c.in-Err-Damaged.field-0-is at c.in-Err-Damaged.ensures.err)) [] (c.requires.root none))
 
 pub returns-in-Some-clause-refused : goal.returns-in-Some-clause-refused
 returns-in-Some-clause-refused g c = λ s d.

@@ -1,6 +1,7 @@
 -- Position by position.
-use Rattle.std.proofs.Common.{◌∙◌, ℕ, List, subst, arith}
+use Rattle.std.proofs.Common.{◌∙◌, ◌<◌, ℕ, List, sym, subst, arith}
 use Rattle.std.proofs.lemmas.List.{take_all}
+use Rattle.std.proofs.lemmas.List.Elements.{All-get_or}
 use Rattle.mtn_history_laws.specs.History.{IsPlaceOf}
 use Rattle.mtn_model.specs.State.{State}
 use Rattle.mtn_ports.proofs.KeptLemmas.{stays_trans}
@@ -17,6 +18,11 @@ returns-in_err-id_at-clause-stays g c = stays_trans g.K.Keeper.contents g.K.Keep
 
 pub returns-in_err-add_id-clause-stays : goal.returns-in_err-add_id-clause-stays
 returns-in_err-add_id-clause-stays g c = stays_trans g.K.Keeper.contents g.K.Keeper.leaves g.K.Keeper.faults _ _ _ c.loop-at.invariant.stays c.id_at.ensures.stays
+
+pub id_at-requires : goal.id_at-requires
+id_at-requires g c =
+    subst (λ (q : Pending). c.at-item.result < q.count) (sym c.loop-at.invariant.pending)
+    (subst (λ p. p < c.args.draft.now.pending.count) (sym c.at-item.is) (All-get_or (λ p. p < c.args.draft.now.pending.count) c.args.positions.now c.loop-at.at-index c.at-item.result c.loop-at-test.true c.requires))
 
 pub loop-at-preserved : goal.loop-at-preserved
 loop-at-preserved g c = record {

@@ -9,8 +9,18 @@ use Rattle.mtn_history.specs.declared.pending.Pending.{Pending}
 use Rattle.mtn_history.proofs.Founding.{back, tells_founded}
 use Rattle.mtn_put_revision.specs.Finding.{AreIdsAt}
 use Rattle.mtn_put_revision.proofs.Grounds.{moved}
-use Rattle.mtn_put_revision.proofs.Looking.{uncommon_in}
+use Rattle.mtn_put_revision.proofs.Looking.{uncommon_in, within_count}
 use Rattle.mtn_put_revision.proofs.uncommon.uncommon_of.Goals as goal
+
+pub ids_of-requires : goal.ids_of-requires
+ids_of-requires g c =
+    within_count c.in-Ok.sets.0 c.as_slice.result.now c.args.left c.args.right c.args.draft.now.pending c.uncommon.new.graph.pending c.as_slice.ensures.value
+    c.uncommon.ensures.stays.0.pending c.requires.left c.requires.right c.in-Ok.ensures.within.0
+
+pub ids_of-requires-2 : goal.ids_of-requires-2
+ids_of-requires-2 g c =
+    within_count c.in-Ok.sets.1 c.as_slice-2.result.now c.args.left c.args.right c.args.draft.now.pending c.ids_of.new.draft.pending c.as_slice-2.ensures.value
+    (c.ids_of.ensures.pending ∙ c.uncommon.ensures.stays.0.pending) c.requires.left c.requires.right c.in-Ok.ensures.within.1
 
 pub returns-in_err-left_ids-clause-stays : goal.returns-in_err-left_ids-clause-stays
 returns-in_err-left_ids-clause-stays g c = stays_trans g.K.Keeper.contents g.K.Keeper.leaves g.K.Keeper.faults _ _ _ c.uncommon.ensures.stays.0.stays c.ids_of.ensures.stays

@@ -18,12 +18,12 @@ returns-in-Ok-clause-damaged g c = λ unfit.
     let mid = g.K.Keeper.contents c.logged.new.self.keeper.now in
     let told = g.K.Keeper.contents c.log_held.new.self.keeper.now in
     let p = c.args.draft.now.pending in
-    let at = c.count-count.result - 1 in
-    unfit_log told p at c.in-Ok.field-0 c.log_held.result (omega (arith, c.count-count.ensures, c.if-count-eq0.false))
+    let at = c.count.result - 1 in
+    unfit_log told p at c.in-Ok.field-0 c.log_held.result (omega (arith, c.count.ensures, c.requires))
     (told_back mid told (λ x. IsLogged (with_all x p.batch) at c.in-Ok.field-0) c.log_held.ensures.asks.stays.same c.in-Ok.ensures.read)
     (unfounded_on mid told p c.log_held.ensures.asks.stays.same (unfounded_on old mid p c.logged.ensures.asks.stays.same unfit))
     (subst (λ (q : Pending). IfSome told (λ x. IfDamage c.log_held.result (IsHeldAt (with_all x q.batch) at))) c.logged.ensures.asks.pending c.log_held.ensures.damaged)
 
 pub returns-in-Err-clause-damaged : goal.returns-in-Err-clause-damaged
 returns-in-Err-clause-damaged g c = λ unfit.
-    unlogged_found (g.K.Keeper.contents c.logged.new.self.keeper.now) c.args.draft.now.pending (c.count-count.result - 1) c.in-Err.error (omega (arith, c.count-count.ensures, c.if-count-eq0.false)) c.in-Err.ensures.damaged
+    unlogged_found (g.K.Keeper.contents c.logged.new.self.keeper.now) c.args.draft.now.pending (c.count.result - 1) c.in-Err.error (omega (arith, c.count.ensures, c.requires)) c.in-Err.ensures.damaged

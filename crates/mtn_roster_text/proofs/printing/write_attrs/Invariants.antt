@@ -1,7 +1,7 @@
 use Rattle.std.proofs.Common.{◌≡◌, ◌++◌, take}
 use Rattle.std.specs.List.{flat_map}
 use Rattle.mtn_base.specs.declared.name.NodeName.{NodeName}
-use Rattle.mtn_basic_io.specs.Front.{IsFront}
+use Rattle.mtn_base.specs.Front.{IsFront}
 use Rattle.mtn_basic_io.specs.Spelling.{line_text}
 use Rattle.mtn_roster_text.specs.Naming.{ids_by}
 use Rattle.mtn_roster_text.specs.RosterText.{attr_lines}

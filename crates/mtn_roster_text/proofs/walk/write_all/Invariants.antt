@@ -1,6 +1,6 @@
 use Rattle.std.proofs.Common.{◌≡◌, ◌∷◌, ◌++◌, take, map}
 use Rattle.mtn_base.specs.Paths.{path_text}
-use Rattle.mtn_basic_io.specs.Front.{IsFront}
+use Rattle.mtn_base.specs.Front.{IsFront}
 use Rattle.mtn_basic_io.specs.Spelling.{spelling}
 use Rattle.mtn_manifest.specs.Manifest.{head_stanza, kept_at}
 use Rattle.mtn_roster.specs.declared.entry.Entry.{Entry}

@@ -2,9 +2,9 @@ use Rattle.std.specs.Prelude.{Contains}
 use Rattle.std.proofs.Common.{◌↔◌, ◌⊎◌, ℕ, List, sym, subst}
 use Rattle.mtn_ancestry.specs.Log.{list_of}
 use Rattle.mtn_ancestry.specs.declared.frontier.Frontier.{Frontier}
-use Rattle.mtn_ancestry.specs.Walking.{pending_of, IsBelow, IsLeftAt, IsRightAt, IsFromLeft, IsFromRight, IsUnderWay, IsOrderly, left_noted, right_noted}
+use Rattle.mtn_ancestry.specs.Walking.{pending_of, IsBelow, IsLeftAt, IsRightAt, IsFromLeft, IsFromRight, IsUnderWay, IsOrderly, AreUpTo, left_noted, right_noted}
 use Rattle.mtn_ancestry.proofs.Walks.{stepped}
-use Rattle.mtn_ancestry.proofs.Advancing.{Pops, next_below, under_way, below_after, orderly, found_left, found_right}
+use Rattle.mtn_ancestry.proofs.Advancing.{Pops, noted_up_to, next_below, under_way, below_after, orderly, found_left, found_right}
 use Rattle.mtn_ancestry.proofs.walk.Walk.advance.Goals as goal
 
 lefts : (c : goal.After-pop) → (x : ℕ) →
@@ -43,6 +43,12 @@ returns-clause-order c =
     (subst (λ (l : List ℕ). IsOrderly c.pop.result (pending_of c.pop.new.self) (left_noted c.args.reach c.args.self.now.left.items c.args.at) l) (sym c.in_ok-note.ensures.right)
     (orderly (pending_of c.add_all.new.self) (pending_of c.pop.new.self) c.args.at c.args.reach c.pop.result c.args.self.now.left.items c.args.self.now.right.items
     (below c) (pops c) c.requires.order.left_order c.requires.order.right_order))
+
+pub returns-clause-up_to : goal.returns-clause-up_to
+returns-clause-up_to c = λ top h a.
+    subst (λ (l : List ℕ). AreUpTo top l c.note.new.self.right.items) (sym c.in_ok-note.ensures.left)
+    (subst (λ (l : List ℕ). AreUpTo top (left_noted c.args.reach c.args.self.now.left.items c.args.at) l) (sym c.in_ok-note.ensures.right)
+    (noted_up_to c.args.reach c.args.self.now.left.items c.args.self.now.right.items c.args.at top h a))
 
 pub returns-clause-walked : goal.returns-clause-walked
 returns-clause-walked c = λ graph a b low early floor is stands.

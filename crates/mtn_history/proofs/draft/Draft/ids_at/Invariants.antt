@@ -1,4 +1,4 @@
-use Rattle.std.proofs.Common.{◌≡◌, List, ℕ, take}
+use Rattle.std.proofs.Common.{List, ℕ, take}
 use Rattle.std.specs.List.{AllZip}
 use Rattle.mtn_history_laws.specs.History.{IsPlaceOf}
 use Rattle.mtn_model.specs.State.{State}

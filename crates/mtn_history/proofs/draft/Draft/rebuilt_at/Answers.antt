@@ -4,7 +4,7 @@ use Rattle.mtn_ports.specs.Kept.{with_all}
 use Rattle.mtn_history.specs.declared.pending.Pending.{Pending}
 use Rattle.mtn_history.specs.Errors.{IfDamage}
 use Rattle.mtn_history.specs.Rosters.{IsChainOf, IsRosterHeld}
-use Rattle.mtn_history.proofs.AskingLemmas.{asks_on, asks_within}
+use Rattle.mtn_history.proofs.AskingLemmas.{asks_on}
 use Rattle.mtn_history.proofs.RosterLemmas.{unrebuilt_none, unrebuilt_bad, is_rebuilt}
 use Rattle.mtn_history.proofs.draft.Draft.rebuilt_at.Goals as goal
 

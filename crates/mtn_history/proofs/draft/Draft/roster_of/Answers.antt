@@ -7,7 +7,7 @@ use Rattle.mtn_history.specs.declared.pending.Pending.{Pending}
 use Rattle.mtn_history.specs.Errors.{IfDamage}
 use Rattle.mtn_history.specs.Places.{IsPlaced}
 use Rattle.mtn_history.specs.Rosters.{Rebuilds, UnmadeBelow}
-use Rattle.mtn_history.proofs.AskingLemmas.{asks_on, asks_within}
+use Rattle.mtn_history.proofs.AskingLemmas.{asks_on}
 use Rattle.mtn_history.proofs.Founding.{back}
 use Rattle.mtn_history.proofs.MarkedLemmas.{is_there, place_is, marked_is, below_count, unplaced_damage, unmade_damage, as_error}
 use Rattle.mtn_history.proofs.draft.Draft.roster_of.Goals as goal

@@ -1,0 +1,94 @@
+-- The least key above another, of the pending records and the keeper's.
+use Rattle.std.specs.Prelude.{IfSome, ◌&&◌, not}
+use Rattle.std.proofs.Common.{◌≡◌, ℕ, Bool, true, false, cond, List, Option, Some, None, refl, sym, ap, ◌∙◌, subst}
+use Rattle.std.specs.FinMap.{get-empty, slice_cmp-IsAntisymmetric, nat_cmp-IsAntisymmetric}
+use Rattle.std.specs.Cmp.Lexicographic.{slice_cmp}
+use Rattle.std.specs.Ordering.{is_lt, nat_cmp, ordering_reverse}
+use Rattle.std.specs.declared.cmp.Ordering.{Ordering}
+use Rattle.std.specs.declared.cmp.Ordering.TheVariants.{Less, Equal, Greater}
+use Rattle.std.proofs.lemmas.Cmp.{nat_list_cmp_total}
+use Rattle.mtn_model.specs.Table.{Contents, body_at, nothing}
+use Rattle.mtn_ports.specs.Kept.{IsAbove, IsAboveIf, IsLeast, IsNext, over, with_all}
+use Rattle.mtn_ports.specs.declared.batch.Put.{Put}
+use Rattle.mtn_ports.proofs.KeptLemmas.{body_at-over, newest}
+use Rattle.mtn_history.specs.Asking.{first_key}
+
+over_none : (x : Option (List ℕ)) → over x None ≡ x
+over_none (Some b) = refl
+over_none None = refl
+
+over_some : (x : Option (List ℕ)) (b : List ℕ) → (y : List ℕ) × (over x (Some b) ≡ Some y)
+over_some (Some y) b = (y, refl)
+over_some None b = (b, refl)
+
+less : (o : Ordering) → is_lt o ≡ true → o ≡ Less
+less Less e = refl
+less Equal e = absurd cc
+less Greater e = absurd cc
+
+-- what is below one that is not above another is below that other
+below_both : (other kept pending : List ℕ) → is_lt (slice_cmp nat_cmp pending kept) ≡ false → IsAbove other kept → IsAbove other pending
+below_both other kept pending far above = by (slice_cmp nat_cmp pending kept) refl far
+  where
+    by : (o : Ordering) → slice_cmp nat_cmp pending kept ≡ o → is_lt o ≡ false → IsAbove other pending
+    by Less is e = absurd cc
+    by Equal is e = subst (IsAbove other) (sym (slice_cmp-IsAntisymmetric nat_cmp-IsAntisymmetric pending kept is)) above
+    by Greater is e = nat_list_cmp_total.trans other kept pending above (nat_list_cmp_total.antisymm kept pending ∙ ap ordering_reverse is)
+
+module _ (c : Contents) (ps : List Put) (table : ℕ) (after : List ℕ) where
+  abbrev pending : List ℕ → Option (List ℕ)
+  pending k = body_at (with_all nothing ps) table k
+
+  pending_is : (k : List ℕ) → pending k ≡ newest table k None ps
+  pending_is k = body_at-over nothing ps table k ∙ ap (over (newest table k None ps)) (get-empty (slice_cmp nat_cmp) k) ∙ over_none (newest table k None ps)
+
+  both_are : (k : List ℕ) → body_at (with_all c ps) table k ≡ over (pending k) (body_at c table k)
+  both_are k = body_at-over c ps table k ∙ ap (λ x. over x (body_at c table k)) (sym (pending_is k))
+
+  none_pending : (k : List ℕ) → pending k ≡ None → body_at (with_all c ps) table k ≡ body_at c table k
+  none_pending k none = both_are k ∙ ap (λ x. over x (body_at c table k)) none
+
+  some_pending : (k b : List ℕ) → pending k ≡ Some b → body_at (with_all c ps) table k ≡ Some b
+  some_pending k b some = both_are k ∙ ap (λ x. over x (body_at c table k)) some
+
+  some_kept : (k b : List ℕ) → body_at c table k ≡ Some b → (y : List ℕ) × (body_at (with_all c ps) table k ≡ Some y)
+  some_kept k b some = let o = over_some (pending k) b in (o.0, both_are k ∙ ap (over (pending k)) some ∙ o.1)
+
+  -- none is pending
+  none_next : (found : Bool) (key : List ℕ) → IsLeast (with_all nothing ps) table after None → IsNext c table after found key → IsNext (with_all c ps) table after found key
+  none_next true key least next = (some_kept key next.0.0 next.0.1, λ other a b. none_pending other (least other a) ∙ next.1 other a b)
+  none_next false key least next = λ other a. none_pending other (least other a) ∙ next other a
+
+  -- the lesser of both is the next
+  first_next : (found : Bool) (key first : List ℕ) → IsLeast (with_all nothing ps) table after (Some first) → IsNext c table after found key → IsNext (with_all c ps) table after true (first_key found key first)
+  first_next false key first least next = ((least.1.0, some_pending first least.1.0 least.1.1), λ other a b. none_pending other (least.2 other a b) ∙ next other a)
+  first_next true key first least next = by (is_lt (slice_cmp nat_cmp first key)) refl
+    where
+      by : (b : Bool) → is_lt (slice_cmp nat_cmp first key) ≡ b → IsNext (with_all c ps) table after true (cond (true && not b) key first)
+      by true is = (
+        (least.1.0, some_pending first least.1.0 least.1.1),
+        λ other a b. none_pending other (least.2 other a b) ∙ next.1 other a (nat_list_cmp_total.trans other first key b (less (slice_cmp nat_cmp first key) is)),
+      )
+      by false is =
+          (some_kept key next.0.0 next.0.1, λ other a b. none_pending other (least.2 other a (below_both other key first is b)) ∙ next.1 other a b)
+
+-- the same where the records are told
+pub next_alone : (told : Option Contents) (ps : List Put) (table : ℕ) (after key : List ℕ) (found : Bool) → IsLeast (with_all nothing ps) table after None →
+    IfSome told (λ c. IsNext c table after found key) → IfSome told (λ c. IsNext (with_all c ps) table after found key)
+next_alone None ps table after key found least next = tt
+next_alone (Some c) ps table after key found least next = none_next c ps table after found key least next
+
+pub next_first : (told : Option Contents) (ps : List Put) (table : ℕ) (after key first taken : List ℕ) (found : Bool) → IsLeast (with_all nothing ps) table after (Some first) → taken ≡ first_key found key first →
+    IfSome told (λ c. IsNext c table after found key) → IfSome told (λ c. IsNext (with_all c ps) table after true taken)
+next_first None ps table after key first taken found least is next = tt
+next_first (Some c) ps table after key first taken found least is next =
+    subst (IsNext (with_all c ps) table after true) (sym is) (first_next c ps table after found key first least next)
+
+-- and it stands above, whatever is told
+pub first_above : (ps : List Put) (table : ℕ) (after key first taken : List ℕ) (found : Bool) → IsLeast (with_all nothing ps) table after (Some first) → taken ≡ first_key found key first → IsAboveIf after found key → IsAbove after taken
+first_above ps table after key first taken true least is above = subst (IsAbove after) (sym is) (by (is_lt (slice_cmp nat_cmp first key)))
+  where
+    by : (b : Bool) → IsAbove after (cond (true && not b) key first)
+    by true = least.0
+    by false = above
+first_above ps table after key first taken false least is above = subst (IsAbove after) (sym is) least.0

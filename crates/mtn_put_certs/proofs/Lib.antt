@@ -1,0 +1,4 @@
+pub mod Joining
+pub mod CertLemmas
+pub mod KeyLemmas
+pub mod Walking
