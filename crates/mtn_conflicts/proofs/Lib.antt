@@ -13,3 +13,4 @@ pub mod Looping
 pub mod Chains
 pub mod Twinning
 pub mod Written
+pub mod Unborn

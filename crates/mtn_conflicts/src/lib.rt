@@ -32,5 +32,5 @@ mod twins;
 pub use all::conflicts;
 pub use item::{Item, Side};
 pub use lists::Conflicts;
-pub use merged::result;
+pub use merged::{is_some_reborn, result};
 pub use text::write;

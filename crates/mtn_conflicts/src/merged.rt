@@ -1,5 +1,6 @@
 // The tree of a merge without conflicts.
 ghost use Rattle.std.specs.Prelude.{◌≡◌, ◌↔◌, IsTrue, IfOk, Some, map};
+ghost use Rattle.std.specs.List.{list_any};
 ghost use Rattle.mtn_base.specs.Names.{name_cmp};
 ghost use Rattle.mtn_decide.specs.declared.decision.AttrDecision.{AttrDecision};
 ghost use Rattle.mtn_decide.specs.declared.decision.Decision.{Decision};
@@ -188,6 +189,18 @@ fn entries_after(
     Ok(entries)
 }
 
+/// Whether a node is reborn. It takes no memory.
+pub fn is_some_reborn(nodes: &[Decision]) -> bool
+    ensures { result ≡ list_any (λ (d : Decision). d.reborn) nodes.now }
+{
+    for node in nodes {
+        if node.reborn {
+            return true;
+        }
+    }
+    false
+}
+
 /// The tree of a merge without conflicts, in a revision of that id: a reborn node is named by the id and its
 /// path. It asks that what has the root slot or is a decided parent is a directory, and that the id is no
 /// node's birth.
@@ -199,5 +212,8 @@ pub fn result(alloc: Global, decisions: &Decisions, reborn: Id) -> Result<Roster
 {
     let nodes = decisions.nodes();
     let before = tree_made(alloc, entries_of(alloc, nodes)?)?;
+    if !is_some_reborn(nodes) {
+        return Ok(before);
+    }
     tree_made(alloc, entries_after(alloc, nodes, &before, reborn)?)
 }

@@ -17,7 +17,7 @@ use crate::births::unborn;
 use crate::sides::Side;
 use crate::text::{Parent, revision_text};
 use mtn_base::{Cause, MAX_TEXT};
-use mtn_conflicts::result;
+use mtn_conflicts::{is_some_reborn, result};
 use mtn_decide::{Decision, Decisions};
 use mtn_history::{HistoryError, StoreError};
 use mtn_make_roster::{MakeError, within_limits};
@@ -38,18 +38,6 @@ fn limited(alloc: Global, tree: &Roster) -> Result<(), HistoryError>
         Err(MakeError::Damaged) => Err(HistoryError::Store(StoreError::NoMemory)),
         Err(MakeError::NoMemory) => Err(HistoryError::Store(StoreError::NoMemory)),
     }
-}
-
-// Whether a node is reborn.
-fn is_some_reborn(nodes: &[Decision]) -> bool
-    ensures { result ≡ list_any (λ (d : Decided). d.reborn) nodes.now }
-{
-    for node in nodes {
-        if node.reborn {
-            return true;
-        }
-    }
-    false
 }
 
 // The tree, where it is the same in a revision of any id.
