@@ -42,7 +42,7 @@ spaced_field field rest is = record { gap = codes "\n       "; is_gap = (omega a
 
 pub key_is_field : (k : PacketKey) → IsKey k → IsKeyOfBytes k → IsField (key_text k)
 key_is_field (key.Id id) ok bytes =
-    let text = id_text id bytes in
+    let text = id_text id bytes.0 bytes.1 in
     record { some = omega (arith, text.forty); most = omega (arith, text.forty); bytes = all_weaker is_lower_digit is_field_byte lower_is_field (encode_lower id.0) text.digits }
 key_is_field (key.Name name) ok bytes = ok.0
 
@@ -51,7 +51,7 @@ key_again (key.Id id) ok bytes = sym (ap (λ o. key_from o (encode_lower id.0)) 
 key_again (key.Name name) ok bytes = sym (ap (λ o. key_from o name) ok.1)
 
 plain_id : (id : Id) → IsId id → has_no_bracket (encode_lower id.0) ≡ true
-plain_id id is = all_weaker is_lower_digit is_plain lower_is_plain (encode_lower id.0) (id_text id is).digits
+plain_id id is = all_weaker is_lower_digit is_plain lower_is_plain (encode_lower id.0) (id_text id is.0 is.1).digits
 
 plain_field : (field : List ℕ) → IsField field → has_no_bracket field ≡ true
 plain_field field is = all_weaker is_field_byte is_plain field_is_plain field is.bytes

@@ -9,10 +9,14 @@ use Rattle.mtn_answers.specs.Views.{TextAnswer, manifest_at, corresponding_at, I
 use Rattle.mtn_answers.specs.declared.query.Line.{Line}
 use Rattle.mtn_answers.specs.declared.query.Query.{Query}
 use Rattle.mtn_base.specs.Refusals.{refusal_text}
+use Rattle.mtn_base.specs.Hex.{id_of}
 use Rattle.mtn_base.specs.declared.id.Id.{Id}
 use Rattle.mtn_base.specs.declared.refusal.Cause.{Cause}
-use Rattle.mtn_base.specs.declared.refusal.Cause.TheVariants.{UnknownFile, UnknownRevision}
+use Rattle.mtn_base.specs.declared.refusal.Cause.TheVariants.{BadField, NoBranch, OneHead, UnknownFile, UnknownRevision}
+use Rattle.mtn_base.specs.declared.refusal.Field.TheVariants.{Signature}
 use Rattle.mtn_basic_io.specs.Spelling.{spelling}
+use Rattle.mtn_certs.specs.Certificates.{Certificate, certificate}
+use Rattle.mtn_changeset_laws.specs.Changes.{or_else}
 use Rattle.mtn_conflicts.specs.ConflictText.{conflict_stanzas}
 use Rattle.mtn_conflicts.specs.declared.lists.Conflicts.{Conflicts}
 use Rattle.mtn_history_laws.specs.History.{Revision}
@@ -22,11 +26,14 @@ use Rattle.mtn_model.specs.declared.status.Status.TheVariants as status
 use Rattle.mtn_plans.specs.Plans.{Looks, Merges, Plan}
 use Rattle.mtn_plans.specs.declared.outcome.Outcome.TheVariants.{Conflicted, Merged}
 use Rattle.mtn_replay.specs.Accepting.{Decides}
+use Rattle.mtn_replay.specs.Certificates.{with_cert, with_key}
 use Rattle.mtn_replay.specs.Files.{file_refusal, with_file}
 use Rattle.mtn_replay.specs.Lawful.{IsHistory}
 use Rattle.mtn_replay.specs.Texts.{text_under}
 use Rattle.mtn_step.specs.declared.call.Call.{Call}
-use Rattle.mtn_step.specs.declared.call.Call.TheVariants.{PutFile, PutRevision, GetFile, GetRevision, GetManifestOf, GetRoster, GetContentChanged, GetCorrespondingPath, Ask, Graph, Merge, ShowConflicts}
+use Rattle.mtn_step.specs.declared.call.Call.TheVariants.{PutFile, PutRevision, GetFile, GetRevision, GetManifestOf, GetRoster, GetContentChanged, GetCorrespondingPath, Ask, Graph, Merge, ShowConflicts, Cert, Certs, Key, Heads, Branches, Commit, MergeHeads}
+use Rattle.mtn_step.specs.declared.call.Said.{Said}
+use Rattle.mtn_step.specs.Certifying.{AreBranches, AreCertsOf, AreHeads, certs_text, held_refusal, key_refusal, merge_said, said_certs, said_refusal, signature_of, value_lines, with_certs}
 
 -- an id's digits and LF
 abbrev pub id_line : List ℕ → List ℕ
@@ -117,6 +124,30 @@ Shown s o (Ok (Merged text)) = ⊥
 abbrev pub Planned : (Plan → Type 0) → (Plan → Type 0) → Type 0
 Planned Is Does = (plan : Plan) × Is plan × Does plan
 
+-- what a certificate comes to: its signature spells nothing, or it is refused, or it is held
+abbrev pub certified : State → Id → List ℕ → Id → List ℕ → Option (List ℕ) → Outcome
+certified s revision name key value None = refused (BadField Signature) s
+certified s revision name key value (Some signature) =
+    let c = certificate revision name key value signature in unless (held_refusal s c) s (with_cert s c) []
+
+-- what the certificates of a revision are answered with, where its text is this
+abbrev pub Listed : State → Id → Outcome → Option (List ℕ) → Type 0
+Listed s id o None = o ≡ refused (UnknownRevision id) s
+Listed s id o (Some text) = (certs : List Certificate) × AreCertsOf s id certs × (o ≡ done s (certs_text s certs))
+
+-- what a revision's text comes to that is put with what is said of it, also where the text is held
+pub record Commits (f : List ℕ → List ℕ) (said : Said) (text : List ℕ) (s : State) (o : Outcome) : Type 0 where
+  pub refusal : Option Cause
+  pub after : State
+  pub decides : Decides f s text refusal after
+  pub is : o ≡ unless (or_else refusal (said_refusal said)) s (with_certs after (said_certs (id_of (f text)) said)) (id_line (f text))
+
+-- what a merge of the two least of these heads comes to
+abbrev pub HeadsMerged : (Id → Id → Plan → Type 0) → (Id → Id → Ending) → State → Outcome → List Id → Type 0
+HeadsMerged Is ends s o [] = o ≡ refused NoBranch s
+HeadsMerged Is ends s o (head ∷ []) = o ≡ refused (OneHead head) s
+HeadsMerged Is ends s o (left ∷ right ∷ rest) = Planned (Is left right) (Ended (ends left right) s o)
+
 -- The outcome of a command over a state, one line a command; f is what the ident makes of a text.
 abbrev pub Steps : (List ℕ → List ℕ) → Call → List ℕ → State → Outcome → Type 0
 Steps f PutFile payload s o = o ≡ unless (file_refusal f s payload) s (with_file f s payload) (id_line (f payload))
@@ -131,6 +162,14 @@ Steps f (Ask query) payload s o = OfHistory f s (λ h. Asked h query s (first_un
 Steps f Graph payload s o = OfHistory f s (λ h. Graphed h s o)
 Steps f (Merge a b resolves) payload s o = OfHistory f s (λ h. Planned (Merges f s.files h a b resolves payload) (Ended (PutsRevision f) s o))
 Steps f (ShowConflicts a b) payload s o = OfHistory f s (λ h. Planned (Looks h a b) (Shown s o))
+Steps f (Cert revision name key value signature) payload s o = o ≡ certified s revision name key value (signature_of signature)
+Steps f (Certs id) payload s o = Listed s id o (text_under s.log id.0)
+Steps f (Key id name) payload s o = o ≡ unless (key_refusal s id name) s (with_key s id name) []
+Steps f (Heads branch) payload s o = OfHistory f s (λ h. (ids : List Id) × AreHeads s h branch ids × (o ≡ done s (id_lines ids)))
+Steps f Branches payload s o = (branches : List (List ℕ)) × AreBranches s branches × (o ≡ done s (value_lines branches))
+Steps f (Commit said) payload s o = Commits f said payload s o
+Steps f (MergeHeads branch author date key resolves) payload s o = OfHistory f s (λ h. (ids : List Id) × AreHeads s h branch ids ×
+    HeadsMerged (λ left right. Merges f s.files h left right resolves payload) (λ left right. Commits f (merge_said key author branch date left right)) s o ids)
 
 -- whether a command takes a payload, one line a command
 abbrev pub takes_payload : Call → Bool
@@ -146,3 +185,10 @@ takes_payload (Ask query) = false
 takes_payload Graph = false
 takes_payload (Merge a b resolves) = resolves
 takes_payload (ShowConflicts a b) = false
+takes_payload (Cert revision name key value signature) = false
+takes_payload (Certs id) = false
+takes_payload (Key id name) = false
+takes_payload (Heads branch) = false
+takes_payload Branches = false
+takes_payload (Commit said) = true
+takes_payload (MergeHeads branch author date key resolves) = resolves

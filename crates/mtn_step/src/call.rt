@@ -2,7 +2,17 @@
 ghost use Rattle.std.specs.Prelude.{◌≡◌};
 
 use mtn_answers::Query;
-use mtn_base::{Id, Path};
+use mtn_base::{Bytes, Id, Path};
+
+/// What is said of a revision that is committed, each as the value of a certificate, with the id of the key that says it.
+#[derive(Drop)]
+pub struct Said {
+    pub author: Bytes,
+    pub branch: Bytes,
+    pub changelog: Bytes,
+    pub date: Bytes,
+    pub key: Id,
+}
 
 /// A command with what its words say.
 #[derive(Drop)]
@@ -32,6 +42,35 @@ pub enum Call {
     Merge { a: Id, b: Id, resolves: bool },
     /// `show_conflicts ID ID`: answers the conflicts of a merge.
     ShowConflicts { a: Id, b: Id },
+    /// `cert --key=KEYID [--sig=BASE64] ID NAME VALUE`: holds a certificate of a revision.
+    Cert {
+        revision: Id,
+        name: Bytes,
+        key: Id,
+        value: Bytes,
+        /// As it stands in the words: base64.
+        signature: Option<Bytes>,
+    },
+    /// `certs ID`: answers the certificates of a revision.
+    Certs { id: Id },
+    /// `key KEYID NAME`: gives a key its name.
+    Key { id: Id, name: Bytes },
+    /// `heads BRANCH`: answers the heads of a branch.
+    Heads { branch: Bytes },
+    /// `branches`: answers the branches that have a member.
+    Branches,
+    /// `commit --author=.. --branch=.. --changelog=.. --date=.. --key=KEYID`: accepts the payload as a revision's text with
+    /// what is said of it, and answers its id.
+    Commit { said: Said },
+    /// `merge_heads --author=.. --date=.. --key=KEYID [--resolve] BRANCH`: accepts the merge of the two least heads of a
+    /// branch with what is said of it, and answers its id, or the conflicts.
+    MergeHeads {
+        branch: Bytes,
+        author: Bytes,
+        date: Bytes,
+        key: Id,
+        resolves: bool,
+    },
 }
 
 impl Call {
@@ -50,6 +89,10 @@ impl Call {
             Call::Ask { .. } | Call::Graph => false,
             Call::Merge { resolves, .. } => *resolves,
             Call::ShowConflicts { .. } => false,
+            Call::Cert { .. } | Call::Certs { .. } | Call::Key { .. } => false,
+            Call::Heads { .. } | Call::Branches => false,
+            Call::Commit { .. } => true,
+            Call::MergeHeads { resolves, .. } => *resolves,
         }
     }
 }

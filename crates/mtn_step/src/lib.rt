@@ -10,4 +10,4 @@
 
 mod call;
 
-pub use call::Call;
+pub use call::{Call, Said};
