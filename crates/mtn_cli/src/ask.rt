@@ -12,8 +12,8 @@ use mtn_ports::{Ident, Keeper};
 use mtn_step::Call;
 use std::alloc::Global;
 
-// Appends the digits of an id.
-fn push_id(text: &mut Vec<u8>, id: Id) -> Result<(), NoMemory>
+/// Appends the digits of an id.
+pub fn push_id(text: &mut Vec<u8>, id: Id) -> Result<(), NoMemory>
     ensures { OnOk result (text.new.items ≡ text.old.items ++ encode_lower id.0) }
 {
     let mut digits = [0u8; 40];
@@ -22,8 +22,8 @@ fn push_id(text: &mut Vec<u8>, id: Id) -> Result<(), NoMemory>
     Ok(())
 }
 
-// The ids, one a line.
-fn id_lines(alloc: Global, ids: &[Id]) -> Result<Bytes, NoMemory>
+/// The ids, one a line.
+pub fn id_lines(alloc: Global, ids: &[Id]) -> Result<Bytes, NoMemory>
     ensures { IfOk result (λ text. text ≡ lines_of ids.now) }
 {
     let mut text = Vec::new(alloc);

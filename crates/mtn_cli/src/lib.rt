@@ -11,6 +11,8 @@
 #![tactic(auto)]
 
 mod ask;
+mod cert;
+mod certs;
 mod command;
 mod damage;
 mod get_content_changed;
@@ -19,10 +21,15 @@ mod get_file;
 mod get_manifest_of;
 mod get_revision;
 mod get_roster;
+mod heads;
+mod key;
 mod laws;
 mod merge;
+mod merge_heads;
 mod put_file;
 mod put_revision;
+mod put_text;
+mod said;
 mod script;
 mod session;
 mod show_conflicts;

@@ -1,6 +1,6 @@
 // A command over a draft of the keeper.
 ghost use Rattle.std.specs.Prelude.{◌≡◌, IfSome, Some, true};
-ghost use Rattle.mtn_cli.specs.Drafts.{Replies, reply_of};
+ghost use Rattle.mtn_cli.specs.Drafts.{Replies};
 ghost use Rattle.mtn_cli.specs.Step.{Step};
 ghost use Rattle.mtn_cli.specs.Store.{IsLine, ShowsDamage, is_merging, is_spelled, may_conflict, unbounded};
 ghost use Rattle.mtn_frame.specs.Script.{BoundsJob, Does};
@@ -12,6 +12,8 @@ ghost use Rattle.mtn_history.specs.Stands.{Stands};
 ghost use Rattle.mtn_step.specs.Step.{Steps};
 
 use crate::ask::{ask, graph};
+use crate::cert::cert;
+use crate::certs::certs;
 use crate::command::read_words;
 use crate::damage::tell;
 use crate::get_content_changed::get_content_changed;
@@ -20,9 +22,12 @@ use crate::get_file::get_file;
 use crate::get_manifest_of::get_manifest_of;
 use crate::get_revision::get_revision;
 use crate::get_roster::get_roster;
-use crate::merge::merge;
+use crate::heads::{branches, heads};
+use crate::key::key;
+use crate::merge::{merge, told};
+use crate::merge_heads::merge_heads;
 use crate::put_file::put_file;
-use crate::put_revision::put_revision;
+use crate::put_revision::{commit, put_revision};
 use crate::show_conflicts::show_conflicts;
 use crate::words::WordsError;
 use mtn_base::{Bytes, Cause, Refusal};
@@ -32,19 +37,6 @@ use mtn_ports::{Batch, Ident, Keeper};
 use mtn_step::Call;
 use std::alloc::Global;
 use std::mem;
-
-// The reply of a command that answered a text.
-fn told(worked: Result<Bytes, HistoryError>) -> Result<Reply, HistoryError>
-    ensures { result ≡ reply_of worked }
-{
-    match worked {
-        Ok(text) => Ok(Reply {
-            conflicts: false,
-            text,
-        }),
-        Err(error) => Err(error),
-    }
-}
 
 // The command's work over a draft, one arm a command.
 fn on_draft<I: Ident, K: Keeper>(
@@ -75,6 +67,29 @@ fn on_draft<I: Ident, K: Keeper>(
         Call::Graph => told(graph(alloc, ident, payload, draft)),
         Call::Merge { a, b, resolves } => merge(alloc, ident, *a, *b, *resolves, payload, draft),
         Call::ShowConflicts { a, b } => told(show_conflicts(alloc, ident, *a, *b, payload, draft)),
+        Call::Cert {
+            revision,
+            name,
+            key,
+            value,
+            signature,
+        } => told(cert(
+            alloc, ident, *revision, name, *key, value, signature, payload, draft,
+        )),
+        Call::Certs { id } => told(certs(alloc, ident, *id, payload, draft)),
+        Call::Key { id, name } => told(key(alloc, ident, *id, name, payload, draft)),
+        Call::Heads { branch } => told(heads(alloc, ident, branch, payload, draft)),
+        Call::Branches => told(branches(alloc, ident, payload, draft)),
+        Call::Commit { said } => told(commit(alloc, ident, said, payload, draft)),
+        Call::MergeHeads {
+            branch,
+            author,
+            date,
+            key,
+            resolves,
+        } => merge_heads(
+            alloc, ident, branch, author, date, *key, *resolves, payload, draft,
+        ),
     }
 }
 

@@ -37,3 +37,24 @@ returns-in-ShowConflicts-clause-replies g c = rw c.in-ShowConflicts.is (replies_
 
 pub returns-in-Merge-clause-replies : goal.returns-in-Merge-clause-replies
 returns-in-Merge-clause-replies g c = rw c.in-Merge.is c.merge.ensures.replies
+
+pub returns-in-Cert-clause-replies : goal.returns-in-Cert-clause-replies
+returns-in-Cert-clause-replies g c = rw c.in-Cert.is (replies_as _ _ _ _ _ _ _ _ _ _ c.cert.result c.told-in-Cert.result c.told-in-Cert.ensures c.cert.ensures.drafts)
+
+pub returns-in-Certs-clause-replies : goal.returns-in-Certs-clause-replies
+returns-in-Certs-clause-replies g c = rw c.in-Certs.is (replies_as _ _ _ _ _ _ _ _ _ _ c.certs.result c.told-in-Certs.result c.told-in-Certs.ensures c.certs.ensures.drafts)
+
+pub returns-in-Key-clause-replies : goal.returns-in-Key-clause-replies
+returns-in-Key-clause-replies g c = rw c.in-Key.is (replies_as _ _ _ _ _ _ _ _ _ _ c.key.result c.told-in-Key.result c.told-in-Key.ensures c.key.ensures.drafts)
+
+pub returns-in-Heads-clause-replies : goal.returns-in-Heads-clause-replies
+returns-in-Heads-clause-replies g c = rw c.in-Heads.is (replies_as _ _ _ _ _ _ _ _ _ _ c.heads.result c.told-in-Heads.result c.told-in-Heads.ensures c.heads.ensures.drafts)
+
+pub returns-in-Branches-clause-replies : goal.returns-in-Branches-clause-replies
+returns-in-Branches-clause-replies g c = rw c.in-Branches.is (replies_as _ _ _ _ _ _ _ _ _ _ c.branches.result c.told-in-Branches.result c.told-in-Branches.ensures c.branches.ensures.drafts)
+
+pub returns-in-Commit-clause-replies : goal.returns-in-Commit-clause-replies
+returns-in-Commit-clause-replies g c = rw c.in-Commit.is (replies_as _ _ _ _ _ _ _ _ _ _ c.commit.result c.told-in-Commit.result c.told-in-Commit.ensures c.commit.ensures.drafts)
+
+pub returns-in-MergeHeads-clause-replies : goal.returns-in-MergeHeads-clause-replies
+returns-in-MergeHeads-clause-replies g c = rw c.in-MergeHeads.is c.merge_heads.ensures.replies
