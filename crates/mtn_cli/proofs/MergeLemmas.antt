@@ -1,6 +1,6 @@
 -- A merge that is planned over a draft is its line of the step.
 use Rattle.std.specs.Prelude.{IfSome, if◌then◌else◌}
-use Rattle.std.proofs.Common.{◌≡◌, ℕ, Bool, true, false, List, Option, Some, None, Result, Ok, Err, refl, sym, ap, ◌∙◌, subst}
+use Rattle.std.proofs.Common.{◌≡◌, ℕ, Bool, true, false, List, Option, Some, None, Result, Ok, Err, refl, sym, ap, ◌∙◌, subst, arith}
 use Rattle.mtn_base.specs.declared.id.Id.{Id}
 use Rattle.mtn_conflicts.specs.declared.lists.Conflicts.{Conflicts}
 use Rattle.mtn_frame.specs.declared.works.Reply.{Reply}
@@ -25,14 +25,15 @@ use Rattle.mtn_plans.specs.declared.outcome.Outcome.{Outcome as Planned}
 use Rattle.mtn_plans.specs.declared.outcome.Outcome.TheVariants.{Conflicted, Merged}
 use Rattle.mtn_ports.specs.Causes.{Rose}
 use Rattle.mtn_ports.specs.Kept.{Stays, with_all}
-use Rattle.mtn_ports.proofs.KeptLemmas.{rose_before, stays_trans}
-use Rattle.mtn_put_revision.specs.Accepting.{AcceptsRevision}
+use Rattle.mtn_ports.proofs.KeptLemmas.{stays_trans}
 use Rattle.mtn_put_revision.specs.Keeping.{IsPlanned}
 use Rattle.mtn_roster.specs.Tree.{Tree}
-use Rattle.mtn_step.specs.Step.{Ended, PutsRevision, Steps, conflict_text, conflicted, done, id_line, refused}
-use Rattle.mtn_step.specs.declared.call.Call.TheVariants.{Merge, ShowConflicts}
-use Rattle.mtn_cli.specs.Drafts.{Drafted, Drafts, Replies}
-use Rattle.mtn_cli.proofs.RevisionLemmas.{reason_told}
+use Rattle.mtn_step.specs.Step.{Ended, Steps, conflict_text, conflicted, done, refused}
+use Rattle.mtn_step.specs.declared.call.Call.TheVariants.{ShowConflicts}
+use Rattle.mtn_step.specs.declared.call.Said.{Said}
+use Rattle.mtn_cli.specs.Certifying.{Merging, ending}
+use Rattle.mtn_cli.specs.Drafts.{Drafts, Replies, drafted, reply_of}
+use Rattle.mtn_cli.proofs.WorksLemmas.{wider_reason}
 use Rattle.mtn_cli.proofs.ViewLemmas.{never, reason_of}
 
 -- the payload is the text of resolutions where the option says so
@@ -43,9 +44,9 @@ of_text : (f : List ℕ → List ℕ) (files : Table) (h : List Revision) (a b :
 of_text f files h a b true payload plan is = is
 of_text f files h a b false payload plan is = is
 
-module _ (f : List ℕ → List ℕ) (a b : Id) (resolves : Bool) (payload : List ℕ) where
+module _ (f : List ℕ → List ℕ) (a b : Id) (resolves : Bool) (said : Option Said) (payload : List ℕ) where
   abbrev Outcomes : State → Outcome → Type 0
-  Outcomes = Steps f (Merge a b resolves) payload
+  Outcomes = Merging f a b resolves said payload
 
   -- what a call gives over each history that a draft stands on
   abbrev pub GivesOver : Option Contents → Pending → Result Planned HistoryError → Type 0
@@ -57,7 +58,7 @@ module _ (f : List ℕ → List ℕ) (a b : Id) (resolves : Bool) (payload : Lis
   given_over told p r text is gives = λ s d. subst (λ (x : Option (List ℕ)). Gives (MergesText f s.files d.stands.history a b x) r) is (gives s d)
 
   outcome : (told : Option Contents) (p : Pending) (s : State) (d : IsFounded f told p s) (plan : Plan) → MergesText f s.files d.stands.history a b (text_of resolves payload) plan →
-      (o : Outcome) → Ended (PutsRevision f) s o plan → Outcomes s o
+      (o : Outcome) → Ended (ending f said) s o plan → Outcomes s o
   outcome told p s d plan is o comes = (d.stands.history, d.stands.spelled, (plan, of_text f s.files d.stands.history a b resolves payload plan is, comes))
 
   module _ {K : Type 0} (contents : K → Option Contents) (leaves : K → Contents → Type 0) (faults : K → ℕ) (old mid : K) (before : Pending) (stays : Stays contents leaves faults old mid) where
@@ -109,54 +110,34 @@ module _ (f : List ℕ → List ℕ) (a b : Id) (resolves : Bool) (payload : Lis
 
     -- the text is put
     module _ (new : K) (after : Pending) (text : List ℕ) (gives : GivesOver (contents mid) before (Ok (Merged text))) (put : Stays contents leaves faults mid new) where
-      ended : (c : Contents) (s : State) → contents new ≡ Some c → IsDraft f c before s → (o : Outcome) → PutsRevision f text s o → Outcomes s o
+      ended : (c : Contents) (s : State) → contents new ≡ Some c → IsDraft f c before s → (o : Outcome) → ending f said text s o → Outcomes s o
       ended c s now draft o puts = let d = founded f (contents mid) c before s (put.same c now) draft in outcome (contents mid) before s d (Ok (Merged text)) (gives s d) o puts
 
-      pub merge_answered : (id : Id) (line : List ℕ) → line ≡ id_line id.0 →
-          ((c : Contents) (s : State) → contents new ≡ Some c → IsDraft f c before s → AcceptsRevision f c s text (Ok id) after) →
-          Replies f contents leaves faults old new before after true Outcomes (Ok (record { conflicts = false; text = line }))
-      merge_answered id line is accepts = record {
+      replied : (r : Result (List ℕ) HistoryError) → Drafts f contents leaves faults mid new before after (ending f said text) r → Replies f contents leaves faults old new before after true Outcomes (reply_of r)
+      replied (Ok line) drafts = record {
         stays = stays_trans contents leaves faults old mid new stays put;
-        done = λ c s now draft.
-            let x = accepts c s now draft in
-            (x.1.0, ended c s now draft _ (record { refusal = None; after = x.1.0; decides = x.1.1; is = ap (done x.1.0) (is ∙ ap id_line x.0) }), x.1.2);
+        done = λ c s now draft. let x = drafts.done c s now draft in (x.0, ended c s now draft _ x.1, x.2);
         reason = λ counts. tt;
         quiet = λ on. absurd cc;
       }
-
-      put_done : (e : HistoryError) → ((c : Contents) (s : State) → contents new ≡ Some c → IsDraft f c before s → AcceptsRevision f c s text (Err e) after) →
-          (c : Contents) (s : State) → contents new ≡ Some c → IsDraft f c before s → Drafted f c s (Outcomes s) (Err e) after
-      put_done (Store e) accepts c s now draft = accepts c s now draft
-      put_done (Refused cause) accepts c s now draft =
-          let x = accepts c s now draft in
-          ended c s now draft (refused cause s) (record { refusal = Some cause; after = x.0; decides = x.1; is = refl })
-
-      put_err : (e : HistoryError) → ((c : Contents) (s : State) → contents new ≡ Some c → IsDraft f c before s → AcceptsRevision f c s text (Err e) after) →
-          IfSome (contents new) (λ c. IsCounted before c → IfStoreDamage e (IsDamage (with_all c before.batch))) → (e ≡ Store Failed → Rose (faults mid) (faults new)) →
-          Replies f contents leaves faults old new before after true Outcomes (Err e)
-      put_err e accepts damaged rose = record {
+      replied (Err (Refused cause)) drafts = record {
         stays = stays_trans contents leaves faults old mid new stays put;
-        done = put_done e accepts;
-        reason = reason_told (contents new) before (faults old) (faults new) e (λ is. rose_before (faults old) (faults mid) (faults new) stays.later (rose is)) damaged;
+        done = λ c s now draft. ended c s now draft (refused cause s) (drafts.done c s now draft);
+        reason = λ counts. tt;
+        quiet = tt;
+      }
+      replied (Err (Store e)) drafts = record {
+        stays = stays_trans contents leaves faults old mid new stays put;
+        done = drafts.done;
+        reason = λ counts. wider_reason (drafted before (contents new)) (faults old) (faults mid) (faults new) (faults new) (Err (Store e)) stays.later (omega arith) (drafts.reason counts);
         quiet = tt;
       }
 
-      pub merge_failed : (result : Result Reply HistoryError) (e : HistoryError) → result ≡ Err e → ((c : Contents) (s : State) → contents new ≡ Some c → IsDraft f c before s → AcceptsRevision f c s text (Err e) after) →
-          IfSome (contents new) (λ c. IsCounted before c → IfStoreDamage e (IsDamage (with_all c before.batch))) → (e ≡ Store Failed → Rose (faults mid) (faults new)) →
-          Replies f contents leaves faults old new before after true Outcomes result
-      merge_failed result e is accepts damaged rose = subst (Replies f contents leaves faults old new before after true Outcomes) (sym is) (put_err e accepts damaged rose)
-
--- what is put over a draft whose pending records are these, and whose text is this
-pub accepts_at : (f : List ℕ → List ℕ) (told : Option Contents) (mid before after : Pending) (said text : List ℕ) (r : Result Id HistoryError) → mid ≡ before → said ≡ text →
-    ((c : Contents) (s : State) → told ≡ Some c → IsDraft f c mid s → AcceptsRevision f c s said r after) →
-    (c : Contents) (s : State) → told ≡ Some c → IsDraft f c before s → AcceptsRevision f c s text r after
-accepts_at f told mid before after said text r same is accepts =
-    subst (λ (t : List ℕ). (c : Contents) (s : State) → told ≡ Some c → IsDraft f c before s → AcceptsRevision f c s t r after) is
-    (subst (λ (p : Pending). (c : Contents) (s : State) → told ≡ Some c → IsDraft f c p s → AcceptsRevision f c s said r after) same accepts)
-
-pub damaged_at : (told : Option Contents) (mid before : Pending) (e : HistoryError) → mid ≡ before →
-    IfSome told (λ c. IsCounted mid c → IfStoreDamage e (IsDamage (with_all c mid.batch))) → IfSome told (λ c. IsCounted before c → IfStoreDamage e (IsDamage (with_all c before.batch)))
-damaged_at told mid before e same damaged = subst (λ (p : Pending). IfSome told (λ c. IsCounted p c → IfStoreDamage e (IsDamage (with_all c p.batch)))) same damaged
+      pub put_replied : (p : Pending) (same_text : List ℕ) (r : Result (List ℕ) HistoryError) (result : Result Reply HistoryError) → p ≡ before → same_text ≡ text →
+          Drafts f contents leaves faults mid new p after (ending f said same_text) r → result ≡ reply_of r → Replies f contents leaves faults old new before after true Outcomes result
+      put_replied p same_text r result same is drafts told = subst (Replies f contents leaves faults old new before after true Outcomes) (sym told)
+          (replied r (subst (λ (q : Pending). Drafts f contents leaves faults mid new q after (ending f said text) r) same
+          (subst (λ (x : List ℕ). Drafts f contents leaves faults mid new p after (ending f said x) r) is drafts)))
 
 -- what is shown
 module _ (f : List ℕ → List ℕ) (a b : Id) (payload : List ℕ) {K : Type 0} (contents : K → Option Contents) (leaves : K → Contents → Type 0) (faults : K → ℕ) (old new : K) (before after : Pending)

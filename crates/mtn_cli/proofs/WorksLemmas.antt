@@ -38,7 +38,7 @@ wider told a b c d Failed lo hi rose = omega arith
 wider told a b c d NoMemory lo hi reason = tt
 wider told a b c d (Damaged x) lo hi reason = reason
 
-wider_reason : (told : Option Contents) (a b c d : ℕ) (r : Result Reply HistoryError) → a ≤ b → c ≤ d → HasReplyReason told b c r → HasReplyReason told a d r
+pub wider_reason : (told : Option Contents) (a b c d : ℕ) (r : Result Reply HistoryError) → a ≤ b → c ≤ d → HasReplyReason told b c r → HasReplyReason told a d r
 wider_reason told a b c d (Ok reply) lo hi reason = tt
 wider_reason told a b c d (Err (Refused cause)) lo hi reason = tt
 wider_reason told a b c d (Err (Store e)) lo hi reason = wider told a b c d e lo hi reason

@@ -33,8 +33,11 @@ pub fn put_text<I: Ident, K: Keeper>(
         (ending (I.meaning ident.now) (option_copied said.entry) text.now) result }
 {
     let id = put_made(alloc, ident, draft, text, tree)?;
-    if let Some(said) = said {
-        certify(alloc, draft, id, said)?;
+    match said {
+        None => Ok(id_text(alloc, id)?),
+        Some(said) => {
+            certify(alloc, draft, id, said)?;
+            Ok(id_text(alloc, id)?)
+        }
     }
-    Ok(id_text(alloc, id)?)
 }
