@@ -200,7 +200,7 @@ for round in $(seq 20); do verdict "killed, round $round" killed; done
 
 # ---- a store that is missing, or may not be written
 
-asked="get_file $abc;get_revision $abc;get_manifest_of $abc;get_roster $abc;get_content_changed $abc a;get_corresponding_path $abc a $abc;show_conflicts $abc $abc;parents $abc;children $abc;ancestors $abc;descendents $abc;common_ancestors $abc;erase_ancestors;toposort;ancestry_difference $abc;leaves;roots;graph"
+asked="get_file $abc;get_revision $abc;get_manifest_of $abc;get_roster $abc;get_content_changed $abc a;get_corresponding_path $abc a $abc;show_conflicts $abc $abc;parents $abc;children $abc;ancestors $abc;descendents $abc;common_ancestors $abc;erase_ancestors;toposort;ancestry_difference $abc;leaves;roots;graph;certs $abc;heads main;branches"
 
 # asks_nothing WORD..: over a missing store a command that only asks answers as over an empty one, and makes no file.
 asks_nothing() {
@@ -217,6 +217,8 @@ row "a missing folder is asked too" 0 '' '' "$work/no/such/folder.mtn" leaves
 row "and nothing is kept there" 6 x '' "$work/no/such/folder.mtn" put_file
 row "a file makes a missing store" 0 abc "$abc\n" "$work/made.mtn" put_file
 row "a refused merge too" 1 '' "refused UnknownRevision $abc\n" "$work/unmerged.mtn" merge "$abc" "$abc"
+row "a refused certificate too" 1 '' "refused UnknownRevision $abc\n" "$work/uncertified.mtn" cert --key="$abc" "$abc" branch main
+row "and a branch without heads" 1 '' 'refused NoBranch\n' "$work/headless.mtn" merge_heads --author=a --date=d --key="$abc" main
 row "a refused revision too" 1 '' 'refused BadOrder 1\n' "$work/refused.mtn" put_revision
 verdict "the stores were made" test -e "$work/made.mtn" -a -e "$work/refused.mtn"
 
@@ -262,7 +264,7 @@ while IFS= read -r words; do
     verdict "help lists $name" grep -q "^  $name " "$work/help"
     ./mtn --help "$name" >"$work/out"
     verdict "and says more of it" test $? = 0 -a "$(head -n 1 "$work/out" | cut -d' ' -f1)" = "$name" -a "$(wc -l <"$work/out")" -gt 1
-done <<<"put_file"$'\n'"put_revision"$'\n'"merge"$'\n'"stdio"$'\n'"${asked//;/$'\n'}"
+done <<<"put_file"$'\n'"put_revision"$'\n'"merge"$'\n'"key"$'\n'"cert"$'\n'"commit"$'\n'"merge_heads"$'\n'"stdio"$'\n'"${asked//;/$'\n'}"
 for status in 0 1 2 3 4 5 6 7 8 9; do
     ./mtn --explain "$status" >"$work/out"
     verdict "status $status is explained" test $? = 0 -a "$(head -c 2 "$work/out")" = "$status "
