@@ -10,29 +10,11 @@
 //! session of requests, whatever the source, the sink and the keeper do, and what a crash may leave.
 #![tactic(auto)]
 
-mod ask;
-mod cert;
-mod certs;
 mod command;
 mod damage;
-mod get_content_changed;
-mod get_corresponding_path;
-mod get_file;
-mod get_manifest_of;
-mod get_revision;
-mod get_roster;
-mod heads;
-mod key;
 mod laws;
-mod merge;
-mod merge_heads;
-mod put_file;
-mod put_revision;
-mod put_text;
-mod said;
 mod script;
 mod session;
-mod show_conflicts;
 mod top;
 mod words;
 mod works;
