@@ -91,13 +91,12 @@ module _ (log : List Logged) (id : Id) (said : Said) (revision : IsIdBytes id.0)
       let a = both_none (value_refusal said.author) _ fine in
       let b = both_none (value_refusal said.branch) _ a.1 in
       let c = both_none (value_refusal said.changelog) _ b.1 in
-      let d = both_none (value_refusal said.date) _ c.1 in (
-        unsigned (codes "author") said.author refl a.0,
-        unsigned (codes "branch") said.branch refl b.0,
-        unsigned (codes "changelog") said.changelog refl c.0,
-        unsigned (codes "date") said.date refl d.0,
-        tt,
-      )
+      let d = both_none (value_refusal said.date) _ c.1 in
+      let author = unsigned (codes "author") said.author refl a.0 in
+      let branch = unsigned (codes "branch") said.branch refl b.0 in
+      let changelog = unsigned (codes "changelog") said.changelog refl c.0 in
+      let date = unsigned (codes "date") said.date refl d.0 in
+      (author, (branch, (changelog, (date, tt))))
 
 -- the text that ends a log stands under its id
 ends_with : (log : List Logged) (l : Logged) → IsSome (text_under (log ++ l ∷ []) l.id)
