@@ -86,7 +86,7 @@ one_branches : (s : State) (o p : Outcome) → (branches : List (List ℕ)) × A
 one_branches s o p is also = is.2 ∙ ap (λ branches. done s (value_lines branches)) (one_list_by bytes_cmp bytes_total (IsBranch (Holds s.certs)) is.0 also.0 is.1 also.1) ∙ sym also.2
 
 -- a branch has one list of heads
-one_heads : (s : State) (h : List Revision) (branch : List ℕ) (a b : List Id) → AreHeads s h branch a → AreHeads s h branch b → a ≡ b
+pub one_heads : (s : State) (h : List Revision) (branch : List ℕ) (a b : List Id) → AreHeads s h branch a → AreHeads s h branch b → a ≡ b
 one_heads s h branch a b is also = one_list_by by_id by_id_total (IsHead (IsProperlyAbove h) (IsMember (Holds s.certs) branch)) a b is also
 
 abbrev Headed : List ℕ → (List Id → Outcome → Type 0) → List Revision → State → Outcome → Type 0
