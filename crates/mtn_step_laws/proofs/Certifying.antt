@@ -15,7 +15,7 @@ use Rattle.mtn_certs.specs.declared.cert.CertError.TheVariants as fault
 use Rattle.mtn_base.specs.declared.refusal.Field.TheVariants as field
 use Rattle.mtn_changeset_laws.specs.Changes.{or_else}
 use Rattle.mtn_model.specs.State.{Logged, State}
-use Rattle.mtn_replay.specs.Accepting.{Decides, IsDecided, logged_beside}
+use Rattle.mtn_replay.specs.Accepting.{Decides, logged_beside}
 use Rattle.mtn_replay.specs.Certificates.{cert_refusal, other_name, with_cert}
 use Rattle.mtn_replay.specs.Lawful.{IsLawful}
 use Rattle.mtn_replay.specs.Texts.{text_under}
