@@ -1,6 +1,6 @@
 -- What is done to certificates and key names is free of the order of the log.
 use Rattle.std.specs.Prelude.{is_none, option_and_then, if◌then◌else◌}
-use Rattle.std.specs.FinMap.{get, insert}
+use Rattle.std.specs.FinMap.{insert}
 use Rattle.std.specs.List.{AllByRecursion}
 use Rattle.std.proofs.Common.{◌≡◌, ℕ, Bool, List, [], ◌∷◌, Option, Some, None, refl, sym, ap, ◌∙◌, subst}
 use Rattle.mtn_answers.specs.Queries.{IsProperlyAbove}
@@ -9,12 +9,12 @@ use Rattle.mtn_base.specs.Hex.{id_of}
 use Rattle.mtn_base.specs.Ids.{by_id}
 use Rattle.mtn_base.specs.Lists.{IsListOf}
 use Rattle.mtn_base.specs.declared.id.Id.{Id}
-use Rattle.mtn_base.specs.declared.refusal.Cause.{Cause}
 use Rattle.mtn_base.specs.declared.refusal.Cause.TheVariants.{BadField, NoBranch, OneHead, UnknownRevision}
 use Rattle.mtn_base.specs.declared.refusal.Field.TheVariants.{Signature}
 use Rattle.mtn_branches.specs.Branches.{IsHead, IsMember}
 use Rattle.mtn_branches.proofs.HeadLemmas.{alike_heads}
 use Rattle.mtn_certs.specs.Certificates.{Certificate, IsIdBytes, certificate, fault_of}
+use Rattle.mtn_certs.specs.Order.{cert_cmp}
 use Rattle.mtn_changeset_laws.specs.Changes.{or_else}
 use Rattle.mtn_history_laws.specs.History.{Revision}
 use Rattle.mtn_model.specs.Outcome.{Outcome}
@@ -26,7 +26,7 @@ use Rattle.mtn_replay.proofs.CertLemmas.{lawful_key}
 use Rattle.mtn_renaming.specs.Order.{IsSameUpToOrder}
 use Rattle.mtn_renaming.specs.Renaming.{IsRenaming}
 use Rattle.mtn_renaming.proofs.Renamed.{turned}
-use Rattle.mtn_step.specs.Certifying.{AreBranches, AreCertsOf, AreHeads, certs_text, fault_cause, held_refusal, key_refusal, said_certs, said_refusal, value_lines, with_certs}
+use Rattle.mtn_step.specs.Certifying.{AreBranches, AreHeads, certs_text, fault_cause, held_refusal, key_refusal, said_certs, said_refusal, value_lines, with_certs}
 use Rattle.mtn_step.specs.Step.{certified, done, id_line, id_lines, refused, unless, Commits, HeadsMerged, Listed, OfHistory}
 use Rattle.mtn_step.specs.declared.call.Said.{Said}
 use Rattle.mtn_step_laws.proofs.Certifying.{IsFit, both_none, fit_of, held_after, lawful_fit, named_field, said_fit}
@@ -92,7 +92,7 @@ module _ (f : List ℕ → List ℕ) (s t : State) (same : IsSameUpToOrder f s t
       let line = certs_text s certs in
       let p = done t line in (
         p,
-        (certs, subst (λ (m : _). IsListOf _ (λ c. Holds m c × (c.revision ≡ id)) certs) same.certs e.1, λ i. done t (certs_text (record t { keys = same.keys i }) certs)),
+        (certs, subst (λ m. IsListOf cert_cmp (λ c. Holds m c × (c.revision ≡ id)) certs) same.certs e.1, λ i. done t (certs_text (record t { keys = same.keys i }) certs)),
         is_outcome f o (done s line) p e.2 (same_done f s t same line),
       )
 
@@ -100,7 +100,7 @@ module _ (f : List ℕ → List ℕ) (s t : State) (same : IsSameUpToOrder f s t
   listed_there id o e = subst (λ held. (p : Outcome) × Listed t id p held × IsSameOutcome f o p) (sym (text_there id.0)) (listed id (text_under s.log id.0) o e)
 
   same_key : (id : Id) (name : List ℕ) → key_refusal t id name ≡ key_refusal s id name
-  same_key id name = λ i. key_refusal (record s { keys = same.keys (~ i) }) id name
+  same_key id name = ap (λ keys. key_refusal (record s { keys = keys }) id name) (sym same.keys)
 
   pub named_there : (id : Id) (name : List ℕ) (o : Outcome) → IsIdBytes id.0 → o ≡ unless (key_refusal s id name) s (with_key s id name) [] → (p : Outcome) × (p ≡ unless (key_refusal t id name) t (with_key t id name) []) × IsSameOutcome f o p
   named_there id name o twenty e =
@@ -131,10 +131,10 @@ commits_free f said text revision key s t o same does =
       p,
       record { refusal = does.refusal; after = e.0; decides = e.1; is = refl },
       is_outcome f o (unless r s (with_certs does.after certs) line) p does.is (same_unless f s t same r (with_certs does.after certs) (with_certs e.0 certs) line (λ fine.
-      let none = both_none does.refusal (said_refusal said) fine in
-      same_with_certs f certs does.after e.0 (e.2 none.0)
-      (said_fit does.after.log (id_of (f text)) said revision key (held_after f s text does.refusal does.after does.decides none.0) none.1)
-      (said_fit e.0.log (id_of (f text)) said revision key (held_after f t text does.refusal e.0 e.1 none.0) none.1))),
+          let none = both_none does.refusal (said_refusal said) fine in
+          same_with_certs f certs does.after e.0 (e.2 none.0)
+          (said_fit does.after.log (id_of (f text)) said revision key (held_after f s text does.refusal does.after does.decides none.0) none.1)
+          (said_fit e.0.log (id_of (f text)) said revision key (held_after f t text does.refusal e.0 e.1 none.0) none.1))),
     )
 
 -- ---- heads

@@ -25,7 +25,8 @@ ghost use Rattle.mtn_step.specs.Step.{Steps};
 ghost use Rattle.mtn_step.specs.declared.call.Call.{Call};
 
 /// A command does to a state what it does to each other one that is the same up to order (`step`), so any two of its outcomes are
-/// the same (`same`), but where it answers in the order of the log. What the command keeps in certificates and key names are ids.
+/// the same (`same`), but where it answers in the order of the log. It is asked that what the command keeps in
+/// certificates and key names are ids.
 pub fn order_free()
     ensures step { (f : List ℕ → List ℕ) (call : Call) (payload : List ℕ) → in_log_order call ≡ false → KeepsIds f call → IsOrderFree f (Steps f call payload) }
     ensures same { (f : List ℕ → List ℕ) (call : Call) (payload : List ℕ) (s t : State) (o p : Outcome) → in_log_order call ≡ false → KeepsIds f call → IsSameUpToOrder f s t →
