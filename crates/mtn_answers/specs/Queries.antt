@@ -1,14 +1,14 @@
 -- What each query of the graph asks for, in terms of the ids of a history. The queries and their names are those of Monotone's
 -- manual (automate parents, children, ancestors, descendents, common_ancestors, erase_ancestors, toposort, ancestry_difference,
 -- leaves, roots, graph); that an unknown id is refused wherever it stands, and where lists are in log order, is our choice.
-use Rattle.std.specs.Prelude.{◌≡◌, ◌≢◌, ◌↔◌, List, [], ◌∷◌, length, Option, Contains, find, is_none, unwrap_or}
-use Rattle.std.specs.List.Sorted.{IsStrictlySortedBy}
+use Rattle.std.specs.Prelude.{◌≡◌, ◌≢◌, List, [], ◌∷◌, length, Option, Contains, find, is_none, unwrap_or}
 use Rattle.std.specs.Ordering.{nat_cmp}
 use Rattle.std.specs.declared.cmp.Ordering.{Ordering}
 use Rattle.mtn_base.specs.declared.id.Id.{Id}
 use Rattle.mtn_ancestry.specs.Ancestors.{IsAncestor}
 use Rattle.mtn_history_laws.specs.History.{Revision, parents_at, IsPlaceOf}
 use Rattle.mtn_base.specs.Ids.{by_id}
+use Rattle.mtn_base.specs.Lists.{IsListOf}
 use Rattle.mtn_replay.specs.Making.{place_of}
 use Rattle.mtn_answers.specs.declared.query.Query.{Query}
 use Rattle.mtn_answers.specs.declared.query.Query.TheVariants.{Parents, Children, Ancestors, Descendents, CommonAncestors, EraseAncestors, Toposort, AncestryDifference, Leaves, Roots}

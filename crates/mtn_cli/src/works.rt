@@ -12,7 +12,6 @@ ghost use Rattle.mtn_history.specs.Stands.{Stands};
 ghost use Rattle.mtn_step.specs.Step.{Steps};
 
 use crate::ask::{ask, graph};
-use crate::command::read_words;
 use crate::damage::tell;
 use crate::get_content_changed::get_content_changed;
 use crate::get_corresponding_path::get_corresponding_path;
@@ -24,12 +23,12 @@ use crate::merge::merge;
 use crate::put_file::put_file;
 use crate::put_revision::put_revision;
 use crate::show_conflicts::show_conflicts;
-use crate::words::WordsError;
 use mtn_base::{Bytes, Cause, Refusal};
 use mtn_frame::{Job, Reply, WorkError, Worked};
 use mtn_history::{Draft, HistoryError, Memory, Pending};
 use mtn_ports::{Batch, Ident, Keeper};
 use mtn_step::Call;
+use mtn_words::{WordsError, read_words};
 use std::alloc::Global;
 use std::mem;
 
