@@ -2,7 +2,7 @@
 use Rattle.std.specs.Prelude.{◌≡◌, ◌⊎◌, List, Option, Some, ℕ, Bool, true, false, is_some}
 use Rattle.mtn_model.specs.State.{State}
 use Rattle.mtn_model.specs.Table.{Contents}
-use Rattle.mtn_cli.specs.Calls.{call_of}
+use Rattle.mtn_words.specs.Calls.{call_of}
 use Rattle.mtn_cli.specs.Texts.{damage_line}
 use Rattle.mtn_frame.specs.Script.{Bounds}
 use Rattle.mtn_frame.specs.declared.works.WorkError.{WorkError}

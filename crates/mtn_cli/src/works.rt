@@ -10,15 +10,14 @@ ghost use Rattle.mtn_ports.specs.Kept.{with_all};
 ghost use Rattle.mtn_history.specs.Stands.{Stands};
 ghost use Rattle.mtn_step.specs.Step.{Steps};
 
-use crate::command::read_words;
 use crate::damage::tell;
-use crate::words::WordsError;
 use mtn_base::{Bytes, Cause, Refusal};
 use mtn_commands::on_draft;
 use mtn_frame::{Job, Reply, WorkError, Worked};
 use mtn_history::{Draft, HistoryError, Memory, Pending};
 use mtn_ports::{Batch, Ident, Keeper};
 use mtn_step::Call;
+use mtn_words::{WordsError, read_words};
 use std::alloc::Global;
 use std::mem;
 
