@@ -7,13 +7,12 @@ use Rattle.std.proofs.lemmas.List.{append-nil}
 use Rattle.std.specs.FinMap.{get-empty}
 use Rattle.std.specs.Ordering.{nat_cmp}
 use Rattle.std.specs.Cmp.Lexicographic.{slice_cmp}
-use Rattle.mtn_base.specs.declared.id.Id.{Id}
 use Rattle.mtn_base.specs.declared.refusal.Cause.TheVariants.{UnknownRevision}
 use Rattle.mtn_certs.specs.Certificates.{Certificate, IsIdBytes, IsLawfulCertificate, is_field_byte}
 use Rattle.mtn_model.specs.State.{Certificates, Holds, State}
 use Rattle.mtn_model.specs.Table.{Contents, body_at}
 use Rattle.mtn_ports.specs.Kept.{IsBody, with_all}
-use Rattle.mtn_records.specs.Fields.{AreApart, IsField, IsPair, IsTwenty, field_text, id_text, pair_text}
+use Rattle.mtn_records.specs.Fields.{AreApart, IsField, IsTwenty, field_text, id_text}
 use Rattle.mtn_records.specs.Apart.{field_apart, id_apart, pair_apart}
 use Rattle.mtn_replay.specs.Certificates.{cert_refusal, with_cert}
 use Rattle.mtn_replay.specs.Texts.{text_under}

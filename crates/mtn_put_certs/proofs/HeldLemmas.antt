@@ -1,22 +1,20 @@
 -- The certificates that a draft holds, and the keys of their records.
-use Rattle.std.specs.Prelude.{Contains, IfErr, IfOk, IfSome, IsSome, MatchBool, is_some}
+use Rattle.std.specs.Prelude.{Contains, IfErr, IfSome, IsSome, MatchBool, is_some}
 use Rattle.std.specs.Cmp.{nat_cmp_total, tied_itself}
 use Rattle.std.specs.Cmp.Lexicographic.{slice_cmp}
 use Rattle.std.specs.FinMap.{get, get-empty}
 use Rattle.std.specs.Ordering.{nat_cmp, ordering_then}
-use Rattle.std.specs.declared.cmp.Ordering.TheVariants.{Less}
-use Rattle.std.proofs.Common.{◌≡◌, ◌↔◌, ◌⊎◌, ◌+◌, ◌<◌, ◌≤◌, ⊎_elim, inl, inr, length, take, get_or, ℕ, Bool, true, false, List, [], ◌∷◌, ◌++◌, Option, Some, None, Result, Ok, Err, refl, sym, ap, ◌∙◌, subst}
+use Rattle.std.proofs.Common.{◌≡◌, ◌↔◌, ◌+◌, ◌<◌, ◌≤◌, ⊎_elim, inl, inr, length, take, get_or, ℕ, Bool, true, false, List, [], ◌∷◌, ◌++◌, Option, Some, None, Result, Ok, Err, refl, sym, ap, ◌∙◌, subst}
 use Rattle.std.proofs.lemmas.List.{take_all, take_more}
 use Rattle.std.proofs.lemmas.List.Elements.{Contains-append_left, Contains-push, Contains-push_cases}
 use Rattle.mtn_base.specs.Lists.{IsListOf}
 use Rattle.mtn_base.specs.Names.{bytes_cmp}
 use Rattle.mtn_base.specs.declared.id.Id.{Id}
-use Rattle.mtn_certs.specs.Certificates.{Certificate, IsIdBytes}
+use Rattle.mtn_certs.specs.Certificates.{Certificate, IsIdBytes, is_field}
 use Rattle.mtn_certs.specs.Order.{cert_cmp}
 use Rattle.mtn_model.specs.State.{Holds, State}
 use Rattle.mtn_model.specs.Table.{Contents, body_at}
 use Rattle.mtn_ports.specs.Kept.{IsAbove, IsBody, with_all}
-use Rattle.mtn_ports.specs.declared.batch.Put.{Put}
 use Rattle.mtn_records.specs.Apart.{id_apart}
 use Rattle.mtn_records.specs.Fields.{field_text, id_text}
 use Rattle.mtn_history.specs.Certificates.{CertDamage, IsCertKey, KeyDamage, cert_key}
@@ -28,7 +26,7 @@ use Rattle.mtn_history.specs.declared.errors.StoreError.{StoreError}
 use Rattle.mtn_history.specs.declared.errors.StoreError.TheVariants.{Damaged, Failed, NoMemory}
 use Rattle.mtn_history.specs.declared.pending.Pending.{Pending}
 use Rattle.mtn_history.proofs.CertRecords.{no_cert_damage, no_key_damage}
-use Rattle.mtn_put_certs.specs.Reading.{AreBehind, AreCertsOf, IsRecordOf}
+use Rattle.mtn_put_certs.specs.Reading.{AreBehind, AreCertsOf}
 use Rattle.mtn_put_certs.specs.Walking.{IsBehind, IsHeldBehind}
 use Rattle.mtn_put_certs.proofs.CertLemmas.{are_parts, held_by, one_key}
 
@@ -74,8 +72,7 @@ are_behind b f c s stands front keys certs listed read x = (
   λ among.
       let k = (read x).0 among in
       let h = (listed.exact k.0).0 k.1 in
-      let body = body_of (body_at c 8 k.0) h.1 in
-      (
+      let body = body_of (body_at c 8 k.0) h.1 in (
         held_by b f c s x body.0 stands (are_parts x k.2.lawful k.2.revision k.2.made_by) (ap (body_at c 8) (sym k.2.whole) ∙ body.1),
         subst (IsBehind front) k.2.whole h.0,
       ),
@@ -114,8 +111,8 @@ next_cert keys certs key cert is read x = (
   λ among. ⊎_elim (λ old. let k = (read x).0 old in (k.0, Contains-append_left keys (key ∷ []) k.0 k.1, k.2)) (λ new. (key, Contains-push keys key, subst (IsCertKey key) new is)) (Contains-push_cases certs cert x among),
   λ k. ⊎_elim (λ old. Contains-append_left certs (cert ∷ []) x ((read x).1 (k.0, old, k.2)))
       (λ new.
-          let same : cert ≡ x = one_key cert x (are_parts cert is.lawful is.revision is.made_by) (are_parts x k.2.lawful k.2.revision k.2.made_by) (sym is.whole ∙ new ∙ k.2.whole) in
-          subst (Contains (certs ++ cert ∷ [])) same (Contains-push certs cert))
+      let same : cert ≡ x = one_key cert x (are_parts cert is.lawful is.revision is.made_by) (are_parts x k.2.lawful k.2.revision k.2.made_by) (sym is.whole ∙ new ∙ k.2.whole) in
+      subst (Contains (certs ++ cert ∷ [])) same (Contains-push certs cert))
       (Contains-push_cases keys key k.0 k.1),
 )
 
@@ -177,3 +174,14 @@ pub no_key_is_damaged : {T : Type 0} (f : List ℕ → List ℕ) (told : Option 
 no_key_is_damaged f told p c s r at draft damaged =
     never r (KeyDamage (with_all c p.batch)) (λ d. no_key_damage f (with_all c p.batch) s d (stands_of p.is_new f (with_all c p.batch) s draft.stands))
     (subst (λ o. IfSome o (λ d. IfErr r (λ e. IfDamage e (KeyDamage (with_all d p.batch))))) at damaged)
+
+-- a name that is no field
+pub no_field : (f : List ℕ → List ℕ) (told : Option Contents) (p : Pending) (c : Contents) (s : State) (e : StoreError) (key shown body tested out : List ℕ) (test : Bool) → told ≡ Some c → IsDraft f c p s →
+    IfSome told (λ d. IsBody (body_at (with_all d p.batch) 7 key) test out) → test ≡ true → shown ≡ key → body ≡ out → tested ≡ out → is_field tested ≡ false → IfDamage e (λ d. d ≡ Bad 7 shown body) → IfDamage e (λ _. ⊥)
+no_field f told p c s e key shown body tested out test at draft finds there is holds sees broken damage =
+    let answer : body_at (with_all c p.batch) 7 key ≡ Some out =
+    subst (λ t. IsBody (body_at (with_all c p.batch) 7 key) t out) there (subst (λ o. IfSome o (λ d. IsBody (body_at (with_all d p.batch) 7 key) test out)) at finds) in
+    let found : body_at (with_all c p.batch) 7 shown ≡ Some body = ap (body_at (with_all c p.batch) 7) is ∙ answer ∙ ap Some (sym holds) in
+    let no_name : is_field body ≡ false = ap is_field (holds ∙ sym sees) ∙ broken in
+    damage_is e (Bad 7 shown body) (λ _. ⊥) damage
+    (no_key_damage f (with_all c p.batch) s (Bad 7 shown body) (stands_of p.is_new f (with_all c p.batch) s draft.stands) (refl, found, λ id field. let both : true ≡ false = sym field ∙ no_name in cc))

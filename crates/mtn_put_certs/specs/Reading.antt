@@ -1,5 +1,5 @@
 -- Which certificates and names are read.
-use Rattle.std.specs.Prelude.{◌≡◌, ◌≢◌, ◌⊎◌, ◌↔◌, ◌++◌, ℕ, List, [], ◌∷◌, Option, Some, None, Contains}
+use Rattle.std.specs.Prelude.{◌≢◌, ◌⊎◌, ◌↔◌, ◌++◌, ℕ, List, [], ◌∷◌, Option, Some, None, Contains}
 use Rattle.std.specs.FinMap.{get}
 use Rattle.mtn_base.specs.declared.id.Id.{Id}
 use Rattle.mtn_certs.specs.Certificates.{Certificate}

@@ -25,11 +25,7 @@ use std::alloc::Global;
 
 /// Gives a key its name, a field; the name that it has is given already. It is refused as KeyNamed where the key has another
 /// name. Any error leaves what is pending as it was.
-pub fn put_key<K: Keeper>(
-    draft: &mut Draft<'_, K>,
-    id: Id,
-    name: &[u8],
-) -> Result<(), HistoryError>
+pub fn put_key<K: Keeper>(draft: &mut Draft<'_, K>, id: Id, name: &[u8]) -> Result<(), HistoryError>
     requires { field_test name.now ≡ true }
     ensures same_reference { draft.new.keeper.ghost_name ≡ draft.old.keeper.ghost_name }
     ensures stays { Stays K.contents K.leaves K.faults draft.old.keeper.now draft.new.keeper.now }

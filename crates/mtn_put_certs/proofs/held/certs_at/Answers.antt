@@ -29,4 +29,4 @@ loop-key-preserved g c = record {
 }
 
 pub returns-clause-read : goal.returns-clause-read
-returns-clause-read g c = all_certs c.args.keys.now c.loop-key.key-index c.loop-key.certs.items ? c.loop-key.invariant.read
+returns-clause-read g c = all_certs c.args.keys.now c.loop-key.key-index c.loop-key.certs.items c.loop-key-test.false c.loop-key.invariant.read

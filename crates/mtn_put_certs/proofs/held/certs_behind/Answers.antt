@@ -12,7 +12,7 @@ pub returns-clause-found : goal.returns-clause-found
 returns-clause-found g c f d s told draft =
     IfOk-weaker c.certs_at.result _ _
     (λ v read. told_behind f (g.K.Keeper.contents c.keys_behind.new.draft.keeper.now) c.args.draft.now.pending d s c.args.front.now c.in_ok-keys.keys.items v.items (c.certs_at.ensures.stays.same d told) draft c.in_ok-keys.ensures.read
-        (subst (λ ks. AreCertsOf ks v.items) c.deref.ensures.value read)) c.certs_at.ensures.read
+    (subst (λ ks. AreCertsOf ks v.items) c.deref.ensures.value read)) c.certs_at.ensures.read
 
 pub returns-clause-damaged : goal.returns-clause-damaged
 returns-clause-damaged g c =

@@ -1,4 +1,4 @@
-use Rattle.std.proofs.Common.{◌∙◌, sym, ap, subst}
+use Rattle.std.proofs.Common.{◌∙◌, [], get_or, refl, sym, subst}
 use Rattle.mtn_history.specs.Stands.{IsDraft}
 use Rattle.mtn_history.specs.declared.pending.Pending.{Pending}
 use Rattle.mtn_ports.proofs.KeptLemmas.{stays_trans}
@@ -20,5 +20,5 @@ loop-id-preserved g c = record {
       let before = c.key_name.ensures.asks.stays.same d told in
       let own = c.in_ok-name.ensures.found f d s told (subst (λ (x : Pending). IsDraft f d x s) (sym c.loop-id.invariant.pending) draft) in
       let more = c.in_ok-add_name.ensures in
-      one_more_id s.keys c.args.ids.now c.loop-id.id-index _ _ c.in_ok-name.name c.loop-id.names.items c.add_name.new.names.items c.loop-id-test.true ? own more (c.loop-id.invariant.so_far f d s before draft);
+      one_more_id s.keys c.args.ids.now c.loop-id.id-index (get_or c.args.ids.now c.loop-id.id-index (record { 0 = [] })) (record { 0 = [] }) c.in_ok-name.name c.loop-id.names.items c.add_name.new.names.items c.loop-id-test.true refl own more (c.loop-id.invariant.so_far f d s before draft);
 }
