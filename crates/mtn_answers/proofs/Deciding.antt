@@ -1,10 +1,9 @@
 -- Whether a question of the graph holds of an id can be told.
 use Rattle.std.specs.Prelude.{Contains}
-use Rattle.std.proofs.Common.{◌≡◌, ◌≢◌, ◌<◌, ℕ, zero, suc, List, [], ◌∷◌, Option, Some, None, refl, sym, ap, ◌∙◌, subst, ⊎_elim}
-use Rattle.std.proofs.Math.Decide.{ℕ_discrete}
+use Rattle.std.proofs.Common.{◌≡◌, ℕ, zero, suc, List, [], ◌∷◌, Option, Some, None, refl, sym, ap, ◌∙◌, subst, ⊎_elim}
 use Rattle.mtn_ancestry.specs.Ancestors.{IsAncestor}
 use Rattle.mtn_ancestry.proofs.Ancestry.{tell_ancestor}
-use Rattle.mtn_ancestry.proofs.Members.{Contains-nil, Contains-head, Contains-later, Contains-cases, tell_contains, find_below}
+use Rattle.mtn_ancestry.proofs.Members.{Contains-nil, Contains-head, Contains-later, Contains-cases, tell_contains}
 use Rattle.mtn_answers.specs.Queries.{IsHeld, IsParent, IsAbove, IsProperlyAbove, IsAsked}
 use Rattle.mtn_answers.specs.declared.query.Query.{Query}
 use Rattle.mtn_answers.specs.declared.query.Query.TheVariants.{Parents, Children, Ancestors, Descendents, CommonAncestors, EraseAncestors, Toposort, AncestryDifference, Leaves, Roots}
@@ -12,7 +11,7 @@ use Rattle.mtn_base.specs.declared.id.Id.{Id}
 use Rattle.mtn_history_laws.specs.History.{Revision, IsGrown, IsPlaceOf, parents_at}
 use Rattle.mtn_history_laws.proofs.Telling.{tell_id}
 use Rattle.mtn_replay.specs.Making.{place_of}
-use Rattle.mtn_replay.proofs.Places.{no_place, place_has, inside}
+use Rattle.mtn_replay.proofs.Places.{no_place, place_has}
 
 pub tell_not : {A : Type 0} → Dec A → Dec (¬ A)
 tell_not (yes a) = no (λ n. n a)

@@ -1,25 +1,23 @@
 -- Each query has an answer, and each scalar the ids of its marks.
-use Rattle.std.specs.Prelude.{Contains, slice_get, map, All, find, is_none, unwrap_or}
-use Rattle.std.specs.List.{AllByRecursion}
+use Rattle.std.specs.Prelude.{Contains, slice_get, map, All, is_none, unwrap_or}
 use Rattle.std.specs.List.Sorted.{IsStrictlySortedBy}
 use Rattle.std.specs.Cmp.{nat_cmp_is}
 use Rattle.std.specs.Ordering.{nat_cmp}
 use Rattle.std.specs.declared.cmp.Ordering.TheVariants.{Less}
-use Rattle.std.proofs.Common.{◌≡◌, ◌≢◌, ◌↔◌, ◌<◌, ◌≤◌, ◌+◌, ◌-◌, ℕ, zero, suc, Bool, true, false, cond, List, [], ◌∷◌, length, Option, Some, None, refl, sym, ap, ◌∙◌, subst, ⊎_elim, arith}
+use Rattle.std.proofs.Common.{◌≡◌, ◌<◌, ◌≤◌, ◌+◌, ℕ, zero, suc, cond, List, [], ◌∷◌, length, Option, Some, None, refl, sym, ap, ◌∙◌, subst, ⊎_elim, arith}
 use Rattle.std.proofs.Math.Decide.{ℕ_discrete}
 use Rattle.std.proofs.lemmas.List.Elements.{All-nil, All-cons}
-use Rattle.mtn_ancestry.specs.Ancestors.{IsAncestor}
 use Rattle.mtn_ancestry.proofs.Members.{Contains-nil, Contains-head, Contains-later, Contains-cases}
 use Rattle.mtn_answers.specs.Lines.{HasParents, IsGraph}
 use Rattle.mtn_base.specs.Lists.{IsListOf}
-use Rattle.mtn_answers.specs.Queries.{IsHeld, IsParent, IsAbove, IsProperlyAbove, IsAsked, IsAnswer, by_place, order_of, first_unknown, ids_of}
+use Rattle.mtn_answers.specs.Queries.{IsHeld, IsParent, IsAsked, IsAnswer, by_place, first_unknown, ids_of}
 use Rattle.mtn_answers.specs.declared.query.Line.{Line}
 use Rattle.mtn_answers.specs.declared.query.Query.{Query}
 use Rattle.mtn_answers.specs.declared.query.Query.TheVariants.{Parents, Children, Ancestors, Descendents, CommonAncestors, EraseAncestors, Toposort, AncestryDifference, Leaves, Roots}
 use Rattle.mtn_answers.proofs.Deciding.{tell_asked, tell_held, tell_parent}
-use Rattle.mtn_answers.proofs.Lists.{each_to, sorted_nil, sorted_cons, listed_by}
+use Rattle.mtn_answers.proofs.Lists.{each_to, sorted_nil, sorted_cons}
 use Rattle.mtn_base.specs.declared.id.Id.{Id}
-use Rattle.mtn_history_laws.specs.History.{Revision, IsGrown, IsPlaceOf, parents_at}
+use Rattle.mtn_history_laws.specs.History.{Revision, IsGrown, IsPlaceOf}
 use Rattle.mtn_base.specs.Ids.{by_id, in_id_order}
 use Rattle.mtn_base.proofs.IdOrder.{in_order_ascends, in_order_same}
 use Rattle.mtn_replay.specs.Making.{place_of}

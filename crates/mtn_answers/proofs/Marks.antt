@@ -1,6 +1,6 @@
 -- Each mark is an event of a revision of the history.
 use Rattle.std.specs.Prelude.{slice_get}
-use Rattle.std.proofs.Common.{◌≡◌, ℕ, List, Option, Some, None, refl, sym, ap, ◌∙◌}
+use Rattle.std.proofs.Common.{◌≡◌, ℕ, List, Option, Some, None, refl, ap}
 use Rattle.mtn_base.specs.declared.id.Id.{Id}
 use Rattle.mtn_history_laws.specs.History.{Revision, revision_tree, IsPlaceOf}
 use Rattle.mtn_history_laws.specs.Scalars.{Scalar, Value, IsMark, value_at, value_in}

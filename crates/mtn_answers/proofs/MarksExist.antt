@@ -1,6 +1,6 @@
 -- Each scalar has the ids of its marks, and each question about a revision an answer.
 use Rattle.std.specs.Prelude.{Contains}
-use Rattle.std.proofs.Common.{◌≡◌, ◌<◌, ℕ, List, Option, Some, None, Ok, Err, refl, sym, ap, ◌∙◌, subst, arith}
+use Rattle.std.proofs.Common.{◌≡◌, ◌<◌, ℕ, List, Option, Some, None, Ok, Err, refl, subst}
 use Rattle.std.proofs.Math.Decide.{ℕ_discrete}
 use Rattle.mtn_ancestry.specs.Ancestors.{ParentsAreEarlier}
 use Rattle.mtn_ancestry.proofs.Members.{find_in, by_position}

@@ -1,7 +1,7 @@
 -- What each query of the graph asks for, in terms of the ids of a history. The queries and their names are those of Monotone's
 -- manual (automate parents, children, ancestors, descendents, common_ancestors, erase_ancestors, toposort, ancestry_difference,
 -- leaves, roots, graph); that an unknown id is refused wherever it stands, and where lists are in log order, is our choice.
-use Rattle.std.specs.Prelude.{◌≡◌, ◌≢◌, List, [], ◌∷◌, length, Option, Contains, find, is_none, unwrap_or}
+use Rattle.std.specs.Prelude.{◌≢◌, List, [], ◌∷◌, length, Option, Contains, find, is_none, unwrap_or}
 use Rattle.std.specs.Ordering.{nat_cmp}
 use Rattle.std.specs.declared.cmp.Ordering.{Ordering}
 use Rattle.mtn_base.specs.declared.id.Id.{Id}

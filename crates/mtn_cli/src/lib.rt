@@ -10,21 +10,10 @@
 //! session of requests, whatever the source, the sink and the keeper do, and what a crash may leave.
 #![tactic(auto)]
 
-mod ask;
 mod damage;
-mod get_content_changed;
-mod get_corresponding_path;
-mod get_file;
-mod get_manifest_of;
-mod get_revision;
-mod get_roster;
 mod laws;
-mod merge;
-mod put_file;
-mod put_revision;
 mod script;
 mod session;
-mod show_conflicts;
 mod top;
 mod works;
 

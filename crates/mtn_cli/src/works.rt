@@ -1,8 +1,8 @@
 // A command over a draft of the keeper.
 ghost use Rattle.std.specs.Prelude.{◌≡◌, IfSome, Some, true};
-ghost use Rattle.mtn_cli.specs.Drafts.{Replies, reply_of};
 ghost use Rattle.mtn_cli.specs.Step.{Step};
-ghost use Rattle.mtn_cli.specs.Store.{IsLine, ShowsDamage, is_merging, is_spelled, may_conflict, unbounded};
+ghost use Rattle.mtn_cli.specs.Store.{IsLine, ShowsDamage, is_merging, is_spelled, unbounded};
+ghost use Rattle.mtn_commands.specs.Drafts.{may_conflict};
 ghost use Rattle.mtn_frame.specs.Script.{BoundsJob, Does};
 ghost use Rattle.mtn_frame.specs.Works.{Works, is_merging as job_merging, is_spelled as job_spelled};
 ghost use Rattle.mtn_history.specs.Memory.{Knows};
@@ -11,19 +11,9 @@ ghost use Rattle.mtn_ports.specs.Kept.{with_all};
 ghost use Rattle.mtn_history.specs.Stands.{Stands};
 ghost use Rattle.mtn_step.specs.Step.{Steps};
 
-use crate::ask::{ask, graph};
 use crate::damage::tell;
-use crate::get_content_changed::get_content_changed;
-use crate::get_corresponding_path::get_corresponding_path;
-use crate::get_file::get_file;
-use crate::get_manifest_of::get_manifest_of;
-use crate::get_revision::get_revision;
-use crate::get_roster::get_roster;
-use crate::merge::merge;
-use crate::put_file::put_file;
-use crate::put_revision::put_revision;
-use crate::show_conflicts::show_conflicts;
 use mtn_base::{Bytes, Cause, Refusal};
+use mtn_commands::on_draft;
 use mtn_frame::{Job, Reply, WorkError, Worked};
 use mtn_history::{Draft, HistoryError, Memory, Pending};
 use mtn_ports::{Batch, Ident, Keeper};
@@ -31,51 +21,6 @@ use mtn_step::Call;
 use mtn_words::{WordsError, read_words};
 use std::alloc::Global;
 use std::mem;
-
-// The reply of a command that answered a text.
-fn told(worked: Result<Bytes, HistoryError>) -> Result<Reply, HistoryError>
-    ensures { result ≡ reply_of worked }
-{
-    match worked {
-        Ok(text) => Ok(Reply {
-            conflicts: false,
-            text,
-        }),
-        Err(error) => Err(error),
-    }
-}
-
-// The command's work over a draft, one arm a command.
-fn on_draft<I: Ident, K: Keeper>(
-    alloc: Global,
-    call: &Call,
-    ident: &I,
-    payload: &[u8],
-    draft: &mut Draft<'_, K>,
-) -> Result<Reply, HistoryError>
-    ensures same_reference { draft.new.keeper.ghost_name ≡ draft.old.keeper.ghost_name }
-    ensures replies { Replies (I.meaning ident.now) K.contents K.leaves K.faults draft.old.keeper.now draft.new.keeper.now draft.old.pending draft.new.pending
-        (may_conflict (Some call.now)) (Steps (I.meaning ident.now) call.now payload.now) result }
-{
-    match call {
-        Call::PutFile => told(put_file(alloc, ident, payload, draft)),
-        Call::PutRevision => told(put_revision(alloc, ident, payload, draft)),
-        Call::GetFile { id } => told(get_file(alloc, ident, *id, payload, draft)),
-        Call::GetRevision { id } => told(get_revision(alloc, ident, *id, payload, draft)),
-        Call::GetManifestOf { id } => told(get_manifest_of(ident, *id, payload, draft)),
-        Call::GetRoster { id } => told(get_roster(ident, *id, payload, draft)),
-        Call::GetContentChanged { id, path } => {
-            told(get_content_changed(ident, *id, path, payload, draft))
-        }
-        Call::GetCorrespondingPath { id, path, other } => {
-            told(get_corresponding_path(ident, *id, path, *other, payload, draft))
-        }
-        Call::Ask { query } => told(ask(alloc, ident, query, payload, draft)),
-        Call::Graph => told(graph(alloc, ident, payload, draft)),
-        Call::Merge { a, b, resolves } => merge(alloc, ident, *a, *b, *resolves, payload, draft),
-        Call::ShowConflicts { a, b } => told(show_conflicts(alloc, ident, *a, *b, payload, draft)),
-    }
-}
 
 // What is remembered where nothing is put: all of it if nothing was pending, else nothing.
 fn kept(alloc: Global, batch: &Batch, remembered: Memory) -> Memory

@@ -1,2 +1,3 @@
 pub mod Ids
 pub mod Merged
+pub mod Saying

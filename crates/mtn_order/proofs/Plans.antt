@@ -152,11 +152,18 @@ module _ (f : List ℕ → List ℕ) (s t : State) (same : IsSameUpToOrder f s t
       (done t (conflict_text l r d), refl, is_outcome f o (done s (conflict_text l r d)) (done t (conflict_text l r d)) e (same_done f s t same (conflict_text l r d)))
   shown_there (Ok (Merged text)) o e = absurd e
 
+-- what is planned over one history is planned over the other
+pub planned_there : (f : List ℕ → List ℕ) (s t : State) → IsSameUpToOrder f s t → (h g : List Revision) (to back : ℕ → ℕ) → IsRenaming h g to back → (a b : Id) (resolves : Bool) (payload : List ℕ) (ends : Ending) →
+    ((text : List ℕ) → IsOrderFree f (ends text)) → (o : Outcome) → Planned (Merges f s.files h a b resolves payload) (Ended ends s o) →
+    (p : Outcome) × Planned (Merges f t.files g a b resolves payload) (Ended ends t p) × IsSameOutcome f o p
+planned_there f s t same h g to back is a b resolves payload ends free o e =
+    let p = ended_there f s t same ends free e.0 o e.2 in
+    (p.0, (e.0, subst (λ files. Merges f files g a b resolves payload e.0) same.files (merges_there h g to back is f s.files a b resolves payload e.0 e.1), p.1), p.2)
+
 pub merge_free : (f : List ℕ → List ℕ) (a b : Id) (resolves : Bool) (payload : List ℕ) (ends : Ending) → ((text : List ℕ) → IsOrderFree f (ends text)) →
     IsOrderFree f (λ s o. OfHistory f s (λ h. Planned (Merges f s.files h a b resolves payload) (Ended ends s o)))
-merge_free f a b resolves payload ends free = of_history_free f (λ h s o. Planned (Merges f s.files h a b resolves payload) (Ended ends s o)) (λ s t h g to back o same is e.
-    let p = ended_there f s t same ends free e.0 o e.2 in
-    (p.0, (e.0, subst (λ files. Merges f files g a b resolves payload e.0) same.files (merges_there h g to back is f s.files a b resolves payload e.0 e.1), p.1), p.2))
+merge_free f a b resolves payload ends free = of_history_free f (λ h s o. Planned (Merges f s.files h a b resolves payload) (Ended ends s o))
+    (λ s t h g to back o same is e. planned_there f s t same h g to back is a b resolves payload ends free o e)
 
 pub shows_free : (f : List ℕ → List ℕ) (a b : Id) → IsOrderFree f (λ s o. OfHistory f s (λ h. Planned (Looks h a b) (Shown s o)))
 shows_free f a b = of_history_free f (λ h s o. Planned (Looks h a b) (Shown s o)) (λ s t h g to back o same is e.

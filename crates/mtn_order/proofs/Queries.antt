@@ -46,7 +46,7 @@ module _ (h g : List Revision) (to back : ℕ → ℕ) (is : IsRenaming h g to b
   above_there : (x r : Id) → IsAbove h x r → IsAbove g x r
   above_there x r e = (to e.0, to e.1, place_to h g to back is x e.0 e.2, place_to h g to back is r e.1 e.3, above_to h g to back is e.0 e.1 e.4)
 
-  properly_there : (x r : Id) → IsProperlyAbove h x r → IsProperlyAbove g x r
+  pub properly_there : (x r : Id) → IsProperlyAbove h x r → IsProperlyAbove g x r
   properly_there x r e = (e.0, above_there x r e.1)
 
 module _ (h g : List Revision) (to back : ℕ → ℕ) (is : IsRenaming h g to back) where

@@ -80,7 +80,7 @@ decided f s t same text refusal after d =
           (same_after f s t same text h g d.read d.spelled other.1 d.short d.spells refusals one refl texts (sym d.is ∙ none)),
     )
 
-comes_to : (f : List ℕ → List ℕ) (s t : State) (same : IsSameUpToOrder f s t) (text : List ℕ) (refusal : Option Cause) (after : State) → Decides f s text refusal after →
+pub comes_to : (f : List ℕ → List ℕ) (s t : State) (same : IsSameUpToOrder f s t) (text : List ℕ) (refusal : Option Cause) (after : State) → Decides f s text refusal after →
     (v : State) × Decides f t text refusal v × (refusal ≡ None → IsSameUpToOrder f after v)
 comes_to f s t same text refusal after (inl long) = (t, inl long, λ none. absurd (refused_already refusal (TextTooLong (length text)) long.is none))
 comes_to f s t same text refusal after (inr (inl unread)) = (t, inr (inl unread), λ none. absurd (refused_already refusal unread.cause unread.is none))

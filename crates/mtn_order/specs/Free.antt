@@ -1,8 +1,9 @@
 -- Commands whose answer does not depend on the order of the log.
 use Rattle.std.specs.Prelude.{◌≡◌, ℕ, List, Bool, true, false, Option, None, Some}
+use Rattle.mtn_certs.specs.Certificates.{IsIdBytes}
 use Rattle.mtn_model.specs.Outcome.{Outcome}
 use Rattle.mtn_step.specs.declared.call.Call.{Call}
-use Rattle.mtn_step.specs.declared.call.Call.TheVariants.{Ask}
+use Rattle.mtn_step.specs.declared.call.Call.TheVariants.{Ask, Cert, Key, Commit, MergeHeads}
 use Rattle.mtn_model.specs.State.{State}
 use Rattle.mtn_answers.specs.declared.query.Query.TheVariants.{Toposort, AncestryDifference}
 use Rattle.mtn_renaming.specs.Order.{IsSameUpToOrder}
@@ -16,6 +17,18 @@ in_log_order _ = false
 abbrev pub asks_log_order : Option Call → Bool
 asks_log_order None = false
 asks_log_order (Some call) = in_log_order call
+
+-- each text has an id
+abbrev pub MakesIds : (List ℕ → List ℕ) → Type 0
+MakesIds f = (text : List ℕ) → IsIdBytes (f text)
+
+-- what a command keeps in certificates and key names are ids; only words that spell an id make such a command
+abbrev pub KeepsIds : (List ℕ → List ℕ) → Call → Type 0
+KeepsIds f (Cert revision name key value signature) = IsIdBytes revision.0 × IsIdBytes key.0
+KeepsIds f (Key id name) = IsIdBytes id.0
+KeepsIds f (Commit said) = MakesIds f × IsIdBytes said.key.0
+KeepsIds f (MergeHeads branch author date key resolves) = MakesIds f × IsIdBytes key.0
+KeepsIds f _ = Unit {0}
 
 -- the same output and status, and states that are again one but for the order of their logs
 pub record IsSameOutcome (f : List ℕ → List ℕ) (o p : Outcome) : Type 0 where

@@ -17,7 +17,7 @@ ghost use Rattle.mtn_history_laws.specs.History.{Revision};
 ghost use Rattle.mtn_merging.specs.MergeEdges.{merge_edges};
 ghost use Rattle.mtn_model.specs.Outcome.{Outcome};
 ghost use Rattle.mtn_model.specs.State.{State};
-ghost use Rattle.mtn_order.specs.Free.{IsOrderFree, IsSameOutcome, in_log_order};
+ghost use Rattle.mtn_order.specs.Free.{IsOrderFree, IsSameOutcome, KeepsIds, in_log_order};
 ghost use Rattle.mtn_renaming.specs.Order.{IsSameUpToOrder};
 ghost use Rattle.mtn_renaming.specs.Renaming.{IsRenaming};
 ghost use Rattle.mtn_roster.specs.Tree.{Tree};
@@ -25,10 +25,11 @@ ghost use Rattle.mtn_step.specs.Step.{Steps};
 ghost use Rattle.mtn_step.specs.declared.call.Call.{Call};
 
 /// A command does to a state what it does to each other one that is the same up to order (`step`), so any two of its outcomes are
-/// the same (`same`), but where it answers in the order of the log.
+/// the same (`same`), but where it answers in the order of the log. It is asked that what the command keeps in
+/// certificates and key names are ids.
 pub fn order_free()
-    ensures step { (f : List ℕ → List ℕ) (call : Call) (payload : List ℕ) → in_log_order call ≡ false → IsOrderFree f (Steps f call payload) }
-    ensures same { (f : List ℕ → List ℕ) (call : Call) (payload : List ℕ) (s t : State) (o p : Outcome) → in_log_order call ≡ false → IsSameUpToOrder f s t →
+    ensures step { (f : List ℕ → List ℕ) (call : Call) (payload : List ℕ) → in_log_order call ≡ false → KeepsIds f call → IsOrderFree f (Steps f call payload) }
+    ensures same { (f : List ℕ → List ℕ) (call : Call) (payload : List ℕ) (s t : State) (o p : Outcome) → in_log_order call ≡ false → KeepsIds f call → IsSameUpToOrder f s t →
         Steps f call payload s o → Steps f call payload t p → IsSameOutcome f o p }
 {}
 

@@ -1,5 +1,5 @@
 -- A command has an outcome.
-use Rattle.std.proofs.Common.{◌≡◌, ◌≢◌, ◌≤◌, ◌<◌, ℕ, List, length, Option, Some, None, Ok, Err, refl, inl, inr}
+use Rattle.std.proofs.Common.{◌≡◌, ◌≢◌, ℕ, Bool, List, [], ◌∷◌, length, Option, Some, None, Ok, Err, refl, inl, inr}
 use Rattle.std.proofs.lemmas.Bool.{cases_lt}
 use Rattle.mtn_answers.specs.Queries.{first_unknown, ids_of}
 use Rattle.mtn_answers.specs.Views.{TextAnswer, IsContentChanged, IsRoster, corresponding_at, manifest_at}
@@ -9,22 +9,26 @@ use Rattle.mtn_answers.proofs.MarksExist.{some_content, some_roster}
 use Rattle.mtn_base.specs.declared.id.Id.{Id}
 use Rattle.mtn_base.specs.declared.refusal.Cause.{Cause}
 use Rattle.mtn_base.specs.declared.refusal.Cause.TheVariants.{TextTooLong}
-use Rattle.mtn_changes.specs.RevisionText.{IsRevisionFault}
 use Rattle.mtn_changes.specs.declared.error.ChangeTextError.{ChangeTextError}
 use Rattle.mtn_changes.specs.declared.error.ChangeTextError.TheVariants as error
 use Rattle.mtn_history_laws.specs.History.{Revision, IsGrown}
 use Rattle.mtn_model.specs.Outcome.{Outcome}
 use Rattle.mtn_model.specs.State.{State}
-use Rattle.mtn_replay.specs.Accepting.{Decides, IsTooLong, IsUnread, IsDecided, fault_cause, logged_beside, refusal_beside}
+use Rattle.mtn_replay.specs.Accepting.{Decides, fault_cause, logged_beside, refusal_beside}
 use Rattle.mtn_replay.specs.Lawful.{IsLawful}
 use Rattle.mtn_replay.specs.Texts.{text_under}
 use Rattle.mtn_replay.proofs.Histories.{history_is_grown}
 use Rattle.mtn_plans.specs.Plans.{Looks, LooksAtSides, Merges, Plan, Unless}
 use Rattle.mtn_plans.specs.Sides.{left_of, right_of, side_refusal}
 use Rattle.mtn_plans.specs.declared.outcome.Outcome.TheVariants.{Conflicted, Merged}
-use Rattle.mtn_step.specs.Step.{Asked, Ended, OfHistory, PutsRevision, Shown, Steps, Viewed, told}
+use Rattle.mtn_answers.specs.Queries.{IsProperlyAbove}
+use Rattle.mtn_answers.proofs.Deciding.{tell_properly}
+use Rattle.mtn_step.specs.Certifying.{AreHeads, merge_said}
+use Rattle.mtn_step.specs.Step.{Asked, Commits, Ended, Ending, HeadsMerged, Listed, OfHistory, PutsRevision, Shown, Steps, Viewed, told}
+use Rattle.mtn_step.specs.declared.call.Said.{Said}
 use Rattle.mtn_step.specs.declared.call.Call.{Call}
-use Rattle.mtn_step.specs.declared.call.Call.TheVariants.{PutFile, PutRevision, GetFile, GetRevision, GetManifestOf, GetRoster, GetContentChanged, GetCorrespondingPath, Ask, Graph, Merge, ShowConflicts}
+use Rattle.mtn_step.specs.declared.call.Call.TheVariants.{PutFile, PutRevision, GetFile, GetRevision, GetManifestOf, GetRoster, GetContentChanged, GetCorrespondingPath, Ask, Graph, Merge, ShowConflicts, Cert, Certs, Key, Heads, Branches, Commit, MergeHeads}
+use Rattle.mtn_step_laws.proofs.CertLists.{some_branches, some_certs, some_heads}
 use Rattle.mtn_step_laws.proofs.Revisions.{spells_or_fault}
 use Rattle.mtn_step_laws.proofs.SomePlan.{some_looked, some_plan}
 
@@ -60,10 +64,13 @@ module _ (f : List ℕ → List ℕ) (s : State) (lawful : IsLawful f s) where
   some_put : (text : List ℕ) → (o : Outcome) × PutsRevision f text s o
   some_put text = let d = some_decision text in (_, record { refusal = d.0; after = d.1; decides = d.2; is = refl })
 
-  some_ended : (plan : Plan) → (o : Outcome) × Ended (PutsRevision f) s o plan
-  some_ended (Err cause) = (_, refl)
-  some_ended (Ok (Conflicted l r c)) = (_, refl)
-  some_ended (Ok (Merged text)) = some_put text
+  some_commit : (said : Said) (text : List ℕ) → (o : Outcome) × Commits f said text s o
+  some_commit said text = let d = some_decision text in (_, record { refusal = d.0; after = d.1; decides = d.2; is = refl })
+
+  some_ended : (ends : Ending) → ((text : List ℕ) → (o : Outcome) × ends text s o) → (plan : Plan) → (o : Outcome) × Ended ends s o plan
+  some_ended ends some (Err cause) = (_, refl)
+  some_ended ends some (Ok (Conflicted l r c)) = (_, refl)
+  some_ended ends some (Ok (Merged text)) = some text
 
   some_shown : (a b : Id) (plan : Plan) → Looks lawful.history a b plan → (o : Outcome) × Shown s o plan
   some_shown a b (Err cause) is = (_, refl)
@@ -73,6 +80,22 @@ module _ (f : List ℕ → List ℕ) (s : State) (lawful : IsLawful f s) where
       no_text : (o : Option Cause) → Unless o (LooksAtSides lawful.history (left_of a b) (right_of a b)) (Ok (Merged text)) → ⊥
       no_text (Some c) e = cc
       no_text None e = let z = e.is in cc
+
+  some_listed : (id : Id) (held : Option (List ℕ)) → (o : Outcome) × Listed s id o held
+  some_listed id None = (_, refl)
+  some_listed id (Some text) = let list = some_certs s.certs id in (_, (list.0, list.1, refl))
+
+  heads : (branch : List ℕ) → (ids : List Id) × AreHeads s lawful.history branch ids
+  heads branch = some_heads s.certs (IsProperlyAbove lawful.history) (tell_properly lawful.history grown) branch
+
+  some_merged : (resolves : Bool) (payload : List ℕ) (said : Id → Id → Said) (ids : List Id) →
+      (o : Outcome) × HeadsMerged (λ l r. Merges f s.files lawful.history l r resolves payload) (λ l r. Commits f (said l r)) s o ids
+  some_merged resolves payload said [] = (_, refl)
+  some_merged resolves payload said (head ∷ []) = (_, refl)
+  some_merged resolves payload said (l ∷ r ∷ rest) =
+      let plan = some_plan f s.files lawful.history grown l r resolves payload in
+      let o = some_ended (Commits f (said l r)) (some_commit (said l r)) plan.0 in
+      (o.0, (plan.0, plan.1, o.1))
 
   pub some_of_step : (call : Call) (payload : List ℕ) → (o : Outcome) × Steps f call payload s o
   some_of_step PutFile payload = (_, refl)
@@ -87,9 +110,19 @@ module _ (f : List ℕ → List ℕ) (s : State) (lawful : IsLawful f s) where
   some_of_step Graph payload = let g = some_graph lawful.history grown in (_, (lawful.history, lawful.log, (g.0, g.1, refl)))
   some_of_step (Merge a b resolves) payload =
       let plan = some_plan f s.files lawful.history grown a b resolves payload in
-      let o = some_ended plan.0 in
+      let o = some_ended (PutsRevision f) some_put plan.0 in
       (o.0, (lawful.history, lawful.log, (plan.0, plan.1, o.1)))
   some_of_step (ShowConflicts a b) payload =
       let plan = some_looked f s.files lawful.history grown a b in
       let o = some_shown a b plan.0 plan.1 in
       (o.0, (lawful.history, lawful.log, (plan.0, plan.1, o.1)))
+  some_of_step (Cert revision name key value signature) payload = (_, refl)
+  some_of_step (Certs id) payload = some_listed id (text_under s.log id.0)
+  some_of_step (Key id name) payload = (_, refl)
+  some_of_step (Heads branch) payload = let ids = heads branch in (_, (lawful.history, lawful.log, (ids.0, ids.1, refl)))
+  some_of_step Branches payload = let branches = some_branches s.certs in (_, (branches.0, branches.1, refl))
+  some_of_step (Commit said) payload = some_commit said payload
+  some_of_step (MergeHeads branch author date key resolves) payload =
+      let ids = heads branch in
+      let o = some_merged resolves payload (merge_said key author branch date) ids.0 in
+      (o.0, (lawful.history, lawful.log, (ids.0, ids.1, o.1)))

@@ -1,3 +1,5 @@
+pub mod CertLists
+pub mod Certifying
 pub mod Decided
 pub mod OnePlan
 pub mod SomePlan

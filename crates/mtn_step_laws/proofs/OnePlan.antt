@@ -1,12 +1,9 @@
 -- A merge comes to one thing.
-use Rattle.std.specs.Prelude.{find, filter_map, is_none, if◌then◌else◌}
-use Rattle.std.specs.FinMap.{get}
-use Rattle.std.proofs.Common.{◌≡◌, ◌≢◌, ◌⊎◌, ◌≤◌, ◌<◌, ℕ, Bool, true, false, List, [], ◌∷◌, length, Option, Some, None, Result, Ok, Err, inl, inr, refl, sym, ap, ◌∙◌, subst, arith}
+use Rattle.std.proofs.Common.{◌≡◌, ◌≢◌, ◌⊎◌, ◌≤◌, ◌<◌, ℕ, Bool, true, false, List, length, Option, Some, None, Result, Ok, Err, inl, inr, refl, sym, ap, ◌∙◌, subst, arith}
 use Rattle.std.proofs.lemmas.Option.{same_Some}
 use Rattle.mtn_base.specs.Hex.{id_of}
 use Rattle.mtn_base.specs.declared.id.Id.{Id}
 use Rattle.mtn_base.specs.declared.refusal.Cause.{Cause}
-use Rattle.mtn_base.specs.declared.refusal.Cause.TheVariants.{TextTooLong}
 use Rattle.mtn_basic_io.specs.Spelling.{spelling}
 use Rattle.mtn_changes.specs.RevisionText.{revision_stanzas}
 use Rattle.mtn_changeset_laws.specs.Changes.{or_else}
@@ -23,7 +20,7 @@ use Rattle.mtn_merging.proofs.Accepted.{tree_is}
 use Rattle.mtn_model.specs.State.{Logged}
 use Rattle.mtn_model.specs.Table.{Table}
 use Rattle.mtn_replay.specs.Lawful.{IsHistory}
-use Rattle.mtn_replay.specs.Making.{place_of, parent_tree, too_many, too_long}
+use Rattle.mtn_replay.specs.Making.{too_many, too_long}
 use Rattle.mtn_resolve.specs.declared.error.OverrideError.{OverrideError}
 use Rattle.mtn_resolve.specs.declared.error.OverrideError.TheVariants as one
 use Rattle.mtn_resolve.specs.declared.error.ResolveTextError.{ResolveTextError}
@@ -32,7 +29,7 @@ use Rattle.mtn_resolve.specs.declared.resolution.Resolution.{Resolution}
 use Rattle.mtn_resolve.specs.Faults.{AreFitting}
 use Rattle.mtn_resolve.specs.Overriding.{overridden}
 use Rattle.mtn_roster.specs.Tree.{Tree}
-use Rattle.mtn_plans.specs.Given.{IsChecked, IsGiven, IsRead, IsUnfit, override_cause, text_cause, unknown_pick}
+use Rattle.mtn_plans.specs.Given.{IsChecked, IsGiven, IsRead, override_cause, text_cause}
 use Rattle.mtn_plans.specs.Plans.{Plan, IsUnborn, Ends, EndsUnless, IsConflicted, IsMade, LooksAtSides, Looks, Merges, PlansGiven, PlansPayload, PlansSides, Unless, limit_refusal, merge_text, merged_or, text_refusal}
 use Rattle.mtn_plans.specs.Sides.{IsMergeAt, left_of, right_of, side_refusal}
 use Rattle.mtn_plans.specs.declared.outcome.Outcome.TheVariants.{Conflicted}

@@ -1,12 +1,12 @@
 -- Each text spells a revision, or has a fault.
-use Rattle.std.specs.Prelude.{map, slice_index_or}
+use Rattle.std.specs.Prelude.{map}
 use Rattle.std.specs.List.{flat_map}
 use Rattle.std.specs.declared.cmp.Ordering.{Ordering}
 use Rattle.std.specs.declared.cmp.Ordering.TheVariants.{Less, Equal, Greater}
-use Rattle.std.proofs.Common.{◌≡◌, ◌≢◌, ◌≤◌, ◌<◌, ◌+◌, ◌⊎◌, ℕ, zero, suc, Bool, true, false, List, [], ◌∷◌, ◌++◌, length, take, get_or, Option, Some, None, refl, sym, ap, ◌∙◌, inl, inr, subst, append_assoc, arith}
+use Rattle.std.proofs.Common.{◌≡◌, ◌≢◌, ◌<◌, ◌+◌, ◌⊎◌, ℕ, zero, suc, Bool, true, false, List, [], ◌∷◌, ◌++◌, length, take, get_or, Option, Some, None, refl, sym, ap, ◌∙◌, inl, inr, subst, append_assoc, arith}
 use Rattle.std.proofs.Math.Decide.{ℕ_discrete}
 use Rattle.std.proofs.lemmas.Bool.{cases_lt}
-use Rattle.std.proofs.lemmas.List.{append-nil, length-append, map-append, take_all, take-append-le}
+use Rattle.std.proofs.lemmas.List.{append-nil, length-append, map-append, take-append-le}
 use Rattle.mtn_base.specs.Names.{bytes_cmp}
 use Rattle.mtn_base.specs.declared.id.Id.{Id}
 use Rattle.mtn_basic_io.specs.Spelling.{LineText, AreStanzas, spelling}
@@ -14,7 +14,7 @@ use Rattle.mtn_changes.specs.Changes.{IsChange, rank}
 use Rattle.mtn_changes.specs.ChangesText.{AreChanges}
 use Rattle.mtn_changes.specs.Heads.{head_rank, head_stanza, IsHeadRead}
 use Rattle.mtn_changes.specs.Lists.{IsFault, Stands, is_taken, last_rank}
-use Rattle.mtn_changes.specs.RevisionText.{AreEdges, Ascend, EndsEarly, IsFront, IsHeadFault, IsNextFault, IsOnlyEdgeFault, IsRevision, IsRevisionFault, IsRevisionText, IsStanzasFault, IsWrongAt, edge_stanzas, revision_stanzas}
+use Rattle.mtn_changes.specs.RevisionText.{AreEdges, Ascend, IsFront, IsHeadFault, IsNextFault, IsRevision, IsRevisionFault, IsStanzasFault, IsWrongAt, edge_stanzas}
 use Rattle.mtn_changes.specs.Stanzas.{IsRead, stanza_of}
 use Rattle.mtn_changes.specs.declared.change.Change.{Change}
 use Rattle.mtn_changes.specs.declared.change.Edge.{Edge}

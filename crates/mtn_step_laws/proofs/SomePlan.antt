@@ -1,8 +1,7 @@
 -- A merge comes to something.
-use Rattle.std.specs.Prelude.{find, filter_map, is_none, option_map, if◌then◌else◌}
-use Rattle.std.specs.FinMap.{get}
+use Rattle.std.specs.Prelude.{find, is_none, option_map}
 use Rattle.std.specs.Ordering.{is_lt}
-use Rattle.std.proofs.Common.{◌≡◌, ◌≢◌, ◌⊎◌, ◌≤◌, ◌<◌, ◌+◌, ℕ, zero, suc, Bool, true, false, cond, List, [], ◌∷◌, ◌++◌, length, length-append, Option, Some, None, Result, Ok, Err, inl, inr, refl, sym, ap, ◌∙◌, subst, arith}
+use Rattle.std.proofs.Common.{◌≡◌, ◌≢◌, ◌≤◌, ◌<◌, ◌+◌, ℕ, zero, suc, Bool, true, false, cond, List, [], ◌∷◌, length, Option, Some, None, Result, Ok, Err, inl, inr, refl, sym, ap, ◌∙◌, arith}
 use Rattle.std.proofs.lemmas.Bool.{cases_lt}
 use Rattle.mtn_answers.specs.Queries.{first_unknown}
 use Rattle.mtn_base.specs.Ids.{by_id}
@@ -34,7 +33,7 @@ use Rattle.mtn_resolve.specs.Faults.{AreFitting}
 use Rattle.mtn_resolve.specs.Overriding.{overridden}
 use Rattle.mtn_resolve.proofs.Ordered.{in_order}
 use Rattle.mtn_roster.specs.declared.entry.Entry.{Entry}
-use Rattle.mtn_roster.specs.Tree.{Tree, entry_of}
+use Rattle.mtn_roster.specs.Tree.{Tree}
 use Rattle.mtn_plans.specs.Given.{IsChecked, IsGiven, IsRead, override_cause, text_cause, unknown_pick}
 use Rattle.mtn_plans.specs.Plans.{Plan, IsUnborn, Ends, EndsUnless, LooksAtSides, Looks, Merges, PlansGiven, PlansPayload, PlansSides, Unless, limit_refusal, merge_text, merged_or}
 use Rattle.mtn_plans.specs.Sides.{IsMergeAt, left_of, right_of, related, side_refusal}

@@ -1,9 +1,9 @@
 -- A merge is the same in both orders of the words.
-use Rattle.std.specs.Prelude.{find, is_none, option_map, if◌then◌else◌}
+use Rattle.std.specs.Prelude.{is_none, option_map, if◌then◌else◌}
 use Rattle.std.specs.Ordering.{is_lt, ordering_reverse}
 use Rattle.std.specs.declared.cmp.Ordering.{Ordering}
 use Rattle.std.specs.declared.cmp.Ordering.TheVariants.{Less, Equal, Greater}
-use Rattle.std.proofs.Common.{◌≡◌, ℕ, Bool, cond, List, [], ◌∷◌, Option, Some, None, refl, sym, ◌∙◌, ap, subst}
+use Rattle.std.proofs.Common.{◌≡◌, ℕ, Bool, cond, List, Option, Some, None, refl, sym, ◌∙◌, ap, subst}
 use Rattle.mtn_answers.specs.Queries.{IsHeld}
 use Rattle.mtn_base.specs.Ids.{by_id}
 use Rattle.mtn_base.specs.declared.id.Id.{Id}
@@ -13,10 +13,8 @@ use Rattle.mtn_changeset_laws.specs.Changes.{or_else}
 use Rattle.mtn_history_laws.specs.History.{Revision}
 use Rattle.mtn_model.specs.Outcome.{Outcome}
 use Rattle.mtn_model.specs.State.{State}
-use Rattle.mtn_model.specs.Table.{Table}
 use Rattle.mtn_plans.specs.Plans.{Looks, LooksAtSides, Merges, Plan, PlansPayload, Unless}
 use Rattle.mtn_plans.specs.Sides.{left_of, related, right_of, side_refusal}
-use Rattle.mtn_replay.specs.Lawful.{IsHistory}
 use Rattle.mtn_replay.specs.Making.{place_of}
 use Rattle.mtn_replay.proofs.Histories.{one_history}
 use Rattle.mtn_replay.proofs.Places.{no_place}

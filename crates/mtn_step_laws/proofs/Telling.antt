@@ -1,10 +1,10 @@
 -- Whether a stanza spells a change, or a head, can be told.
-use Rattle.std.proofs.Common.{◌≡◌, ◌<◌, ◌≤◌, ℕ, Bool, true, false, List, [], ◌∷◌, length, Option, Some, None, refl, sym, ap, ◌∙◌, subst, inl, inr, arith}
+use Rattle.std.proofs.Common.{◌≡◌, List, Option, Some, None, refl, sym, ap, ◌∙◌, subst}
 use Rattle.mtn_basic_io.specs.Spelling.{LineText}
 use Rattle.mtn_changes.specs.declared.change.Change.{Change}
 use Rattle.mtn_changes.specs.declared.change.Change.TheVariants.{Delete, Rename, AddDir, AddFile, Patch, Clear, Set}
 use Rattle.mtn_changes.specs.declared.head.Head.{Head}
-use Rattle.mtn_changes.specs.Changes.{IsChange, IsKey}
+use Rattle.mtn_changes.specs.Changes.{IsChange}
 use Rattle.mtn_changes.specs.Heads.{head_stanza, IsHeadRead}
 use Rattle.mtn_changes.specs.Stanzas.{stanza_of, IsRead}
 use Rattle.mtn_answers.proofs.Deciding.{tell_two}
