@@ -37,7 +37,7 @@ def records():
         entries = number(1) + entry(ids[0], value, at)
         yield 5, number(at), b'\0' + entries if at % 16 == 0 else b'\1' + number(at - 1) + bytes([at % 16]) + number(0) + entries
     yield 1, b'count', number(COUNT)
-    yield 1, b'version', b'1'
+    yield 1, b'version', b'2'
     answers.extend(ids[-2:])
 
 answers = []

@@ -407,9 +407,9 @@ def escaped(data):
     return out
 
 
-def lines(folder):
+def lines(rows, folder):
     asked, answered = [], []
-    for made in ROWS:
+    for made in rows:
         row = made()
         for side in (asked, answered):
             side.append('# ' + row.title)
@@ -417,7 +417,7 @@ def lines(folder):
         for words, given, status, output in row.steps:
             if given is not None:
                 asked.append('give ' + escaped(given) if given else 'give ')
-            asked.append(' '.join(['run', *words]))
+            asked.append(' '.join(['run', *(escaped(word.encode()).replace(' ', '\\x20') for word in words)]))
             answered.append('%d %s' % (status, escaped(output)))
         for side in (asked, answered):
             side.append('')
@@ -426,11 +426,12 @@ def lines(folder):
             out.write('\n'.join(side))
 
 
-def main():
-    if sys.argv[1:2] == ['lines']:
-        return lines(sys.argv[2])
+def run(rows, words):
+    """Asks the rows of the built program, or writes them as lines."""
+    if words[:1] == ['lines']:
+        return lines([made for made in rows if made is not too_long], words[1])
     with tempfile.TemporaryDirectory() as folder:
-        for number, made in enumerate(ROWS + [too_long]):
+        for number, made in enumerate(rows):
             row, store = made(), Store(folder, 'row%d' % number)
             for words, given, status, output in row.steps:
                 before = store.records()
@@ -443,4 +444,4 @@ def main():
 
 
 if __name__ == '__main__':
-    main()
+    run(ROWS + [too_long], sys.argv[1:])

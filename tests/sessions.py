@@ -1,6 +1,6 @@
 #!/usr/bin/env python3
 """Sessions of requests through the built program: answers in their frames, inputs that are no list of requests, the histories of
-revisions.py and the merges of merged_rows.py as one session each, and ten thousand requests. Requests are read here by a model
+revisions.py, the merges of merged_rows.py and the branches of cert_rows.py as one session each, and ten thousand requests. Requests are read here by a model
 of their own. Ends with 'N passed, M failed'."""
 import os
 import re
@@ -11,6 +11,7 @@ import tempfile
 
 sys.dont_write_bytecode = True
 sys.path.insert(0, os.path.dirname(os.path.abspath(__file__)))
+import cert_rows
 import merged_rows
 import revisions
 from revisions import MTN, sha
@@ -183,12 +184,12 @@ def histories(folder):
         verdict('%s leaves the same records' % os.path.basename(store.path), replayed.records() == store.records())
 
 
-def merges(folder):
-    for number, made in enumerate(merged_rows.ROWS):
+def worked(folder):
+    for number, made in enumerate(merged_rows.ROWS + cert_rows.ROWS):
         history = made()
         data = b'\n'.join(request(*words) if given is None else request(*words, given) for words, given, _, _ in history.steps)
         want = answers(*((status, output) for _, _, status, output in history.steps))
-        row('%s %d requests' % (history.title, len(history.steps)), data, 0, want, os.path.join(folder, 'merges%d' % number))
+        row('%s %d requests' % (history.title, len(history.steps)), data, 0, want, os.path.join(folder, 'worked%d' % number))
 
 
 def many(folder):
@@ -217,7 +218,7 @@ def main():
         over_a_file(folder)
         bad_among_good(folder)
         histories(folder)
-        merges(folder)
+        worked(folder)
         many(folder)
         damaged(folder)
     print('%d passed, %d failed' % (passed, failed))

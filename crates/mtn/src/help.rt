@@ -27,6 +27,22 @@ Commands:
   show_conflicts REV REV
                        prints the conflicts of such a merge
 
+What is said of revisions; a key is named by its id, 40 digits as REV:
+  key KEYID NAME       gives a key its name, which it keeps
+  cert --key=KEYID [--sig=BASE64] REV NAME VALUE
+                       holds a certificate of a revision
+  certs REV            prints the certificates of a revision
+  branches             prints the branches that have a member
+  heads BRANCH         prints the ids of the members of a branch from which no
+                       other member descends
+  commit --author=.. --branch=.. --changelog=.. --date=.. --key=KEYID
+                       accepts the input as put_revision does, with four
+                       certificates; prints its id
+  merge_heads --author=.. --date=.. --key=KEYID BRANCH
+                       accepts the merge of the two least heads of a branch as
+                       merge does, with four certificates; prints its id, or the
+                       conflicts. With --resolve the input is resolutions
+
 Queries of the graph; each prints ids, one a line, in ascending order unless it
 says log order, which is that of acceptance:
   parents REV                     its parents
@@ -46,9 +62,10 @@ Many commands at one opening of the store:
   stdio                done request by request; the input is requests, each `l`,
                        its words and `e`, a word its size in decimal, `:` and
                        its bytes, as l8:put_file3:abce. The last word of
-                       put_file, put_revision and merge --resolve is their
-                       input. The answer to request N, counted from 0, is
-                       N:m:SIZE:OUTPUT and N:l:1:STATUS
+                       put_file, put_revision and commit, of merge and
+                       merge_heads with --resolve, is their input. The answer
+                       to request N, counted from 0, is N:m:SIZE:OUTPUT and
+                       N:l:1:STATUS
 
 FILE is the id of a file, REV that of a revision: 40 lower-case hexadecimal
 digits, the SHA-1 of its bytes, of its text. PATH is components joined by `/`,
@@ -131,6 +148,49 @@ show_conflicts REV REV
   Prints the conflicts that a merge of two revisions has without resolutions,
   also where it has none, and keeps nothing.
   Refused: UnknownRevision, Related.
+
+key KEYID NAME
+  Gives a key a name: 1 to 255 bytes from ! to ~ without brackets. A key keeps
+  its name; two keys may have the same one.
+  Prints nothing.
+  Refused: BadField key, KeyNamed (with the name that the key has).
+
+cert --key=KEYID [--sig=BASE64] REV NAME VALUE
+  Holds a certificate of a revision: a name as that of a key, a value of any
+  bytes, the id of the key that says so, and its signature in base64, with its
+  padding and without space. The signature is carried and not checked. A
+  certificate that is held is kept already.
+  Prints nothing.
+  Refused: the first of BadField signature, BadField name, TextTooLong (value or
+  signature above 67108864 bytes), UnknownRevision.
+
+certs REV
+  Prints the certificates of a revision as stanzas, by name, key, value and
+  signature, byte by byte.
+  Refused: UnknownRevision.
+
+branches
+  Prints the values of all certificates named branch, one a line, in byte order.
+
+heads BRANCH
+  Prints the ids of the members of a branch, the revisions with a certificate
+  named branch of that value, that are proper ancestors of no member.
+
+commit --author=.. --branch=.. --changelog=.. --date=.. --key=KEYID <TEXT
+  Accepts standard input as the text of a revision as put_revision does, and
+  holds four certificates of it: author, branch, changelog, date. They are held
+  also where the text is held already. All is kept, or nothing.
+  Prints its id.
+  Refused: what put_revision is refused for, then TextTooLong for the values.
+
+merge_heads --author=.. --date=.. --key=KEYID BRANCH
+merge_heads --author=.. --date=.. --key=KEYID --resolve BRANCH <RESOLUTIONS
+  Accepts the merge of the two least heads of a branch as merge does, and holds
+  four certificates of it; the changelog names the two heads.
+  Prints the id of the merged revision; or, with status 3, the conflicts, and
+  nothing is kept.
+  Refused: NoBranch, OneHead (with its id), what merge is refused for, then
+  TextTooLong for the values.
 
 parents REV
   Prints the parents of a revision, ascending.

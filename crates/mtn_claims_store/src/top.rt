@@ -2,7 +2,7 @@
 ghost use Rattle.std.specs.Prelude.{◌≡◌, IfOk};
 ghost use Rattle.mtn_cli.specs.Run.{MergesAreDecided, OrderFree, Outcomes, Scripts, StaysLawful, is_read};
 ghost use Rattle.mtn_cli.specs.Store.{IsLine, ShowsDamage, is_merging, is_spelled};
-ghost use Rattle.mtn_cli.specs.Words.{Reads, command_of};
+ghost use Rattle.mtn_words.specs.Words.{Reads, command_of};
 ghost use Rattle.mtn_frame.specs.Frame.{Completes, HasCauses, LeavesRecords, Meets, Survives, TellsDamage, Writes};
 ghost use Rattle.mtn_frame.specs.Script.{is_session as session_words};
 ghost use Rattle.mtn_frame.specs.Top.{in_grammar, is_merge};

@@ -133,6 +133,7 @@ pub fn uncommon_of<P: Parents>(
         P.tells graph.new count parents → IsAscendingListOf (IsUncommon parents left right) sets.0) }
     ensures right { IfOk result (λ sets. (count : ℕ) (parents : ℕ → List ℕ) →
         P.tells graph.new count parents → IsAscendingListOf (IsUncommon parents right left) sets.1) }
+    ensures within { IfOk result (λ sets. All (λ x. x ≤ max left right) sets.0 × All (λ x. x ≤ max left right) sets.1) }
     ensures same_graph { (count : ℕ) (parents : ℕ → List ℕ) →
         P.tells graph.new count parents → P.tells graph.old count parents }
     ensures count { (count : ℕ) (parents : ℕ → List ℕ) (low : ℕ) →

@@ -10,7 +10,8 @@ use Rattle.mtn_history.specs.Stands.{Stands}
 use Rattle.mtn_step.specs.Step.{Steps}
 use Rattle.mtn_step.specs.declared.call.Call.{Call}
 use Rattle.mtn_cli.specs.Step.{StepOf}
-use Rattle.mtn_cli.specs.Store.{IsLine, ShowsDamage, may_conflict}
+use Rattle.mtn_cli.specs.Store.{IsLine, ShowsDamage}
+use Rattle.mtn_commands.specs.Drafts.{may_conflict}
 
 module _ (f : List ℕ → List ℕ) {M : Type 0} (Knows : M → Contents → Type 0) {K : Type 0} (contents : K → Option Contents) (leaves : K → Contents → Type 0) (faults asked : K → ℕ) (payload : List ℕ) where
   abbrev Target : K → K → M → Option Call → Result Worked WorkError → Type 0

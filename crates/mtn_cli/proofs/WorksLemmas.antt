@@ -25,23 +25,9 @@ use Rattle.mtn_history.specs.Stands.{Stands, IsDraft}
 use Rattle.mtn_history.proofs.FileLemmas.{draft_stands}
 use Rattle.mtn_history.proofs.MetaLemmas.{no_damage, shown}
 use Rattle.mtn_step.specs.Step.{refused}
-use Rattle.mtn_cli.specs.Drafts.{Counts, drafted, Drafts, Drafted, HasReason, HasReplyReason, IsQuiet, Reason, Replied, Replies, reply_of}
+use Rattle.mtn_commands.proofs.ReasonLemmas.{reason_of, wider_reason}
+use Rattle.mtn_commands.specs.Drafts.{Counts, drafted, Drafts, Drafted, HasReason, HasReplyReason, IsQuiet, Reason, Replied, Replies, reply_of}
 use Rattle.mtn_cli.specs.Store.{IsLine, IsTold, ShowsDamage}
-
-pub reason_of : (told : Option Contents) (before now : ℕ) (e : StoreError) → (e ≡ Failed → Rose before now) → IfSome told (λ c. IfDamage e (IsDamage c)) → Reason told before now e
-reason_of told before now Failed rose damage = rose refl
-reason_of told before now NoMemory rose damage = tt
-reason_of told before now (Damaged d) rose damage = damage
-
-wider : (told : Option Contents) (a b c d : ℕ) (e : StoreError) → a ≤ b → c ≤ d → Reason told b c e → Reason told a d e
-wider told a b c d Failed lo hi rose = omega arith
-wider told a b c d NoMemory lo hi reason = tt
-wider told a b c d (Damaged x) lo hi reason = reason
-
-wider_reason : (told : Option Contents) (a b c d : ℕ) (r : Result Reply HistoryError) → a ≤ b → c ≤ d → HasReplyReason told b c r → HasReplyReason told a d r
-wider_reason told a b c d (Ok reply) lo hi reason = tt
-wider_reason told a b c d (Err (Refused cause)) lo hi reason = tt
-wider_reason told a b c d (Err (Store e)) lo hi reason = wider told a b c d e lo hi reason
 
 -- a fact of told records
 at_told : (o : Option Contents) (P : Contents → Type 0) (c : Contents) → o ≡ Some c → IfSome o P → P c
@@ -199,15 +185,3 @@ module _ (f : List ℕ → List ℕ) {M : Type 0} (Knows : M → Contents → Ty
 
   pub failed_at : (old new final : K) (m : M) (after : Pending) (e : HistoryError) (out : WorkError) → final ≡ new → IsTold e out → Over old new after (Err e) → IfSome (contents new) (Knows m) → Target old final m (Err out)
   failed_at old new final m after e out ends is work known = subst (λ k. Target old k m (Err out)) (sym ends) (failed old new m after e out is work known)
-
--- a command that answers a text replies
-pub replies_of : (f : List ℕ → List ℕ) {K : Type 0} (contents : K → Option Contents) (leaves : K → Contents → Type 0) (faults : K → ℕ) (old new : K) (before after : Pending) (merges : Bool) (Outcomes : State → Outcome → Type 0)
-    (r : Result (List ℕ) HistoryError) → Drafts f contents leaves faults old new before after Outcomes r → Replies f contents leaves faults old new before after merges Outcomes (reply_of r)
-replies_of f contents leaves faults old new before after merges Outcomes (Ok text) drafts = record { stays = drafts.stays; done = drafts.done; reason = λ counts. tt; quiet = λ on. absurd cc }
-replies_of f contents leaves faults old new before after merges Outcomes (Err e) drafts = record { stays = drafts.stays; done = drafts.done; reason = drafts.reason; quiet = tt }
-
--- the same by another name of the result
-pub replies_as : (f : List ℕ → List ℕ) {K : Type 0} (contents : K → Option Contents) (leaves : K → Contents → Type 0) (faults : K → ℕ) (old new : K) (before after : Pending) (merges : Bool) (Outcomes : State → Outcome → Type 0)
-    (r : Result (List ℕ) HistoryError) (q : Result Reply HistoryError) → q ≡ reply_of r → Drafts f contents leaves faults old new before after Outcomes r → Replies f contents leaves faults old new before after merges Outcomes q
-replies_as f contents leaves faults old new before after merges Outcomes r q is drafts =
-    subst (Replies f contents leaves faults old new before after merges Outcomes) (sym is) (replies_of f contents leaves faults old new before after merges Outcomes r drafts)

@@ -1,6 +1,6 @@
 -- What words do to a state.
 use Rattle.std.specs.Prelude.{◌≡◌, List, Option, Some, None, ℕ}
-use Rattle.mtn_cli.specs.Calls.{call_of}
+use Rattle.mtn_words.specs.Calls.{call_of}
 use Rattle.mtn_frame.specs.Works.{misused}
 use Rattle.mtn_model.specs.Outcome.{Outcome}
 use Rattle.mtn_model.specs.State.{State}

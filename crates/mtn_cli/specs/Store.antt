@@ -2,15 +2,14 @@
 use Rattle.std.specs.Prelude.{◌≡◌, ◌⊎◌, List, Option, Some, ℕ, Bool, true, false, is_some}
 use Rattle.mtn_model.specs.State.{State}
 use Rattle.mtn_model.specs.Table.{Contents}
-use Rattle.mtn_cli.specs.Calls.{call_of}
+use Rattle.mtn_words.specs.Calls.{call_of}
 use Rattle.mtn_cli.specs.Texts.{damage_line}
 use Rattle.mtn_frame.specs.Script.{Bounds}
 use Rattle.mtn_frame.specs.declared.works.WorkError.{WorkError}
 use Rattle.mtn_frame.specs.declared.works.WorkError.TheVariants as work
 use Rattle.mtn_history.specs.Damage.{IsDamage, IsShown}
 use Rattle.mtn_history.specs.Stands.{Stands}
-use Rattle.mtn_step.specs.declared.call.Call.{Call}
-use Rattle.mtn_step.specs.declared.call.Call.TheVariants.{Merge, MergeHeads}
+use Rattle.mtn_commands.specs.Drafts.{may_conflict}
 use Rattle.mtn_history.specs.declared.errors.Damage.{Damage}
 use Rattle.mtn_history.specs.declared.errors.HistoryError.{HistoryError}
 use Rattle.mtn_history.specs.declared.errors.HistoryError.TheVariants.{Refused, Store}
@@ -19,12 +18,6 @@ use Rattle.mtn_history.specs.declared.errors.StoreError.TheVariants.{Failed, Dam
 -- words are in the grammar
 abbrev pub is_spelled : List (List ℕ) → Bool
 is_spelled words = is_some (call_of words)
-
--- a command that may find conflicts
-abbrev pub may_conflict : Option Call → Bool
-may_conflict (Some (Merge a b resolves)) = true
-may_conflict (Some (MergeHeads branch author date key resolves)) = true
-may_conflict _ = false
 
 -- words of such a command
 abbrev pub is_merging : List (List ℕ) → Bool

@@ -9,13 +9,13 @@ ghost use Rattle.mtn_frame.specs.Script.{Does, IsScript, is_session as session_w
 ghost use Rattle.mtn_frame.specs.Top.{Runs, fed, in_grammar, is_merge, reads};
 ghost use Rattle.mtn_history.specs.Stands.{Stands};
 
-use crate::command::is_command;
 use crate::script::script_of;
 use crate::session::run_script;
 use mtn_base::{Bytes, NoMemory};
 use mtn_frame::{ReadStop, feed, is_session, takes_last};
 use mtn_model::Status;
 use mtn_ports::{Ident, Keeper, Sink, Source};
+use mtn_words::is_command;
 use std::alloc::Global;
 use std::thread::Threads;
 

@@ -1,8 +1,8 @@
 // A command over a draft of the keeper.
 ghost use Rattle.std.specs.Prelude.{◌≡◌, IfSome, Some, true};
-ghost use Rattle.mtn_cli.specs.Drafts.{Replies};
 ghost use Rattle.mtn_cli.specs.Step.{Step};
-ghost use Rattle.mtn_cli.specs.Store.{IsLine, ShowsDamage, is_merging, is_spelled, may_conflict, unbounded};
+ghost use Rattle.mtn_cli.specs.Store.{IsLine, ShowsDamage, is_merging, is_spelled, unbounded};
+ghost use Rattle.mtn_commands.specs.Drafts.{may_conflict};
 ghost use Rattle.mtn_frame.specs.Script.{BoundsJob, Does};
 ghost use Rattle.mtn_frame.specs.Works.{Works, is_merging as job_merging, is_spelled as job_spelled};
 ghost use Rattle.mtn_history.specs.Memory.{Knows};
@@ -11,87 +11,16 @@ ghost use Rattle.mtn_ports.specs.Kept.{with_all};
 ghost use Rattle.mtn_history.specs.Stands.{Stands};
 ghost use Rattle.mtn_step.specs.Step.{Steps};
 
-use crate::ask::{ask, graph};
-use crate::cert::cert;
-use crate::certs::certs;
-use crate::command::read_words;
 use crate::damage::tell;
-use crate::get_content_changed::get_content_changed;
-use crate::get_corresponding_path::get_corresponding_path;
-use crate::get_file::get_file;
-use crate::get_manifest_of::get_manifest_of;
-use crate::get_revision::get_revision;
-use crate::get_roster::get_roster;
-use crate::heads::{branches, heads};
-use crate::key::key;
-use crate::merge::{merge, told};
-use crate::merge_heads::merge_heads;
-use crate::put_file::put_file;
-use crate::put_revision::{commit, put_revision};
-use crate::show_conflicts::show_conflicts;
-use crate::words::WordsError;
 use mtn_base::{Bytes, Cause, Refusal};
+use mtn_commands::on_draft;
 use mtn_frame::{Job, Reply, WorkError, Worked};
 use mtn_history::{Draft, HistoryError, Memory, Pending};
 use mtn_ports::{Batch, Ident, Keeper};
 use mtn_step::Call;
+use mtn_words::{WordsError, read_words};
 use std::alloc::Global;
 use std::mem;
-
-// The command's work over a draft, one arm a command.
-fn on_draft<I: Ident, K: Keeper>(
-    alloc: Global,
-    call: &Call,
-    ident: &I,
-    payload: &[u8],
-    draft: &mut Draft<'_, K>,
-) -> Result<Reply, HistoryError>
-    ensures same_reference { draft.new.keeper.ghost_name ≡ draft.old.keeper.ghost_name }
-    ensures replies { Replies (I.meaning ident.now) K.contents K.leaves K.faults draft.old.keeper.now draft.new.keeper.now draft.old.pending draft.new.pending
-        (may_conflict (Some call.now)) (Steps (I.meaning ident.now) call.now payload.now) result }
-{
-    match call {
-        Call::PutFile => told(put_file(alloc, ident, payload, draft)),
-        Call::PutRevision => told(put_revision(alloc, ident, payload, draft)),
-        Call::GetFile { id } => told(get_file(alloc, ident, *id, payload, draft)),
-        Call::GetRevision { id } => told(get_revision(alloc, ident, *id, payload, draft)),
-        Call::GetManifestOf { id } => told(get_manifest_of(ident, *id, payload, draft)),
-        Call::GetRoster { id } => told(get_roster(ident, *id, payload, draft)),
-        Call::GetContentChanged { id, path } => {
-            told(get_content_changed(ident, *id, path, payload, draft))
-        }
-        Call::GetCorrespondingPath { id, path, other } => {
-            told(get_corresponding_path(ident, *id, path, *other, payload, draft))
-        }
-        Call::Ask { query } => told(ask(alloc, ident, query, payload, draft)),
-        Call::Graph => told(graph(alloc, ident, payload, draft)),
-        Call::Merge { a, b, resolves } => merge(alloc, ident, *a, *b, *resolves, payload, draft),
-        Call::ShowConflicts { a, b } => told(show_conflicts(alloc, ident, *a, *b, payload, draft)),
-        Call::Cert {
-            revision,
-            name,
-            key,
-            value,
-            signature,
-        } => told(cert(
-            alloc, ident, *revision, name, *key, value, signature, payload, draft,
-        )),
-        Call::Certs { id } => told(certs(alloc, ident, *id, payload, draft)),
-        Call::Key { id, name } => told(key(alloc, ident, *id, name, payload, draft)),
-        Call::Heads { branch } => told(heads(alloc, ident, branch, payload, draft)),
-        Call::Branches => told(branches(alloc, ident, payload, draft)),
-        Call::Commit { said } => told(commit(alloc, ident, said, payload, draft)),
-        Call::MergeHeads {
-            branch,
-            author,
-            date,
-            key,
-            resolves,
-        } => merge_heads(
-            alloc, ident, branch, author, date, *key, *resolves, payload, draft,
-        ),
-    }
-}
 
 // What is remembered where nothing is put: all of it if nothing was pending, else nothing.
 fn kept(alloc: Global, batch: &Batch, remembered: Memory) -> Memory

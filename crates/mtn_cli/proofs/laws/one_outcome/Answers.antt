@@ -1,4 +1,4 @@
-use Rattle.mtn_cli.specs.Calls.{call_of}
+use Rattle.mtn_words.specs.Calls.{call_of}
 use Rattle.mtn_cli.proofs.OutcomeLemmas.{one_of_words}
 use Rattle.mtn_cli.proofs.laws.one_outcome.Goals as goal
 

@@ -5,7 +5,7 @@ use Rattle.mtn_history.proofs.MetaLemmas.{meta_damage}
 use Rattle.mtn_history.specs.Memory.{Knows}
 use Rattle.mtn_history.specs.declared.pending.Pending.{Pending}
 use Rattle.mtn_step.specs.Step.{Steps}
-use Rattle.mtn_cli.specs.Store.{may_conflict}
+use Rattle.mtn_commands.specs.Drafts.{may_conflict}
 use Rattle.mtn_cli.proofs.WorksLemmas.{answered_at, begins_counted, begins_known, failed_at, map_known, open_failed, over, still_known}
 use Rattle.mtn_cli.proofs.works.work_on.Goals as goal
 

@@ -1,5 +1,5 @@
 use Rattle.mtn_history.specs.Memory.{Knows}
-use Rattle.mtn_cli.specs.Calls.{call_of}
+use Rattle.mtn_words.specs.Calls.{call_of}
 use Rattle.mtn_cli.proofs.StoreLemmas.{misused, wanted, worked}
 use Rattle.mtn_cli.proofs.works.work_words.Goals as goal
 

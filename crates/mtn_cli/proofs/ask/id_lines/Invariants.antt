@@ -1,6 +1,0 @@
-use Rattle.std.proofs.Common.{◌≡◌, take}
-use Rattle.mtn_step.specs.Step.{id_lines}
-use Rattle.mtn_cli.proofs.ask.id_lines.Given as goal
-
-abbrev pub invariant-loop-id : goal.invariant-loop-id
-invariant-loop-id l = l.text.items ≡ id_lines (take l.id-index l.ids)

@@ -1,0 +1,9 @@
+pub mod ReasonLemmas
+pub mod ReplyLemmas
+pub mod DraftLemmas
+pub mod CommitLemmas
+pub mod HeadsLemmas
+pub mod CertsLemmas
+pub mod MergeLemmas
+pub mod QueryLemmas
+pub mod ViewLemmas

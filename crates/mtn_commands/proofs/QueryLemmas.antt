@@ -1,0 +1,120 @@
+-- The graph that a draft tells is that of the history which its log spells.
+use Rattle.std.specs.Prelude.{IfSome, MatchBool}
+use Rattle.std.proofs.Common.{◌≡◌, inl, inr, ℕ, Bool, true, false, List, [], length, Option, Some, None, Result, Ok, Err, refl, sym, ap, ◌∙◌, subst, arith}
+use Rattle.mtn_ancestry.specs.declared.pos.LogEntry.{LogEntry}
+use Rattle.mtn_history_laws.specs.History.{Revision}
+use Rattle.mtn_replay.specs.Graphs.{Tells}
+use Rattle.mtn_replay.specs.Lawful.{IsHistory}
+use Rattle.mtn_replay.proofs.Histories.{history_is_grown, history_none}
+use Rattle.mtn_model.specs.Table.{Contents, body_at}
+use Rattle.mtn_model.specs.State.{State}
+use Rattle.mtn_base.specs.declared.refusal.Cause.TheVariants.{UnknownRevision}
+use Rattle.mtn_replay.proofs.Places.{inside}
+use Rattle.mtn_ports.specs.Causes.{Rose}
+use Rattle.mtn_ports.specs.Kept.{Stays, with_all}
+use Rattle.mtn_history.specs.Damage.{IsDamage}
+use Rattle.mtn_history.specs.Errors.{IfDamage}
+use Rattle.mtn_history.specs.Logs.{IsReadTo, LogDamage, WrongBelow}
+use Rattle.mtn_history.specs.Meta.{Counted, count_key}
+use Rattle.mtn_history.specs.Stands.{IsDraft, IsNew, StandsFor}
+use Rattle.mtn_history.specs.declared.errors.Damage.{Damage}
+use Rattle.mtn_history.specs.declared.errors.StoreError.{StoreError}
+use Rattle.mtn_history.specs.declared.errors.StoreError.TheVariants.{Failed, Damaged, NoMemory}
+use Rattle.mtn_history.specs.declared.errors.HistoryError.{HistoryError}
+use Rattle.mtn_history.specs.declared.errors.HistoryError.TheVariants.{Store}
+use Rattle.mtn_history.specs.declared.pending.Pending.{Pending}
+use Rattle.mtn_history.proofs.LogLemmas.{read_tells, never_wrong}
+use Rattle.mtn_commands.specs.Drafts.{Counts, Drafts, drafted, query_refusal}
+use Rattle.mtn_model.specs.Outcome.{Outcome}
+use Rattle.mtn_step.specs.Step.{Asked, Steps, done, refused}
+use Rattle.mtn_step.specs.declared.call.Call.TheVariants.{Ask}
+use Rattle.mtn_answers.specs.Queries.{ids_of}
+use Rattle.mtn_graph_queries.specs.Queries.{NamesUnknown}
+use Rattle.mtn_answers.specs.declared.query.Query.{Query}
+use Rattle.mtn_graph_queries.specs.declared.query.QueryError.{QueryError}
+use Rattle.mtn_graph_queries.specs.declared.query.QueryError.TheVariants.{Unknown}
+use Rattle.mtn_graph_queries.specs.declared.query.QueryError.TheVariants as query
+use Rattle.mtn_commands.proofs.ReasonLemmas.{reason_of}
+
+module _ (f : List ℕ → List ℕ) (c : Contents) (p : Pending) (s : State) where
+  no_revision : p.count ≡ length s.log → IsNew (with_all c p.batch) s → p.count ≡ 0
+  no_revision same new = same ∙ ap (λ (t : State). length t.log) new.state
+
+  told_by : (b : Bool) → p.count ≡ length s.log → MatchBool b (IsNew (with_all c p.batch) s) (StandsFor f (with_all c p.batch) s) → (entries : List LogEntry) → IsReadTo (with_all c p.batch) p.count entries →
+      (h : List Revision) × IsHistory f s.files s.log h × Tells h entries
+  told_by true same new entries read = (
+    [],
+    subst (λ l. IsHistory f s.files l []) (sym (ap (λ (t : State). t.log) new.state)) (history_none f s.files),
+    record { long = read.long ∙ no_revision same new; each = λ r e v here at. absurd (let lt = inside {X = Revision} [] r v at in omega (arith, lt)) },
+  )
+  told_by false same stands entries read =
+      let long : p.count ≡ length stands.base.history = same ∙ sym stands.base.spelled.long in (
+        stands.base.history,
+        stands.base.spelled,
+        read_tells (with_all c p.batch) stands.base.history stands.base.kept (history_is_grown f s.files s.log stands.base.history stands.base.spelled) stands.base.revisions.long stands.base.log entries (subst (λ n. IsReadTo (with_all c p.batch) n entries) long read),
+      )
+
+  -- the graph that was read tells the history of the state
+  pub graph_told : IsDraft f c p s → (entries : List LogEntry) → IsReadTo (with_all c p.batch) p.count entries → (h : List Revision) × IsHistory f s.files s.log h × Tells h entries
+  graph_told draft = told_by p.is_new draft.count draft.stands
+
+  sound_by : (b : Bool) → p.count ≡ length s.log → MatchBool b (IsNew (with_all c p.batch) s) (StandsFor f (with_all c p.batch) s) → (d : Damage) → WrongBelow p.count (with_all c p.batch) d → ⊥
+  sound_by true same new d wrong = let none = no_revision same new in omega (arith, none, wrong.below)
+  sound_by false same stands d wrong =
+      never_wrong (with_all c p.batch) stands.base.history stands.base.kept (history_is_grown f s.files s.log stands.base.history stands.base.spelled) stands.base.revisions.long stands.base.log p.count d (same ∙ sym stands.base.spelled.long) wrong
+
+  -- no damage is found in the log of a state
+  pub graph_sound : IsDraft f c p s → (e : StoreError) → IfDamage e (WrongBelow p.count (with_all c p.batch)) → IfDamage e (λ _. ⊥)
+  graph_sound draft Failed wrong = tt
+  graph_sound draft NoMemory wrong = tt
+  graph_sound draft (Damaged d) wrong = sound_by p.is_new draft.count draft.stands d wrong
+
+counted_wrong : (b : Bool) (c : Contents) (n : ℕ) (d : Damage) → MatchBool b ((body_at c 1 count_key ≡ None) × (n ≡ 0)) (Counted c n) → WrongBelow n c d → LogDamage c d
+counted_wrong true c n d counted wrong = absurd (let none = counted.1 in omega (arith, none, wrong.below))
+counted_wrong false c n d counted wrong = record { count = n; counted = counted; wrong = wrong }
+
+-- a damage that the graph finds is one of the draft's records
+pub graph_damage : (told : Option Contents) (p : Pending) (e : StoreError) → Counts p told → IfSome told (λ c. IfDamage e (WrongBelow p.count (with_all c p.batch))) → IfSome (drafted p told) (λ c. IfDamage e (IsDamage c))
+graph_damage None p e counted wrong = tt
+graph_damage (Some c) p Failed counted wrong = tt
+graph_damage (Some c) p NoMemory counted wrong = tt
+graph_damage (Some c) p (Damaged d) counted wrong = inr (inr (inl (counted_wrong p.is_new (with_all c p.batch) p.count d counted wrong)))
+
+module _ (f : List ℕ → List ℕ) {K : Type 0} (contents : K → Option Contents) (leaves : K → Contents → Type 0) (faults : K → ℕ) (old new : K) (before after : Pending)
+    (Outcomes : State → Outcome → Type 0) (stays : Stays contents leaves faults old new) where
+  -- the graph could not be read
+  pub graph_failed : (result : Result (List ℕ) HistoryError) (e : StoreError) → result ≡ Err (Store e) → IfSome (contents new) (λ c. IfDamage e (WrongBelow before.count (with_all c before.batch))) →
+      (e ≡ Failed → Rose (faults old) (faults new)) → Drafts f contents leaves faults old new before after Outcomes result
+  graph_failed result e is wrong failed = subst (Drafts f contents leaves faults old new before after Outcomes) (sym is) record {
+    stays = stays;
+    done = λ c s told draft. graph_sound f c before s draft e (subst (λ o. IfSome o (λ c. IfDamage e (WrongBelow before.count (with_all c before.batch)))) told wrong);
+    reason = λ counted. reason_of (drafted before (contents new)) (faults old) (faults new) e failed (graph_damage (contents new) before e counted wrong);
+  }
+
+  module _ (entries : List LogEntry) (read : IfSome (contents new) (λ c. IsReadTo (with_all c before.batch) before.count entries)) where
+    read_at : (c : Contents) → contents new ≡ Some c → IsReadTo (with_all c before.batch) before.count entries
+    read_at c told = subst (λ o. IfSome o (λ c. IsReadTo (with_all c before.batch) before.count entries)) told read
+
+    -- what was answered of the graph is the outcome over the history that it tells
+    pub graph_answered : (text : List ℕ) → after ≡ before → ((s : State) (h : List Revision) → IsHistory f s.files s.log h → Tells h entries → Outcomes s (done s text)) →
+        Drafts f contents leaves faults old new before after Outcomes (Ok text)
+    graph_answered text same made = record {
+      stays = stays;
+      done = λ c s told draft. let g = graph_told f c before s draft entries (read_at c told) in (s, made s g.0 g.1 g.2, subst (λ (p : Pending). IsDraft f c p s) (sym same) draft);
+      reason = λ counted. tt;
+    }
+
+    -- a query that has no answer names an unknown id, or wants memory
+    pub graph_unanswered : (q : Query) (payload : List ℕ) (e : QueryError) (refusal : HistoryError) → refusal ≡ query_refusal e → ((h : List Revision) → Tells h entries → NamesUnknown h (ids_of q) e) →
+        Drafts f contents leaves faults old new before after (Steps f (Ask q) payload) (Err refusal)
+    graph_unanswered q payload e refusal is names = subst (λ r. Drafts f contents leaves faults old new before after (Steps f (Ask q) payload) (Err r)) (sym is) (by e names)
+      where
+        by : (e : QueryError) → ((h : List Revision) → Tells h entries → NamesUnknown h (ids_of q) e) → Drafts f contents leaves faults old new before after (Steps f (Ask q) payload) (Err (query_refusal e))
+        by query.NoMemory names = record { stays = stays; done = λ c s told draft. tt; reason = λ counted. tt }
+        by (Unknown id) names = record {
+          stays = stays;
+          done = λ c s told draft.
+              let g = graph_told f c before s draft entries (read_at c told) in
+              (g.0, g.1, subst (λ u. Asked g.0 q s u (refused (UnknownRevision id) s)) (sym (names g.0 g.2)) refl);
+          reason = λ counted. tt;
+        }

@@ -1,0 +1,44 @@
+-- An error over a draft comes from its cause.
+use Rattle.std.proofs.Common.{◌≡◌, ℕ, List, Option, Some, None, Result, Ok, Err, refl, sym, ap, ◌∙◌, subst}
+use Rattle.std.specs.Prelude.{IfSome}
+use Rattle.mtn_put_revision.specs.Accepting.{AcceptsRevision}
+use Rattle.mtn_base.specs.declared.id.Id.{Id}
+use Rattle.mtn_history.specs.Damage.{IsDamage}
+use Rattle.mtn_history.specs.Errors.{IfStoreDamage}
+use Rattle.mtn_history.specs.Meta.{IsMetaOf}
+use Rattle.mtn_history.specs.Stands.{IsDraft}
+use Rattle.mtn_history.specs.declared.errors.HistoryError.{HistoryError}
+use Rattle.mtn_history.specs.declared.errors.HistoryError.TheVariants.{Refused, Store}
+use Rattle.mtn_history.specs.declared.errors.StoreError.TheVariants.{Failed, Damaged, NoMemory}
+use Rattle.mtn_history.specs.declared.pending.Pending.{Pending}
+use Rattle.mtn_model.specs.State.{State}
+use Rattle.mtn_model.specs.Table.{Contents}
+use Rattle.mtn_ports.specs.Causes.{Rose}
+use Rattle.mtn_ports.specs.Kept.{Stays, with_all}
+use Rattle.mtn_commands.specs.Drafts.{Counts, Drafted, Drafts, HasReason, drafted}
+use Rattle.mtn_step.specs.Step.{Steps, done, id_line}
+use Rattle.mtn_step.specs.declared.call.Call.TheVariants.{PutRevision}
+
+-- an error comes from its cause
+pub reason_told : (told : Option Contents) (p : Pending) (before now : ℕ) (e : HistoryError) → (e ≡ Store Failed → Rose before now) →
+    IfSome told (λ c. IsMetaOf (with_all c p.batch) (record { count = p.count; is_new = p.is_new }) → IfStoreDamage e (IsDamage (with_all c p.batch))) → Counts p told → HasReason (drafted p told) before now (Err e)
+reason_told told p before now (Refused cause) rose damaged counts = tt
+reason_told told p before now (Store Failed) rose damaged counts = rose refl
+reason_told told p before now (Store NoMemory) rose damaged counts = tt
+reason_told None p before now (Store (Damaged d)) rose damaged counts = tt
+reason_told (Some c) p before now (Store (Damaged d)) rose damaged counts = damaged counts
+
+pub reason_of : (told : Option Contents) (before now : ℕ) (e : StoreError) → (e ≡ Failed → Rose before now) → IfSome told (λ c. IfDamage e (IsDamage c)) → Reason told before now e
+reason_of told before now Failed rose damage = rose refl
+reason_of told before now NoMemory rose damage = tt
+reason_of told before now (Damaged d) rose damage = damage
+
+wider : (told : Option Contents) (a b c d : ℕ) (e : StoreError) → a ≤ b → c ≤ d → Reason told b c e → Reason told a d e
+wider told a b c d Failed lo hi rose = omega arith
+wider told a b c d NoMemory lo hi reason = tt
+wider told a b c d (Damaged x) lo hi reason = reason
+
+pub wider_reason : (told : Option Contents) (a b c d : ℕ) (r : Result Reply HistoryError) → a ≤ b → c ≤ d → HasReplyReason told b c r → HasReplyReason told a d r
+wider_reason told a b c d (Ok reply) lo hi reason = tt
+wider_reason told a b c d (Err (Refused cause)) lo hi reason = tt
+wider_reason told a b c d (Err (Store e)) lo hi reason = wider told a b c d e lo hi reason

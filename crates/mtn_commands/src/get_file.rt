@@ -1,0 +1,27 @@
+// The command `get_file`.
+ghost use Rattle.std.specs.Prelude.{◌≡◌};
+ghost use Rattle.mtn_commands.specs.Drafts.{Drafts};
+ghost use Rattle.mtn_step.specs.Step.{Steps};
+
+use mtn_base::{Bytes, Id, List};
+use mtn_history::{Draft, HistoryError};
+use mtn_ports::{Ident, Keeper};
+use mtn_step::Call;
+use std::alloc::Global;
+
+/// Answers the bytes of a file.
+pub fn get_file<I: Ident, K: Keeper>(
+    alloc: Global,
+    ident: &I,
+    id: Id,
+    payload: &[u8],
+    draft: &mut Draft<'_, K>,
+) -> Result<Bytes, HistoryError>
+    ensures same_reference { draft.new.keeper.ghost_name ≡ draft.old.keeper.ghost_name }
+    ensures drafts { Drafts (I.meaning ident.now) K.contents K.leaves K.faults draft.old.keeper.now draft.new.keeper.now draft.old.pending draft.new.pending
+        (Steps (I.meaning ident.now) (Call.GetFile id) payload.now) result }
+{
+    let mut text = Vec::new(alloc);
+    draft.file(id, &mut text)?;
+    Ok(List::from_vec(text))
+}

@@ -1,0 +1,81 @@
+// Any command over a draft.
+ghost use Rattle.std.specs.Prelude.{◌≡◌, Some};
+ghost use Rattle.mtn_commands.specs.Drafts.{Replies, may_conflict};
+ghost use Rattle.mtn_step.specs.Step.{Steps};
+
+use crate::ask::{ask, graph};
+use crate::cert::cert;
+use crate::certs::certs;
+use crate::get_content_changed::get_content_changed;
+use crate::get_corresponding_path::get_corresponding_path;
+use crate::get_file::get_file;
+use crate::get_manifest_of::get_manifest_of;
+use crate::get_revision::get_revision;
+use crate::get_roster::get_roster;
+use crate::heads::{branches, heads};
+use crate::key::key;
+use crate::merge::{merge, told};
+use crate::merge_heads::merge_heads;
+use crate::put_file::put_file;
+use crate::put_revision::{commit, put_revision};
+use crate::show_conflicts::show_conflicts;
+use mtn_frame::Reply;
+use mtn_history::{Draft, HistoryError};
+use mtn_ports::{Ident, Keeper};
+use mtn_step::Call;
+use std::alloc::Global;
+
+/// What a command does over a draft, and replies: its line of the step. One arm a command.
+pub fn on_draft<I: Ident, K: Keeper>(
+    alloc: Global,
+    call: &Call,
+    ident: &I,
+    payload: &[u8],
+    draft: &mut Draft<'_, K>,
+) -> Result<Reply, HistoryError>
+    ensures same_reference { draft.new.keeper.ghost_name ≡ draft.old.keeper.ghost_name }
+    ensures replies { Replies (I.meaning ident.now) K.contents K.leaves K.faults draft.old.keeper.now draft.new.keeper.now draft.old.pending draft.new.pending
+        (may_conflict (Some call.now)) (Steps (I.meaning ident.now) call.now payload.now) result }
+{
+    match call {
+        Call::PutFile => told(put_file(alloc, ident, payload, draft)),
+        Call::PutRevision => told(put_revision(alloc, ident, payload, draft)),
+        Call::GetFile { id } => told(get_file(alloc, ident, *id, payload, draft)),
+        Call::GetRevision { id } => told(get_revision(alloc, ident, *id, payload, draft)),
+        Call::GetManifestOf { id } => told(get_manifest_of(ident, *id, payload, draft)),
+        Call::GetRoster { id } => told(get_roster(ident, *id, payload, draft)),
+        Call::GetContentChanged { id, path } => {
+            told(get_content_changed(ident, *id, path, payload, draft))
+        }
+        Call::GetCorrespondingPath { id, path, other } => {
+            told(get_corresponding_path(ident, *id, path, *other, payload, draft))
+        }
+        Call::Ask { query } => told(ask(alloc, ident, query, payload, draft)),
+        Call::Graph => told(graph(alloc, ident, payload, draft)),
+        Call::Merge { a, b, resolves } => merge(alloc, ident, *a, *b, *resolves, payload, draft),
+        Call::ShowConflicts { a, b } => told(show_conflicts(alloc, ident, *a, *b, payload, draft)),
+        Call::Cert {
+            revision,
+            name,
+            key,
+            value,
+            signature,
+        } => told(cert(
+            alloc, ident, *revision, name, *key, value, signature, payload, draft,
+        )),
+        Call::Certs { id } => told(certs(alloc, ident, *id, payload, draft)),
+        Call::Key { id, name } => told(key(alloc, ident, *id, name, payload, draft)),
+        Call::Heads { branch } => told(heads(alloc, ident, branch, payload, draft)),
+        Call::Branches => told(branches(alloc, ident, payload, draft)),
+        Call::Commit { said } => told(commit(alloc, ident, said, payload, draft)),
+        Call::MergeHeads {
+            branch,
+            author,
+            date,
+            key,
+            resolves,
+        } => merge_heads(
+            alloc, ident, branch, author, date, *key, *resolves, payload, draft,
+        ),
+    }
+}

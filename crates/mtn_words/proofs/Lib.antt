@@ -1,0 +1,3 @@
+mod WordsLemmas
+mod PathWords
+mod Names

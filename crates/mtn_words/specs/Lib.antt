@@ -1,0 +1,4 @@
+pub mod Words
+pub mod Options
+pub mod Positionals
+pub mod Calls
