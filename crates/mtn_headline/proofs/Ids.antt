@@ -29,7 +29,7 @@ use Rattle.mtn_replay.specs.Making.{parent_tree, place_of}
 use Rattle.mtn_replay.proofs.Places.{place_has, place_within, within}
 use Rattle.mtn_roster.specs.declared.entry.Body.TheVariants.{File}
 use Rattle.mtn_roster.specs.Tree.{Tree, IsSane}
-use Rattle.mtn_headline.specs.Merging.{MakesIds}
+use Rattle.mtn_order.specs.Free.{MakesIds}
 
 abbrev pub IsId : Id → Type 0
 IsId id = (length id.0 ≡ 20) × IsBytes id.0
@@ -73,7 +73,7 @@ changes_stanzas (c ∷ cs) h = (change_stanza c (h c (head c cs)), changes_stanz
 -- ---- ids
 
 id_is : (f : List ℕ → List ℕ) (id : Id) (text : List ℕ) → MakesIds f → f text ≡ id.0 → IsId id
-id_is f id text ids e = (sym (ap length e) ∙ (ids text).0, subst IsBytes e (ids text).1)
+id_is f id text ids e = (sym (ap length e) ∙ (ids text).twenty, subst IsBytes e (ids text).bytes)
 
 content_is : (f : List ℕ → List ℕ) (files : Table) (id : Id) → MakesIds f → AreFiles f files → IsSome (get files id.0) → IsId id
 content_is f files id ids are some = go (get files id.0) refl some

@@ -47,7 +47,8 @@ use Rattle.mtn_roster.specs.Tree.{Tree, IsSane}
 use Rattle.mtn_step.specs.Step.{Ended, Planned, PutsRevision, Steps, conflict_text, conflicted, id_line, unless}
 use Rattle.mtn_step.specs.declared.call.Call.TheVariants.{Merge as MergeCall}
 use Rattle.mtn_step_laws.proofs.OnePlan.{one_plan}
-use Rattle.mtn_headline.specs.Merging.{IsMergeInOrder, IsMergedBy, IsNewRevision, IsWithinLimits, MakesIds}
+use Rattle.mtn_headline.specs.Merging.{IsMergeInOrder, IsMergedBy, IsNewRevision, IsWithinLimits}
+use Rattle.mtn_order.specs.Free.{MakesIds}
 use Rattle.mtn_headline.proofs.Ids.{merge_stanzas}
 use Rattle.mtn_planned_trees.proofs.Planned as planned
 
@@ -169,7 +170,7 @@ module _ (f : List ℕ → List ℕ) (s : State) (h : List Revision) (a b : Id) 
       spells : Spells text (merge_revision f h l r u)
       spells = planned.spells f s.files s.log h is a b order.sides order.merge order.decides order.resolutions order.before order.checked lawful_rs d are none x ux within.limits fresh
           (merge_stanzas f ids s.files lawful.files s.log h is l r p q u (id_of (f (spelling (manifest_of u)))) order.decides.at_left order.decides.at_right shown.sane held
-          (ids (spelling (manifest_of u))))
+          (let named = ids (spelling (manifest_of u)) in (named.twenty, named.bytes)))
 
       refusal_none : log_full h ≡ None → refusal_of f s.files h new (merge_revision f h l r u) ≡ None
       refusal_none = planned.refusal_none f s.files s.log h is a b order.sides order.merge order.decides order.resolutions order.before order.checked lawful_rs d are none x ux within.limits fresh

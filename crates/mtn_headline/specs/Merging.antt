@@ -1,6 +1,5 @@
 -- What a merge comes to, in the words of its conflicts and its tree.
-use Rattle.std.specs.Prelude.{◌≡◌, ◌⊎◌, ℕ, Bool, List, [], ◌∷◌, ◌++◌, length, Some, None, Ok}
-use Rattle.hex.specs.Hex.{IsBytes}
+use Rattle.std.specs.Prelude.{◌≡◌, ◌⊎◌, ℕ, Bool, List, [], ◌∷◌, ◌++◌, Some, None, Ok}
 use Rattle.mtn_base.specs.Hex.{id_of}
 use Rattle.mtn_base.specs.declared.id.Id.{Id}
 use Rattle.mtn_conflicts.specs.declared.lists.Conflicts.{Conflicts}
@@ -20,10 +19,6 @@ use Rattle.mtn_replay.specs.Texts.{text_under}
 use Rattle.mtn_resolve.specs.declared.resolution.Resolution.{Resolution}
 use Rattle.mtn_roster.specs.Tree.{Tree, IsSane}
 use Rattle.mtn_step.specs.Step.{done, id_line}
-
--- what is made of each text is an id: twenty bytes
-abbrev pub MakesIds : (List ℕ → List ℕ) → Type 0
-MakesIds f = (text : List ℕ) → (length (f text) ≡ 20) × IsBytes (f text)
 
 -- A merge of two revisions is in order: both are held and neither is an ancestor of the other; its resolutions are read, each fits
 -- what is decided, and each content that they pick is held
