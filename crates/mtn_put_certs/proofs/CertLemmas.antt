@@ -1,5 +1,5 @@
 -- Holding a certificate leads from a state to a state.
-use Rattle.std.specs.Prelude.{◌&&◌, ◌==◌, IfSome, MatchBool, is_none, nat_le, not}
+use Rattle.std.specs.Prelude.{◌&&◌, ◌==◌, IfSome, IsSome, MatchBool, is_none, nat_le, not}
 use Rattle.std.specs.List.{list_all}
 use Rattle.std.proofs.Common.{◌≡◌, ◌≤◌, ◌<◌, ◌^◌, ℕ, Bool, true, false, cond, List, [], ◌++◌, length, Option, Some, None, refl, sym, ap, ◌∙◌, subst, arith}
 use Rattle.std.proofs.lemmas.Bool.Decides.{nat_tests}
@@ -7,13 +7,12 @@ use Rattle.std.proofs.lemmas.List.{append-nil}
 use Rattle.std.specs.FinMap.{get-empty}
 use Rattle.std.specs.Ordering.{nat_cmp}
 use Rattle.std.specs.Cmp.Lexicographic.{slice_cmp}
-use Rattle.mtn_base.specs.declared.id.Id.{Id}
 use Rattle.mtn_base.specs.declared.refusal.Cause.TheVariants.{UnknownRevision}
 use Rattle.mtn_certs.specs.Certificates.{Certificate, IsIdBytes, IsLawfulCertificate, is_field_byte}
 use Rattle.mtn_model.specs.State.{Certificates, Holds, State}
 use Rattle.mtn_model.specs.Table.{Contents, body_at}
 use Rattle.mtn_ports.specs.Kept.{IsBody, with_all}
-use Rattle.mtn_records.specs.Fields.{AreApart, IsField, IsPair, IsTwenty, field_text, id_text, pair_text}
+use Rattle.mtn_records.specs.Fields.{AreApart, IsField, IsTwenty, field_text, id_text}
 use Rattle.mtn_records.specs.Apart.{field_apart, id_apart, pair_apart}
 use Rattle.mtn_replay.specs.Certificates.{cert_refusal, with_cert}
 use Rattle.mtn_replay.specs.Texts.{text_under}
@@ -22,23 +21,12 @@ use Rattle.mtn_history.specs.Certificates.{cert_key}
 use Rattle.mtn_history.specs.Records.{record_puts}
 use Rattle.mtn_history.specs.Stands.{IsDraft, IsNew, StandsFor}
 use Rattle.mtn_history.specs.declared.pending.Pending.{Pending}
+use Rattle.mtn_put_certs.specs.Parts.{AreParts, parts_of, parts_text}
 use Rattle.mtn_put_certs.proofs.Joining.{cert_stands, draft_beside}
 
 -- ---- the key of a certificate
 
-abbrev Parts : Type 0
-Parts = Id × (List ℕ × (Id × (List ℕ × List ℕ)))
-
-abbrev parts_text : Parts → List ℕ
-parts_text = pair_text id_text (pair_text field_text (pair_text id_text (pair_text field_text field_text)))
-
-abbrev AreParts : Parts → Type 0
-AreParts = IsPair IsTwenty (IsPair IsField (IsPair IsTwenty (IsPair IsField IsField)))
-
-abbrev parts_of : Certificate → Parts
-parts_of c = (c.revision, (c.name, (c.key, (c.value, c.signature))))
-
-parts_apart : AreApart parts_text AreParts
+pub parts_apart : AreApart parts_text AreParts
 parts_apart =
     pair_apart id_text IsTwenty _ _ id_apart (pair_apart field_text IsField _ _ field_apart (pair_apart id_text IsTwenty _ _ id_apart (pair_apart field_text IsField field_text IsField field_apart field_apart)))
 
@@ -62,11 +50,11 @@ short_value c lawful = within (length c.value) lawful.value
 pub short_signature : (c : Certificate) → IsLawfulCertificate c → length c.signature < 2 ^ 32
 short_signature c lawful = within (length c.signature) lawful.signature
 
-are_parts : (c : Certificate) → IsLawfulCertificate c → IsIdBytes c.revision.0 → IsIdBytes c.key.0 → AreParts (parts_of c)
+pub are_parts : (c : Certificate) → IsLawfulCertificate c → IsIdBytes c.revision.0 → IsIdBytes c.key.0 → AreParts (parts_of c)
 are_parts c lawful revision made_by = (revision.twenty, (short_name c lawful, (made_by.twenty, (short_value c lawful, short_signature c lawful))))
 
 -- no two certificates have one key
-one_key : (c d : Certificate) → AreParts (parts_of c) → AreParts (parts_of d) → cert_key c ≡ cert_key d → c ≡ d
+pub one_key : (c d : Certificate) → AreParts (parts_of c) → AreParts (parts_of d) → cert_key c ≡ cert_key d → c ≡ d
 one_key c d is_c is_d same =
     let both = parts_apart (parts_of c) (parts_of d) [] [] is_c is_d (append-nil (cert_key c) ∙ same ∙ sym (append-nil (cert_key d))) in
     λ i. record { revision = (both.0 i).0; name = (both.0 i).1.0; key = (both.0 i).1.1.0; value = (both.0 i).1.1.1.0; signature = (both.0 i).1.1.1.1 }
@@ -74,7 +62,7 @@ one_key c d is_c is_d same =
 -- ---- the state of a draft
 
 -- a certificate whose record is found is held
-held_by : (b : Bool) (f : List ℕ → List ℕ) (c : Contents) (s : State) (cert : Certificate) (body : List ℕ) → MatchBool b (IsNew c s) (StandsFor f c s) → AreParts (parts_of cert) →
+pub held_by : (b : Bool) (f : List ℕ → List ℕ) (c : Contents) (s : State) (cert : Certificate) (body : List ℕ) → MatchBool b (IsNew c s) (StandsFor f c s) → AreParts (parts_of cert) →
     body_at c 8 (cert_key cert) ≡ Some body → Holds s.certs cert
 held_by true f c s cert body new is found =
     absurd (let none : body_at c 8 (cert_key cert) ≡ None = ap (λ (d : Contents). body_at d 8 (cert_key cert)) new.records ∙ get-empty (slice_cmp nat_cmp) (cert_key cert) in cc)
@@ -83,35 +71,33 @@ held_by false f c s cert body stands is found =
     let law = stands.lawful.certs in
     subst (Holds s.certs) (sym (one_key cert o.0 is (are_parts o.0 (law.lawful o.0 o.1) (law.revisions o.0 o.1) (law.keys o.0 o.1)) o.2)) o.1
 
-known : (s : State) (cert : Certificate) (text : List ℕ) → text_under s.log cert.revision.0 ≡ Some text → cert_refusal s cert ≡ None
-known s cert text is = ap (λ o. cond (is_none o) (Some (UnknownRevision cert.revision)) None) is
+is_known : (o : Option (List ℕ)) → IsSome o → is_none o ≡ false
+is_known (Some text) some = refl
+is_known None some = absurd cc
+
+pub known : (s : State) (cert : Certificate) → IsSome (text_under s.log cert.revision.0) → cert_refusal s cert ≡ None
+known s cert some = ap (λ b. cond b (Some (UnknownRevision cert.revision)) None) (is_known (text_under s.log cert.revision.0) some)
 
 pub unknown : (s : State) (cert : Certificate) → text_under s.log cert.revision.0 ≡ None → cert_refusal s cert ≡ Some (UnknownRevision cert.revision)
 unknown s cert is = ap (λ o. cond (is_none o) (Some (UnknownRevision cert.revision)) None) is
 
-module _ (f : List ℕ → List ℕ) (told : Option Contents) (p mid after : Pending) (cert : Certificate) (key text out : List ℕ) (same : key ≡ cert_key cert) (found : mid ≡ p) (kept : after ≡ mid)
-    (lawful : IsLawfulCertificate cert) (revision : IsIdBytes cert.revision.0) (made_by : IsIdBytes cert.key.0) (c : Contents) (s : State) (at : told ≡ Some c) (draft : IsDraft f c p s)
-    (spoken_of : text_under s.log cert.revision.0 ≡ Some text) where
+module _ (f : List ℕ → List ℕ) (told : Option Contents) (p mid : Pending) (cert : Certificate) (key out : List ℕ) (same : key ≡ cert_key cert) (kept : mid ≡ p)
+    (lawful : IsLawfulCertificate cert) (revision : IsIdBytes cert.revision.0) (made_by : IsIdBytes cert.key.0) (c : Contents) (s : State) (at : told ≡ Some c) (draft : IsDraft f c p s) where
   -- its record was put
-  pub held_new : (last : Pending) → last ≡ record after { batch = after.batch ++ record_puts after.is_new after.count 8 key []; is_new = false } → (cert_refusal s cert ≡ None) × IsDraft f c last (with_cert s cert)
-  held_new last put =
+  pub held_new : IsSome (text_under s.log cert.revision.0) → (last : Pending) → last ≡ record mid { batch = mid.batch ++ record_puts mid.is_new mid.count 8 key []; is_new = false } → IsDraft f c last (with_cert s cert)
+  held_new spoken_of last put =
       let is : last ≡ record p { batch = p.batch ++ record_puts p.is_new p.count 8 (cert_key cert) []; is_new = false } =
-      put ∙ ap (λ (m : Pending). record m { batch = m.batch ++ record_puts m.is_new m.count 8 key []; is_new = false }) (kept ∙ found)
+      put ∙ ap (λ (m : Pending). record m { batch = m.batch ++ record_puts m.is_new m.count 8 key []; is_new = false }) kept
       ∙ ap (λ k. record p { batch = p.batch ++ record_puts p.is_new p.count 8 k []; is_new = false }) same in
-      let fine = known s cert text spoken_of in (
-        fine,
-        subst (λ (x : Pending). IsDraft f c x (with_cert s cert)) (sym is) (draft_beside f c p s (with_cert s cert) 8 (cert_key cert) [] draft refl (λ d. cert_stands f d s cert lawful revision made_by fine)),
-      )
+      subst (λ (x : Pending). IsDraft f c x (with_cert s cert)) (sym is)
+      (draft_beside f c p s (with_cert s cert) 8 (cert_key cert) [] draft refl (λ d. cert_stands f d s cert lawful revision made_by (known s cert spoken_of)))
 
   -- its record was there
-  pub held_same : (test : Bool) → IfSome told (λ d. IsBody (body_at (with_all d mid.batch) 8 key) test out) → test ≡ true → (cert_refusal s cert ≡ None) × IsDraft f c after (with_cert s cert)
+  pub held_same : (test : Bool) → IfSome told (λ d. IsBody (body_at (with_all d p.batch) 8 key) test out) → test ≡ true → IsDraft f c mid (with_cert s cert)
   held_same test finds there =
-      let answer : body_at (with_all c mid.batch) 8 key ≡ Some out =
-      subst (λ t. IsBody (body_at (with_all c mid.batch) 8 key) t out) there (subst (λ o. IfSome o (λ d. IsBody (body_at (with_all d mid.batch) 8 key) test out)) at finds) in
-      let own : body_at (with_all c p.batch) 8 (cert_key cert) ≡ Some out =
-      ap (λ (q : Pending). body_at (with_all c q.batch) 8 (cert_key cert)) (sym found) ∙ ap (body_at (with_all c mid.batch) 8) (sym same) ∙ answer in
+      let answer : body_at (with_all c p.batch) 8 key ≡ Some out =
+      subst (λ t. IsBody (body_at (with_all c p.batch) 8 key) t out) there (subst (λ o. IfSome o (λ d. IsBody (body_at (with_all d p.batch) 8 key) test out)) at finds) in
+      let own : body_at (with_all c p.batch) 8 (cert_key cert) ≡ Some out = ap (body_at (with_all c p.batch) 8) (sym same) ∙ answer in
       let held = held_by p.is_new f (with_all c p.batch) s cert out draft.stands (are_parts cert lawful revision made_by) own in
-      let stays : with_cert s cert ≡ s = ap (λ (m : Certificates). record s { certs = m }) (same_held s.certs cert held) in (
-        known s cert text spoken_of,
-        subst (λ (x : State). IsDraft f c after x) (sym stays) (subst (λ (x : Pending). IsDraft f c x s) (sym (kept ∙ found)) draft),
-      )
+      let stays : with_cert s cert ≡ s = ap (λ (m : Certificates). record s { certs = m }) (same_held s.certs cert held) in
+      subst (λ (x : State). IsDraft f c mid x) (sym stays) (subst (λ (x : Pending). IsDraft f c x s) (sym kept) draft)

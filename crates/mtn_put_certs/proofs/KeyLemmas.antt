@@ -1,9 +1,10 @@
 -- Giving a key its name leads from a state to a state.
-use Rattle.std.specs.Prelude.{IfSome, MatchBool, bytes_eq, option_and_then}
+use Rattle.std.specs.Prelude.{IfSome, MatchBool, bytes_eq, option_and_then, option_map}
 use Rattle.std.proofs.Common.{◌≡◌, ℕ, Bool, true, false, cond, List, ◌++◌, Option, Some, None, refl, sym, ap, ◌∙◌, subst}
 use Rattle.std.specs.FinMap.{get}
 use Rattle.std.proofs.lemmas.Slice.Eq.{bytes_eq-Decides}
 use Rattle.mtn_base.specs.declared.id.Id.{Id}
+use Rattle.mtn_base.specs.declared.refusal.Cause.TheVariants.{KeyNamed}
 use Rattle.mtn_certs.specs.Certificates.{IsIdBytes, is_field}
 use Rattle.mtn_model.specs.State.{State}
 use Rattle.mtn_model.specs.Table.{Contents, Table, body_at}
@@ -56,9 +57,9 @@ module _ (f : List ℕ → List ℕ) (told : Option Contents) (p mid : Pending) 
       )
 
   -- it had another
-  pub named_other : (seen shown : List ℕ) → test ≡ true → seen ≡ out → shown ≡ out → bytes_eq seen name ≡ false → (other_name s id name ≡ Some shown) × (mid ≡ p)
+  pub named_other : (seen shown : List ℕ) → test ≡ true → seen ≡ out → shown ≡ out → bytes_eq seen name ≡ false → option_map (λ held. KeyNamed id held) (other_name s id name) ≡ Some (KeyNamed id shown)
   named_other seen shown found sees shows differ =
-      let eq : bytes_eq out name ≡ false = ap (λ x. bytes_eq x name) (sym sees) ∙ differ in (
-        ap (λ o. option_and_then (λ held. cond (bytes_eq held name) None (Some held)) o) (there found) ∙ ap (λ t. cond t None (Some out)) eq ∙ ap Some (sym shows),
-        kept,
-      )
+      let eq : bytes_eq out name ≡ false = ap (λ x. bytes_eq x name) (sym sees) ∙ differ in
+      let other : other_name s id name ≡ Some shown =
+      ap (λ o. option_and_then (λ held. cond (bytes_eq held name) None (Some held)) o) (there found) ∙ ap (λ t. cond t None (Some out)) eq ∙ ap Some (sym shows) in
+      ap (λ o. option_map (λ held. KeyNamed id held) o) other

@@ -1,4 +1,7 @@
 pub mod Joining
 pub mod CertLemmas
+pub mod HeldLemmas
 pub mod KeyLemmas
+pub mod NameLemmas
+pub mod ReadLemmas
 pub mod Walking

@@ -1,2 +1,4 @@
 pub mod Accepting
+pub mod Parts
+pub mod Reading
 pub mod Walking

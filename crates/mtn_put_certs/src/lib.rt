@@ -1,20 +1,26 @@
 //! Certificates and the names of keys on a draft.
 //!
 //! A *certificate* speaks of a revision of the log. A store holds a set of them; one that is held is kept already. A *key name*
-//! stands under the id of its key, and stays: another name for the same key is not kept.
+//! stands under the id of its key, and stays: another name for the same key is refused.
 //!
 //! The crate above relies on this: [`put_cert`] and [`put_key`] lead the draft from its state to the state with the certificate
-//! or the name, or answer why not, and then nothing changes (`specs/Accepting.antt`). Damage is answered only where the draft's
-//! records stand for no state.
+//! or the name, or answer why not, and then nothing changes (`specs/Accepting.antt`). [`certs_of`] and [`certs`] answer exactly
+//! the certificates that the state holds, and [`names_of`] the names that it gives their keys. Damage is answered only where the
+//! draft's records stand for no state.
 //!
-//! Cost: a certificate reads the text of its revision and its own record; a name reads its own record.
+//! Cost: a certificate that is put reads the text of its revision and its own record; a name reads its own record. One that is
+//! read is two records, its key and its body; the names of keys are a record for each key.
 #![tactic(auto)]
 
-mod certs;
+mod damaged;
+mod held;
 mod key;
 mod names;
+mod put;
+mod read;
 mod walk;
 
-pub use certs::put_cert;
-pub use names::{key_name, put_key};
+pub use held::{certs, certs_of};
+pub use names::{key_name, names_of, put_key};
+pub use put::{hold_cert, put_cert};
 pub use walk::keys_behind;

@@ -22,26 +22,50 @@ pub enum Call {
     /// `put_revision`: accepts the payload as a revision's text, and answers its id.
     PutRevision,
     /// `get_file ID`: answers the bytes of a file.
-    GetFile { id: Id },
+    GetFile {
+        id: Id,
+    },
     /// `get_revision ID`: answers the text of a revision.
-    GetRevision { id: Id },
+    GetRevision {
+        id: Id,
+    },
     /// `get_manifest_of ID`: answers the manifest of a revision's tree.
-    GetManifestOf { id: Id },
+    GetManifestOf {
+        id: Id,
+    },
     /// `get_roster ID`: answers a revision's tree with its marks.
-    GetRoster { id: Id },
+    GetRoster {
+        id: Id,
+    },
     /// `get_content_changed ID PATH`: answers the marks of a file's content.
-    GetContentChanged { id: Id, path: Path },
+    GetContentChanged {
+        id: Id,
+        path: Path,
+    },
     /// `get_corresponding_path ID PATH ID`: answers where the node at a path stands in another revision.
-    GetCorrespondingPath { id: Id, path: Path, other: Id },
+    GetCorrespondingPath {
+        id: Id,
+        path: Path,
+        other: Id,
+    },
     /// A query of the graph: answers ids.
-    Ask { query: Query },
+    Ask {
+        query: Query,
+    },
     /// `graph`: answers each revision with its parents.
     Graph,
     /// `merge [--resolve] ID ID`: accepts the merge of two revisions, with the payload as resolutions if the option says so, and
     /// answers its id, or the conflicts.
-    Merge { a: Id, b: Id, resolves: bool },
+    Merge {
+        a: Id,
+        b: Id,
+        resolves: bool,
+    },
     /// `show_conflicts ID ID`: answers the conflicts of a merge.
-    ShowConflicts { a: Id, b: Id },
+    ShowConflicts {
+        a: Id,
+        b: Id,
+    },
     /// `cert --key=KEYID [--sig=BASE64] ID NAME VALUE`: holds a certificate of a revision.
     Cert {
         revision: Id,
@@ -52,16 +76,25 @@ pub enum Call {
         signature: Option<Bytes>,
     },
     /// `certs ID`: answers the certificates of a revision.
-    Certs { id: Id },
+    Certs {
+        id: Id,
+    },
     /// `key KEYID NAME`: gives a key its name.
-    Key { id: Id, name: Bytes },
+    Key {
+        id: Id,
+        name: Bytes,
+    },
     /// `heads BRANCH`: answers the heads of a branch.
-    Heads { branch: Bytes },
+    Heads {
+        branch: Bytes,
+    },
     /// `branches`: answers the branches that have a member.
     Branches,
     /// `commit --author=.. --branch=.. --changelog=.. --date=.. --key=KEYID`: accepts the payload as a revision's text with
     /// what is said of it, and answers its id.
-    Commit { said: Said },
+    Commit {
+        said: Said,
+    },
     /// `merge_heads --author=.. --date=.. --key=KEYID [--resolve] BRANCH`: accepts the merge of the two least heads of a
     /// branch with what is said of it, and answers its id, or the conflicts.
     MergeHeads {

@@ -10,7 +10,7 @@ use Rattle.mtn_answers.specs.declared.query.Query.{Query}
 use Rattle.mtn_answers.specs.declared.query.Query.TheVariants.{Parents, Children, Ancestors, Descendents, CommonAncestors, EraseAncestors, Toposort, AncestryDifference, Leaves, Roots}
 use Rattle.mtn_words.specs.declared.words.Command.{Command}
 use Rattle.mtn_words.specs.declared.words.OptionWord.{OptionWord}
-use Rattle.mtn_words.specs.Options.{has_flag, key_of, option_value, takes}
+use Rattle.mtn_words.specs.Options.{has_flag, option_value, takes, with_key, with_value}
 use Rattle.mtn_words.specs.Positionals.{id_and_ids, ids, no_words, one_id, one_word, read_path, some_ids, two_ids}
 use Rattle.mtn_words.specs.Words.{command_of}
 
@@ -28,6 +28,7 @@ corresponding_path (a ∷ []) = None
 corresponding_path (a ∷ b ∷ []) = None
 corresponding_path (a ∷ b ∷ c ∷ []) = option_and_then (λ id. option_and_then (λ path. option_map (GetCorrespondingPath id path) (read_id c)) (read_path b)) (read_id a)
 corresponding_path (_ ∷ _ ∷ _ ∷ _ ∷ _) = None
+
 -- an id and a name
 abbrev pub key_named : List (List ℕ) → Option Call
 key_named [] = None
@@ -50,29 +51,34 @@ query_named name words =
     else if bytes_eq name (codes "roots") then option_map (λ _. Roots) (no_words words)
     else None
 
--- a command of certificates, one line each, or a query
-abbrev pub cert_named : List ℕ → List (List ℕ) → Option Call
-cert_named name words =
-    if bytes_eq name (codes "certs") then option_map Certs (one_id words)
-    else if bytes_eq name (codes "key") then key_named words
-    else if bytes_eq name (codes "heads") then option_map Heads (one_word words)
+-- a question about the graph and the branches, one line each
+abbrev pub ask_named : List ℕ → List (List ℕ) → Option Call
+ask_named name words =
+    if bytes_eq name (codes "heads") then option_map Heads (one_word words)
     else if bytes_eq name (codes "branches") then option_map (λ _. Branches) (no_words words)
+    else if bytes_eq name (codes "graph") then option_map (λ _. Graph) (no_words words)
     else option_map Ask (query_named name words)
 
--- a command by its name, one line each
+-- a question about given revisions, one line each, or another one
+abbrev pub view_named : List ℕ → List (List ℕ) → Option Call
+view_named name words =
+    if bytes_eq name (codes "get_manifest_of") then option_map GetManifestOf (one_id words)
+    else if bytes_eq name (codes "get_roster") then option_map GetRoster (one_id words)
+    else if bytes_eq name (codes "get_content_changed") then content_changed words
+    else if bytes_eq name (codes "get_corresponding_path") then corresponding_path words
+    else if bytes_eq name (codes "show_conflicts") then two_ids ShowConflicts words
+    else if bytes_eq name (codes "certs") then option_map Certs (one_id words)
+    else ask_named name words
+
+-- a command by its name, one line each, or a question
 abbrev pub call_named : List ℕ → List (List ℕ) → Option Call
 call_named name words =
     if bytes_eq name (codes "put_file") then option_map (λ _. PutFile) (no_words words)
     else if bytes_eq name (codes "put_revision") then option_map (λ _. PutRevision) (no_words words)
     else if bytes_eq name (codes "get_file") then option_map GetFile (one_id words)
     else if bytes_eq name (codes "get_revision") then option_map GetRevision (one_id words)
-    else if bytes_eq name (codes "get_manifest_of") then option_map GetManifestOf (one_id words)
-    else if bytes_eq name (codes "get_roster") then option_map GetRoster (one_id words)
-    else if bytes_eq name (codes "get_content_changed") then content_changed words
-    else if bytes_eq name (codes "get_corresponding_path") then corresponding_path words
-    else if bytes_eq name (codes "graph") then option_map (λ _. Graph) (no_words words)
-    else if bytes_eq name (codes "show_conflicts") then two_ids ShowConflicts words
-    else cert_named name words
+    else if bytes_eq name (codes "key") then key_named words
+    else view_named name words
 
 -- a command that takes no option
 abbrev pub call_without : List OptionWord → List ℕ → List (List ℕ) → Option Call
@@ -82,12 +88,12 @@ call_without options name words = if takes [] [] options then call_named name wo
 abbrev pub merge : List OptionWord → List (List ℕ) → Option Call
 merge options words = if takes (codes "resolve" ∷ []) [] options then two_ids (λ a b. Merge a b (has_flag options (codes "resolve"))) words else None
 
--- what is said of a revision, each by an option that must be there
+-- what is said of a revision
 abbrev pub said : List OptionWord → Option Said
 said options =
-    option_and_then (λ author. option_and_then (λ branch. option_and_then (λ changelog. option_and_then (λ date. option_map (λ key.
-        record { author = author; branch = branch; changelog = changelog; date = date; key = key })
-        (key_of options)) (option_value options (codes "date"))) (option_value options (codes "changelog"))) (option_value options (codes "branch"))) (option_value options (codes "author"))
+    with_value options (codes "author") (λ author. with_value options (codes "branch") (λ branch.
+    with_value options (codes "changelog") (λ changelog. with_value options (codes "date") (λ date.
+    with_key options (λ key. Some (record { author = author; branch = branch; changelog = changelog; date = date; key = key }))))))
 
 abbrev pub commit : List OptionWord → List (List ℕ) → Option Call
 commit options words =
@@ -98,9 +104,8 @@ commit options words =
 abbrev pub merge_heads : List OptionWord → List (List ℕ) → Option Call
 merge_heads options words =
     if takes (codes "resolve" ∷ []) (codes "author" ∷ codes "date" ∷ codes "key" ∷ []) options
-    then option_and_then (λ branch. option_and_then (λ author. option_and_then (λ date. option_map (λ key.
-        MergeHeads branch author date key (has_flag options (codes "resolve")))
-        (key_of options)) (option_value options (codes "date"))) (option_value options (codes "author"))) (one_word words)
+    then option_and_then (λ branch. with_value options (codes "author") (λ author. with_value options (codes "date") (λ date.
+    with_key options (λ key. Some (MergeHeads branch author date key (has_flag options (codes "resolve"))))))) (one_word words)
     else None
 
 -- an id, a name and a value
@@ -115,7 +120,7 @@ cert_by key signature (_ ∷ _ ∷ _ ∷ _ ∷ _) = None
 abbrev pub cert : List OptionWord → List (List ℕ) → Option Call
 cert options words =
     if takes [] (codes "key" ∷ codes "sig" ∷ []) options
-    then option_and_then (λ key. cert_by key (option_value options (codes "sig")) words) (key_of options)
+    then with_key options (λ key. cert_by key (option_value options (codes "sig")) words)
     else None
 
 -- a command with what its options say, one line each

@@ -24,3 +24,10 @@ option_value options name = option_and_then (λ o. o.value) (find (λ o. bytes_e
 -- the id that `--key` says
 abbrev pub key_of : List OptionWord → Option Id
 key_of options = option_and_then read_id (option_value options (codes "key"))
+
+-- what is made of a value, or of the key, that must be there
+abbrev pub with_value : {T : Type 0} → List OptionWord → List ℕ → (List ℕ → Option T) → Option T
+with_value options name make = option_and_then make (option_value options name)
+
+abbrev pub with_key : {T : Type 0} → List OptionWord → (Id → Option T) → Option T
+with_key options make = option_and_then make (key_of options)

@@ -1,11 +1,13 @@
 // The commands, and the words of each.
 ghost use Rattle.std.specs.Prelude.{◌≡◌, IfOk, is_some};
-ghost use Rattle.mtn_words.specs.Calls.{call_named as call_by_name, call_of, call_with as call_by_options, call_without as call_by_no_option, cert_named as cert_by_name, content_changed as content_call, corresponding_path as corresponding_call, key_named as key_call, query_named as query_by_name};
+ghost use Rattle.mtn_words.specs.Calls.{ask_named as ask_by_name, call_named as call_by_name, call_of, call_with as call_by_options, call_without as call_by_no_option, content_changed as content_call, corresponding_path as corresponding_call, key_named as key_call, query_named as query_by_name, view_named as view_by_name};
 ghost use Rattle.mtn_words.specs.Positionals.{id_and_ids, two_ids as pair_of};
 ghost use Rattle.mtn_words.specs.Words.{Reads};
 
 use crate::options::takes;
-use crate::positionals::{id_of_word, ids, no_words, one_id, one_word, path_word, some_ids, two_ids};
+use crate::positionals::{
+    id_of_word, ids, no_words, one_id, one_word, path_word, some_ids, two_ids,
+};
 use crate::with_options::{cert, commit, merge, merge_heads};
 use crate::words::{OptionWord, WordsError, step_words};
 use mtn_answers::Query;
@@ -74,6 +76,7 @@ fn call_without(
     }
 }
 
+// A command by its name: one of these, or a question.
 fn call_named(alloc: Global, name: &str, words: &[Bytes]) -> Result<Call, WordsError>
     ensures { Reads (call_by_name name.now words.now) result }
 {
@@ -82,25 +85,34 @@ fn call_named(alloc: Global, name: &str, words: &[Bytes]) -> Result<Call, WordsE
         "put_revision" => no_words(words).map(|()| Call::PutRevision),
         "get_file" => one_id(words).map(|id| Call::GetFile { id }),
         "get_revision" => one_id(words).map(|id| Call::GetRevision { id }),
+        "key" => key_named(alloc, words),
+        _ => view_named(alloc, name, words),
+    }
+}
+
+// A question about given revisions, or another one.
+fn view_named(alloc: Global, name: &str, words: &[Bytes]) -> Result<Call, WordsError>
+    ensures { Reads (view_by_name name.now words.now) result }
+{
+    match name {
         "get_manifest_of" => one_id(words).map(|id| Call::GetManifestOf { id }),
         "get_roster" => one_id(words).map(|id| Call::GetRoster { id }),
         "get_content_changed" => content_changed(alloc, words),
         "get_corresponding_path" => corresponding_path(alloc, words),
-        "graph" => no_words(words).map(|()| Call::Graph),
         "show_conflicts" => show_conflicts(words),
-        _ => cert_named(alloc, name, words),
+        "certs" => one_id(words).map(|id| Call::Certs { id }),
+        _ => ask_named(alloc, name, words),
     }
 }
 
-// A command of certificates, or a query.
-fn cert_named(alloc: Global, name: &str, words: &[Bytes]) -> Result<Call, WordsError>
-    ensures { Reads (cert_by_name name.now words.now) result }
+// A question about the graph and the branches.
+fn ask_named(alloc: Global, name: &str, words: &[Bytes]) -> Result<Call, WordsError>
+    ensures { Reads (ask_by_name name.now words.now) result }
 {
     match name {
-        "certs" => one_id(words).map(|id| Call::Certs { id }),
-        "key" => key_named(alloc, words),
         "heads" => one_word(alloc, words).map(|branch| Call::Heads { branch }),
         "branches" => no_words(words).map(|()| Call::Branches),
+        "graph" => no_words(words).map(|()| Call::Graph),
         _ => query_named(alloc, name, words).map(|query| Call::Ask { query }),
     }
 }

@@ -37,9 +37,7 @@ pub fn takes(flags: &[&str], names: &[&str], options: &[OptionWord]) -> bool
 pub fn has_flag(options: &[OptionWord], name: &str) -> bool
     ensures { result ≡ flag_stands options.now name.now }
 {
-    options
-        .iter()
-        .any(|option| option.value.is_none() && option.name.as_slice() == name.as_bytes())
+    options.iter().any(|option| option.value.is_none() && option.name.as_slice() == name.as_bytes())
 }
 
 fn option_named<'a>(options: &'a [OptionWord], name: &str) -> Option<&'a OptionWord>

@@ -52,14 +52,14 @@ fn said(alloc: Global, options: &[OptionWord]) -> Result<Said, WordsError>
     })
 }
 
-pub fn commit(
-    alloc: Global,
-    options: &[OptionWord],
-    words: &[Bytes],
-) -> Result<Call, WordsError>
+pub fn commit(alloc: Global, options: &[OptionWord], words: &[Bytes]) -> Result<Call, WordsError>
     ensures { Reads (commit_call options.now words.now) result }
 {
-    if !takes(&[], &["author", "branch", "changelog", "date", "key"], options) {
+    if !takes(
+        &[],
+        &["author", "branch", "changelog", "date", "key"],
+        options,
+    ) {
         return Err(WordsError::Usage);
     }
     no_words(words)?;

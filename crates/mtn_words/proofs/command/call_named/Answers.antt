@@ -6,14 +6,9 @@ pub returns-in_default : goal.returns-in_default
 returns-in_default c =
     let name = c.args.name.now in
     rw (
-        not_named name (codes "put_file") c.in_default.not-put_file,
-        not_named name (codes "put_revision") c.in_default.not-put_revision,
-        not_named name (codes "get_file") c.in_default.not-get_file,
-        not_named name (codes "get_revision") c.in_default.not-get_revision,
-        not_named name (codes "get_manifest_of") c.in_default.not-get_manifest_of,
-        not_named name (codes "get_roster") c.in_default.not-get_roster,
-        not_named name (codes "get_content_changed") c.in_default.not-get_content_changed,
-        not_named name (codes "get_corresponding_path") c.in_default.not-get_corresponding_path,
-        not_named name (codes "graph") c.in_default.not-graph,
-        not_named name (codes "show_conflicts") c.in_default.not-show_conflicts
-    ) c.cert_named.ensures
+      not_named name (codes "put_file") c.in_default.not-put_file,
+      not_named name (codes "put_revision") c.in_default.not-put_revision,
+      not_named name (codes "get_file") c.in_default.not-get_file,
+      not_named name (codes "get_revision") c.in_default.not-get_revision,
+      not_named name (codes "key") c.in_default.not-key,
+    ) c.view_named.ensures
