@@ -16,15 +16,14 @@ use mtn_certs::Cert;
 use mtn_history::{CERTS, Draft, HistoryError, StoreError};
 use mtn_ports::Keeper;
 
-/// Holds a certificate of a revision that the log is known to have, as one does whose text was just put; one that is held is
-/// kept already. The revision is not looked up. Any error leaves what is pending as it was.
+/// Holds a certificate of a revision that the log is known to have, as one whose text was just put; one that is held is kept
+/// already. The revision is not looked up: where the log does not have it, nothing is said. Any error leaves what is pending as
+/// it was.
 pub fn hold_cert<K: Keeper>(draft: &mut Draft<'_, K>, cert: &Cert) -> Result<(), StoreError>
-    requires known { (f : List ℕ → List ℕ) (c : Contents) (s : State) → K.contents draft.old.keeper.now ≡ Some c → IsDraft f c draft.old.pending s
-        → IsSome (text_under s.log cert.now.revision.0) }
     ensures same_reference { draft.new.keeper.ghost_name ≡ draft.old.keeper.ghost_name }
     ensures stays { Stays K.contents K.leaves K.faults draft.old.keeper.now draft.new.keeper.now }
     ensures holds { (f : List ℕ → List ℕ) (c : Contents) (s : State) → K.contents draft.new.keeper.now ≡ Some c → IsDraft f c draft.old.pending s
-        → OnOk result (IsDraft f c draft.new.pending (with_cert s cert.now)) }
+        → IsSome (text_under s.log cert.now.revision.0) → OnOk result (IsDraft f c draft.new.pending (with_cert s cert.now)) }
     ensures err { OnErr result (draft.new.pending ≡ draft.old.pending) }
     ensures sound { IfErr result (λ e. IfDamage e (λ _. ⊥)) }
     ensures failed { result ≡ Err StoreError.Failed → Rose (K.faults draft.old.keeper.now) (K.faults draft.new.keeper.now) }
