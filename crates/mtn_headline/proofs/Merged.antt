@@ -44,7 +44,7 @@ use Rattle.mtn_resolve.specs.declared.resolution.Resolution.{Resolution}
 use Rattle.mtn_resolve.specs.Overriding.{overridden}
 use Rattle.mtn_resolve.specs.Texts.{AreResolutions}
 use Rattle.mtn_roster.specs.Tree.{Tree, IsSane}
-use Rattle.mtn_step.specs.Step.{Ended, Planned, PutsRevision, Steps, conflict_text, conflicted, id_line, unless}
+use Rattle.mtn_step.specs.Step.{Ended, Ending, Planned, PutsRevision, Steps, conflict_text, conflicted, id_line, unless}
 use Rattle.mtn_step.specs.declared.call.Call.TheVariants.{Merge as MergeCall}
 use Rattle.mtn_step_laws.proofs.OnePlan.{one_plan}
 use Rattle.mtn_headline.specs.Merging.{IsMergeInOrder, IsMergedBy, IsNewRevision, IsWithinLimits}
@@ -87,15 +87,21 @@ module _ (f : List ℕ → List ℕ) (s : State) (h : List Revision) (a b : Id) 
     },
   )
 
+  abbrev MergedBy : Ending → Type 0
+  MergedBy ends = Planned (Merges f s.files h a b resolves payload) (Ended ends s o)
+
   -- what is done is done by that plan
-  by_plan : (plan : Plan) → Ends f h l r decisions plan → Steps f (MergeCall a b resolves) payload s o → Ended (PutsRevision f) s o plan
-  by_plan plan ends does =
-      let same : does.0 ≡ h = one_history f s.files s.log does.0 h does.1 is in
-      let there : Planned (Merges f s.files h a b resolves payload) (Ended (PutsRevision f) s o) = subst (λ g. Planned (Merges f s.files g a b resolves payload) (Ended (PutsRevision f) s o)) same does.2 in
-      subst (Ended (PutsRevision f) s o) (one_plan f s.files s.log h is a b resolves payload there.0 plan there.1 (plan_of plan ends)) there.2
+  by_plan : (ends : Ending) (plan : Plan) → Ends f h l r decisions plan → MergedBy ends → Ended ends s o plan
+  by_plan ends plan of there = subst (Ended ends s o) (one_plan f s.files s.log h is a b resolves payload there.0 plan there.1 (plan_of plan of)) there.2
+
+  pub left_in_conflict : (ends : Ending) → MergedBy ends → ¬ IsNone d → o ≡ conflicted s (conflict_text l r d)
+  left_in_conflict ends there some = by_plan ends (Ok (Conflicted l r d)) (record { conflicts = d; are = are; ends = inl (record { some = some; is = refl }) }) there
+
+  of_merge : Steps f (MergeCall a b resolves) payload s o → MergedBy (PutsRevision f)
+  of_merge does = subst (λ g. Planned (Merges f s.files g a b resolves payload) (Ended (PutsRevision f) s o)) (one_history f s.files s.log does.0 h does.1 is) does.2
 
   pub in_conflict : Steps f (MergeCall a b resolves) payload s o → ¬ IsNone d → o ≡ conflicted s (conflict_text l r d)
-  in_conflict does some = by_plan (Ok (Conflicted l r d)) (record { conflicts = d; are = are; ends = inl (record { some = some; is = refl }) }) does
+  in_conflict does some = left_in_conflict (PutsRevision f) (of_merge does) some
 
   module _ (ids : MakesIds f) (lawful : IsLawful f s) (none : IsNone d) (x : Id) (ux : IsUnborn h l r x) (within : IsWithinLimits f s h l r (result_of decisions x)) where
     lawful_rs : AreResolutions [] order.resolutions
@@ -119,9 +125,9 @@ module _ (f : List ℕ → List ℕ) (s : State) (h : List Revision) (a b : Id) 
     abbrev q : ℕ
     q = order.decides.right
 
-    put : Steps f (MergeCall a b resolves) payload s o → PutsRevision f text s o
-    put does = subst (λ plan. Ended (PutsRevision f) s o plan) (ap (λ z. merged_or z text) within.limits)
-        (by_plan (merged_or (limit_refusal f h l r t) text) (record { conflicts = d; are = are; ends = inr (record { none = none; tree = t; makes = (x, ux, refl); is = refl }) }) does)
+    pub text_ends : (ends : Ending) → MergedBy ends → ends text s o
+    text_ends ends there = subst (Ended ends s o) (ap (λ z. merged_or z text) within.limits)
+        (by_plan ends (merged_or (limit_refusal f h l r t) text) (record { conflicts = d; are = are; ends = inr (record { none = none; tree = t; makes = (x, ux, refl); is = refl }) }) there)
 
     -- ---- the limits
 
@@ -211,8 +217,8 @@ module _ (f : List ℕ → List ℕ) (s : State) (h : List Revision) (a b : Id) 
         let one = one_history f s.files s.log z.history h z.spelled is in
         (z.is ∙ ap (λ (y : Spelled). refusal_beside (text_under s.log (f text)) f s.files z.history text y) same ∙ ap (λ (g : List Revision). refusal_beside (text_under s.log (f text)) f s.files g text v) one, z.after)
 
-    pub is_merged : Steps f (MergeCall a b resolves) payload s o → IsMergedBy f s h decisions text o
-    is_merged does = by within.room (put does)
+    pub put_merged : PutsRevision f text s o → IsMergedBy f s h decisions text o
+    put_merged put = by within.room put
       where
         by : (text_under s.log (f text) ≡ Some text) ⊎ ((text_under s.log (f text) ≡ None) × (log_full h ≡ None)) → PutsRevision f text s o → IsMergedBy f s h decisions text o
         by (inl under) z =
@@ -227,3 +233,6 @@ module _ (f : List ℕ → List ℕ) (s : State) (h : List Revision) (a b : Id) 
             let refusal : z.refusal ≡ None = told.0 ∙ ap (λ v. refusal_beside v f s.files h text (merge_revision f h l r u)) under.0 ∙ refusal_none fresh under.1 in
             let after : z.after ≡ logged_beside None f s text = told.1 ∙ ap (λ v. logged_beside v f s text) under.0 in
             inr (made_new fresh under.1 under.0 (z.is ∙ ap (λ v. unless v s z.after (id_line (f text))) refusal ∙ ap (λ (y : State). unless None s y (id_line (f text))) after))
+
+    pub is_merged : Steps f (MergeCall a b resolves) payload s o → IsMergedBy f s h decisions text o
+    is_merged does = put_merged (text_ends (PutsRevision f) (of_merge does))

@@ -1,6 +1,6 @@
 -- No command but two depends on the order of the log.
 use Rattle.std.specs.FinMap.{get}
-use Rattle.std.proofs.Common.{◌≡◌, ℕ, List, false, sym, ap, ◌∙◌, subst}
+use Rattle.std.proofs.Common.{◌≡◌, ℕ, List, false, refl, sym, ap, ◌∙◌, subst}
 use Rattle.mtn_base.specs.declared.refusal.Cause.TheVariants.{UnknownFile, UnknownRevision}
 use Rattle.mtn_model.specs.Outcome.{Outcome}
 use Rattle.mtn_step.specs.Step.{found, id_line, unless, PutsRevision, Steps}
@@ -50,14 +50,14 @@ step_free f (Ask query) payload free ids s t o same does = asked_free f query fr
 step_free f Graph payload free ids s t o same does = graphed_free f s t o same does
 step_free f (Merge a b resolves) payload free ids s t o same does = merge_free f a b resolves payload (PutsRevision f) (puts_free f) s t o same does
 step_free f (ShowConflicts a b) payload free ids s t o same does = shows_free f a b s t o same does
-step_free f (Cert revision name key value signature) payload free ids s t o same does = certified_there f s t same revision key name value (signature_of signature) o ids.0 ids.1 does
+step_free f (Cert revision name key value signature) payload free ids s t o same does = certified_there f s t same revision key name value (signature_of signature) o ids.0.0 ids.0.1 does
 step_free f (Certs id) payload free ids s t o same does = listed_there f s t same id o does
-step_free f (Key id name) payload free ids s t o same does = named_there f s t same id name o ids does
+step_free f (Key id name) payload free ids s t o same does = named_there f s t same id name o ids.0 does
 step_free f (Heads branch) payload free ids s t o same does = heads_free f branch s t o same does
 step_free f Branches payload free ids s t o same does = branches_there f s t same o does
-step_free f (Commit said) payload free ids s t o same does = commits_free f said payload (ids.0 payload) ids.1 s t o same does
+step_free f (Commit said) payload free ids s t o same does = commits_free f said payload (ids.1 refl payload) ids.0 s t o same does
 step_free f (MergeHeads branch author date key resolves) payload free ids s t o same does =
-    merges_heads_free f ids.0 (merge_said key author branch date) (λ l r. ids.1) resolves payload branch s t o same does
+    merges_heads_free f (ids.1 refl) (merge_said key author branch date) (λ l r. ids.0) resolves payload branch s t o same does
 
 -- so any two outcomes are the same
 pub steps_same : (f : List ℕ → List ℕ) (call : Call) (payload : List ℕ) → in_log_order call ≡ false → KeepsIds f call → (s t : State) (o p : Outcome) → IsSameUpToOrder f s t → Steps f call payload s o → Steps f call payload t p → IsSameOutcome f o p

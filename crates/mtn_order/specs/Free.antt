@@ -22,13 +22,27 @@ asks_log_order (Some call) = in_log_order call
 abbrev pub MakesIds : (List ℕ → List ℕ) → Type 0
 MakesIds f = (text : List ℕ) → IsIdBytes (f text)
 
--- what a command keeps in certificates and key names are ids; only words that spell an id make such a command
+-- the commands that say something of a revision that they make
+abbrev pub certifies : Call → Bool
+certifies (Commit said) = true
+certifies (MergeHeads branch author date key resolves) = true
+certifies _ = false
+
+abbrev pub asks_ids : Option Call → Bool
+asks_ids None = false
+asks_ids (Some call) = certifies call
+
+-- what a command names in certificates and key names are ids, as those that words spell
+abbrev pub NamesIds : Call → Type 0
+NamesIds (Cert revision name key value signature) = IsIdBytes revision.0 × IsIdBytes key.0
+NamesIds (Key id name) = IsIdBytes id.0
+NamesIds (Commit said) = IsIdBytes said.key.0
+NamesIds (MergeHeads branch author date key resolves) = IsIdBytes key.0
+NamesIds _ = Unit {0}
+
+-- so what it keeps are ids
 abbrev pub KeepsIds : (List ℕ → List ℕ) → Call → Type 0
-KeepsIds f (Cert revision name key value signature) = IsIdBytes revision.0 × IsIdBytes key.0
-KeepsIds f (Key id name) = IsIdBytes id.0
-KeepsIds f (Commit said) = MakesIds f × IsIdBytes said.key.0
-KeepsIds f (MergeHeads branch author date key resolves) = MakesIds f × IsIdBytes key.0
-KeepsIds f _ = Unit {0}
+KeepsIds f call = NamesIds call × (certifies call ≡ true → MakesIds f)
 
 -- the same output and status, and states that are again one but for the order of their logs
 pub record IsSameOutcome (f : List ℕ → List ℕ) (o p : Outcome) : Type 0 where
