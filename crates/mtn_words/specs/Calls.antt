@@ -36,7 +36,16 @@ key_named (a ∷ []) = None
 key_named (a ∷ name ∷ []) = option_map (λ id. Key id name) (read_id a)
 key_named (_ ∷ _ ∷ _ ∷ _) = None
 
--- a query of the graph, one line each
+-- a query that picks or orders revisions, given ones or all, one line each
+abbrev pub pick_named : List ℕ → List (List ℕ) → Option Query
+pick_named name words =
+    if bytes_eq name (codes "erase_ancestors") then option_map EraseAncestors (ids words)
+    else if bytes_eq name (codes "toposort") then option_map Toposort (ids words)
+    else if bytes_eq name (codes "leaves") then option_map (λ _. Leaves) (no_words words)
+    else if bytes_eq name (codes "roots") then option_map (λ _. Roots) (no_words words)
+    else None
+
+-- a query of what is above or below given revisions, one line each, or another one
 abbrev pub query_named : List ℕ → List (List ℕ) → Option Query
 query_named name words =
     if bytes_eq name (codes "parents") then option_map Parents (one_id words)
@@ -44,12 +53,8 @@ query_named name words =
     else if bytes_eq name (codes "ancestors") then option_map Ancestors (some_ids words)
     else if bytes_eq name (codes "descendents") then option_map Descendents (some_ids words)
     else if bytes_eq name (codes "common_ancestors") then id_and_ids CommonAncestors words
-    else if bytes_eq name (codes "erase_ancestors") then option_map EraseAncestors (ids words)
-    else if bytes_eq name (codes "toposort") then option_map Toposort (ids words)
     else if bytes_eq name (codes "ancestry_difference") then id_and_ids AncestryDifference words
-    else if bytes_eq name (codes "leaves") then option_map (λ _. Leaves) (no_words words)
-    else if bytes_eq name (codes "roots") then option_map (λ _. Roots) (no_words words)
-    else None
+    else pick_named name words
 
 -- a question about the graph and the branches, one line each
 abbrev pub ask_named : List ℕ → List (List ℕ) → Option Call

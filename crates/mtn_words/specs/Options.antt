@@ -1,5 +1,5 @@
 -- What the option words of a command say. The grammar has each name once, so an option is looked up by its name.
-use Rattle.std.specs.Prelude.{List, Option, Some, None, ℕ, Bool, ◌&&◌, is_none, codes, bytes_eq, find, if◌then◌else◌}
+use Rattle.std.specs.Prelude.{List, Option, ℕ, Bool, ◌&&◌, is_none, codes, bytes_eq, find, if◌then◌else◌}
 use Rattle.std.specs.List.{list_all, list_any}
 use Rattle.std.specs.Option.{option_and_then}
 use Rattle.mtn_base.specs.Hex.{read_id}

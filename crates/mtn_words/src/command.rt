@@ -1,6 +1,6 @@
 // The commands, and the words of each.
 ghost use Rattle.std.specs.Prelude.{◌≡◌, IfOk, is_some};
-ghost use Rattle.mtn_words.specs.Calls.{ask_named as ask_by_name, call_named as call_by_name, call_of, call_with as call_by_options, call_without as call_by_no_option, content_changed as content_call, corresponding_path as corresponding_call, key_named as key_call, query_named as query_by_name, view_named as view_by_name};
+ghost use Rattle.mtn_words.specs.Calls.{ask_named as ask_by_name, call_named as call_by_name, call_of, call_with as call_by_options, call_without as call_by_no_option, content_changed as content_call, corresponding_path as corresponding_call, key_named as key_call, pick_named as pick_by_name, query_named as query_by_name, view_named as view_by_name};
 ghost use Rattle.mtn_words.specs.Positionals.{id_and_ids, two_ids as pair_of};
 ghost use Rattle.mtn_words.specs.Words.{Reads};
 
@@ -117,6 +117,7 @@ fn ask_named(alloc: Global, name: &str, words: &[Bytes]) -> Result<Call, WordsEr
     }
 }
 
+// A query of what is above or below given revisions, or another one.
 fn query_named(alloc: Global, name: &str, words: &[Bytes]) -> Result<Query, WordsError>
     ensures { Reads (query_by_name name.now words.now) result }
 {
@@ -126,9 +127,18 @@ fn query_named(alloc: Global, name: &str, words: &[Bytes]) -> Result<Query, Word
         "ancestors" => some_ids(alloc, words).map(|of| Query::Ancestors { of }),
         "descendents" => some_ids(alloc, words).map(|of| Query::Descendents { of }),
         "common_ancestors" => common_ancestors(alloc, words),
+        "ancestry_difference" => ancestry_difference(alloc, words),
+        _ => pick_named(alloc, name, words),
+    }
+}
+
+// A query that picks or orders revisions, given ones or all.
+fn pick_named(alloc: Global, name: &str, words: &[Bytes]) -> Result<Query, WordsError>
+    ensures { Reads (pick_by_name name.now words.now) result }
+{
+    match name {
         "erase_ancestors" => ids(alloc, words).map(|of| Query::EraseAncestors { of }),
         "toposort" => ids(alloc, words).map(|of| Query::Toposort { of }),
-        "ancestry_difference" => ancestry_difference(alloc, words),
         "leaves" => no_words(words).map(|()| Query::Leaves),
         "roots" => no_words(words).map(|()| Query::Roots),
         _ => Err(WordsError::Usage),

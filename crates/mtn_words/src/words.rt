@@ -2,7 +2,7 @@
 ghost use Rattle.std.specs.Prelude.{◌≡◌, ◌==◌, IfOk, map, position};
 ghost use Rattle.std.specs.List.{list_all, prefix_len};
 ghost use Rattle.std.specs.Str.{is_utf8 as utf8};
-ghost use Rattle.mtn_words.specs.Words.{Reads, are_apart as apart, command_of, each_of, is_end as ends, is_option as optional, option_cut, option_of, positionals_of};
+ghost use Rattle.mtn_words.specs.Words.{Reads, are_apart as apart, command_of, command_with, each_of, is_end as ends, is_option as optional, option_cut, option_of, positionals_of};
 
 use mtn_base::{Bytes, List, NoMemory};
 use std::alloc::Global;
@@ -57,13 +57,25 @@ pub fn step_words(alloc: Global, words: &[Bytes]) -> Result<Command, WordsError>
     }
     let count = count_options(rest);
     let options = read_options(alloc, &rest[..count])?;
+    with_parts(alloc, name, options, positionals(&rest[count..]))
+}
+
+// A command whose options differ.
+fn with_parts(
+    alloc: Global,
+    name: &Bytes,
+    options: List<OptionWord>,
+    positionals: &[Bytes],
+) -> Result<Command, WordsError>
+    ensures { Reads (command_with name.now positionals.now options) result }
+{
     if !are_apart(alloc, options.as_slice())? {
         return Err(WordsError::Usage);
     }
     Ok(Command {
         name: name.copy(alloc)?,
         options,
-        positionals: copies(alloc, positionals(&rest[count..]))?,
+        positionals: copies(alloc, positionals)?,
     })
 }
 
