@@ -36,7 +36,7 @@ pub above_more : (front : List ℕ) (y : ℕ) (rest : List ℕ) → IsAbove fron
 above_more [] y rest = refl
 above_more (x ∷ xs) y rest = ap (λ o. ordering_then o (slice_cmp nat_cmp xs (xs ++ y ∷ rest))) (tied_itself nat_cmp_total x) ∙ above_more xs y rest
 
-above_none : (xs : List ℕ) (y : ℕ) (rest : List ℕ) → IsAbove [] (xs ++ y ∷ rest)
+pub above_none : (xs : List ℕ) (y : ℕ) (rest : List ℕ) → IsAbove [] (xs ++ y ∷ rest)
 above_none [] y rest = refl
 above_none (x ∷ xs) y rest = refl
 
@@ -153,7 +153,7 @@ damage_is (Damaged x) d P is fact = subst P (sym is) fact
 damage_is Failed d P is fact = tt
 damage_is NoMemory d P is fact = tt
 
-stands_of : (b : Bool) (f : List ℕ → List ℕ) (c : Contents) (s : State) → MatchBool b (IsNew c s) (StandsFor f c s) → Stands f c s
+pub stands_of : (b : Bool) (f : List ℕ → List ℕ) (c : Contents) (s : State) → MatchBool b (IsNew c s) (StandsFor f c s) → Stands f c s
 stands_of true f c s new = inl new
 stands_of false f c s stands = inr stands
 

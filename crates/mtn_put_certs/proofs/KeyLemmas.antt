@@ -17,7 +17,7 @@ use Rattle.mtn_history.specs.declared.pending.Pending.{Pending}
 use Rattle.mtn_put_certs.proofs.Joining.{draft_beside, key_stands}
 
 -- table 7 of a draft is the key names
-keys_of : (b : Bool) (f : List ℕ → List ℕ) (c : Contents) (s : State) → MatchBool b (IsNew c s) (StandsFor f c s) → c 7 ≡ s.keys
+pub keys_of : (b : Bool) (f : List ℕ → List ℕ) (c : Contents) (s : State) → MatchBool b (IsNew c s) (StandsFor f c s) → c 7 ≡ s.keys
 keys_of true f c s new = ap (λ (d : Contents). d 7) new.records ∙ ap (λ (x : State). x.keys) (sym new.state)
 keys_of false f c s stands = stands.keys
 

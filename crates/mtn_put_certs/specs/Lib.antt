@@ -1,4 +1,5 @@
 pub mod Accepting
+pub mod Named
 pub mod Parts
 pub mod Reading
 pub mod Walking
