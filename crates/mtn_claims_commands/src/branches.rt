@@ -15,7 +15,7 @@ use mtn_ports::{Ident, Keeper};
 use mtn_step::Call;
 use std::alloc::Global;
 
-/// `mtn_commands::heads_of`.
+/// `mtn_commands::heads::heads_of`.
 pub fn heads_of<K: Keeper>(
     alloc: Global,
     draft: &mut Draft<'_, K>,
@@ -28,10 +28,10 @@ pub fn heads_of<K: Keeper>(
     ensures damaged { IfSome (K.contents draft.new.keeper.now) (λ c. IsCounted draft.old.pending c → IfErr result (λ e. IfDamage e (IsDamage (with_all c draft.old.pending.batch)))) }
     ensures failed { result ≡ Err StoreError.Failed → Rose (K.faults draft.old.keeper.now) (K.faults draft.new.keeper.now) }
 {
-    mtn_commands::heads_of(alloc, draft, branch)
+    mtn_commands::heads::heads_of(alloc, draft, branch)
 }
 
-/// `mtn_commands::heads`.
+/// `mtn_commands::heads::heads`.
 pub fn heads<I: Ident, K: Keeper>(
     alloc: Global,
     ident: &I,
@@ -43,10 +43,10 @@ pub fn heads<I: Ident, K: Keeper>(
     ensures drafts { Drafts (I.meaning ident.now) K.contents K.leaves K.faults draft.old.keeper.now draft.new.keeper.now draft.old.pending draft.new.pending
         (Steps (I.meaning ident.now) (Call.Heads branch.now) payload.now) result }
 {
-    mtn_commands::heads(alloc, ident, branch, payload, draft)
+    mtn_commands::heads::heads(alloc, ident, branch, payload, draft)
 }
 
-/// `mtn_commands::branches`.
+/// `mtn_commands::heads::branches`.
 pub fn branches<I: Ident, K: Keeper>(
     alloc: Global,
     ident: &I,
@@ -57,5 +57,5 @@ pub fn branches<I: Ident, K: Keeper>(
     ensures drafts { Drafts (I.meaning ident.now) K.contents K.leaves K.faults draft.old.keeper.now draft.new.keeper.now draft.old.pending draft.new.pending
         (Steps (I.meaning ident.now) Call.Branches payload.now) result }
 {
-    mtn_commands::branches(alloc, ident, payload, draft)
+    mtn_commands::heads::branches(alloc, ident, payload, draft)
 }

@@ -9,7 +9,7 @@ use mtn_ports::{Ident, Keeper};
 use mtn_step::Call;
 use std::alloc::Global;
 
-/// `mtn_commands::cert`.
+/// `mtn_commands::cert::cert`.
 pub fn cert<I: Ident, K: Keeper>(
     alloc: Global,
     ident: &I,
@@ -25,12 +25,12 @@ pub fn cert<I: Ident, K: Keeper>(
     ensures drafts { Drafts (I.meaning ident.now) K.contents K.leaves K.faults draft.old.keeper.now draft.new.keeper.now draft.old.pending draft.new.pending
         (Steps (I.meaning ident.now) (Call.Cert revision name.now key value.now signature.now) payload.now) result }
 {
-    mtn_commands::cert(
+    mtn_commands::cert::cert(
         alloc, ident, revision, name, key, value, signature, payload, draft,
     )
 }
 
-/// `mtn_commands::certs`.
+/// `mtn_commands::certs::certs`.
 pub fn certs<I: Ident, K: Keeper>(
     alloc: Global,
     ident: &I,
@@ -42,10 +42,10 @@ pub fn certs<I: Ident, K: Keeper>(
     ensures drafts { Drafts (I.meaning ident.now) K.contents K.leaves K.faults draft.old.keeper.now draft.new.keeper.now draft.old.pending draft.new.pending
         (Steps (I.meaning ident.now) (Call.Certs id) payload.now) result }
 {
-    mtn_commands::certs(alloc, ident, id, payload, draft)
+    mtn_commands::certs::certs(alloc, ident, id, payload, draft)
 }
 
-/// `mtn_commands::key`.
+/// `mtn_commands::key::key`.
 pub fn key<I: Ident, K: Keeper>(
     alloc: Global,
     ident: &I,
@@ -58,5 +58,5 @@ pub fn key<I: Ident, K: Keeper>(
     ensures drafts { Drafts (I.meaning ident.now) K.contents K.leaves K.faults draft.old.keeper.now draft.new.keeper.now draft.old.pending draft.new.pending
         (Steps (I.meaning ident.now) (Call.Key id name.now) payload.now) result }
 {
-    mtn_commands::key(alloc, ident, id, name, payload, draft)
+    mtn_commands::key::key(alloc, ident, id, name, payload, draft)
 }

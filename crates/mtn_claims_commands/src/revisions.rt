@@ -10,7 +10,7 @@ use mtn_ports::{Ident, Keeper};
 use mtn_step::{Call, Said};
 use std::alloc::Global;
 
-/// `mtn_commands::commit`.
+/// `mtn_commands::put_revision::commit`.
 pub fn commit<I: Ident, K: Keeper>(
     alloc: Global,
     ident: &I,
@@ -22,10 +22,10 @@ pub fn commit<I: Ident, K: Keeper>(
     ensures drafts { Drafts (I.meaning ident.now) K.contents K.leaves K.faults draft.old.keeper.now draft.new.keeper.now draft.old.pending draft.new.pending
         (Steps (I.meaning ident.now) (Call.Commit said.now) payload.now) result }
 {
-    mtn_commands::commit(alloc, ident, said, payload, draft)
+    mtn_commands::put_revision::commit(alloc, ident, said, payload, draft)
 }
 
-/// `mtn_commands::merge_heads`.
+/// `mtn_commands::merge_heads::merge_heads`.
 pub fn merge_heads<I: Ident, K: Keeper>(
     alloc: Global,
     ident: &I,
@@ -41,7 +41,7 @@ pub fn merge_heads<I: Ident, K: Keeper>(
     ensures replies { Replies (I.meaning ident.now) K.contents K.leaves K.faults draft.old.keeper.now draft.new.keeper.now draft.old.pending draft.new.pending
         true (Steps (I.meaning ident.now) (Call.MergeHeads branch.now author.now date.now key resolves) payload.now) result }
 {
-    mtn_commands::merge_heads(
+    mtn_commands::merge_heads::merge_heads(
         alloc, ident, branch, author, date, key, resolves, payload, draft,
     )
 }

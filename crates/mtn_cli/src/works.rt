@@ -13,7 +13,7 @@ ghost use Rattle.mtn_step.specs.Step.{Steps};
 
 use crate::damage::tell;
 use mtn_base::{Bytes, Cause, Refusal};
-use mtn_commands::on_draft;
+use mtn_commands::on_draft::on_draft;
 use mtn_frame::{Job, Reply, WorkError, Worked};
 use mtn_history::{Draft, HistoryError, Memory, Pending};
 use mtn_ports::{Batch, Ident, Keeper};

@@ -40,7 +40,7 @@ text_held : (f : List ℕ → List ℕ) (files : Table) (log : List Logged) (h :
 text_held f files log h id is some = by (find (λ (l : Logged). same_bytes l.id id.0) log) refl some
   where
     by : (o : Option Logged) → find (λ (l : Logged). same_bytes l.id id.0) log ≡ o → IsSome (option_map (λ (l : Logged). l.text) o) → (a : ℕ) × IsPlaceOf h id a
-    by None e some = absurd some
+    by None e some = absurd cc
     by (Some l) e some =
         let f1 = found_at (λ (x : Logged). same_bytes x.id id.0) log l e in
         let k = at_contains log l f1.0 in
@@ -50,8 +50,8 @@ text_held f files log h id is some = by (find (λ (l : Logged). same_bytes l.id 
 module _ (h : List Revision) (log : List LogEntry) (tells : Tells h log) where
   same_above : (x r : Id) → IsProperlyAboveIn log x r ↔ IsProperlyAbove h x r
   same_above x r = (
-    λ p. (p.0, (p.1.0, p.1.1.0, place_from h log tells x p.1.0 p.1.1.1.0, place_from h log tells r p.1.1.0 p.1.1.1.1.0, above_to h log tells p.1.1.1.1.1)),
-    λ p. (p.0, (p.1.0, p.1.1.0, place_to h log tells x p.1.0 p.1.1.1.0, place_to h log tells r p.1.1.0 p.1.1.1.1.0, above_from h log tells p.1.1.1.1.1)),
+    λ p. (p.0, (p.1.0, p.1.1, place_from h log tells x p.1.0 p.1.2, place_from h log tells r p.1.1 p.1.3, above_to h log tells p.1.4)),
+    λ p. (p.0, (p.1.0, p.1.1, place_to h log tells x p.1.0 p.1.2, place_to h log tells r p.1.1 p.1.3, above_from h log tells p.1.4)),
   )
 
 -- certificates that are exactly those held make the same members
@@ -76,8 +76,8 @@ module _ (f : List ℕ → List ℕ) (c : Contents) (p : Pending) (s : State) (d
 
     same_member : (branch : List ℕ) (r : Id) → IsMember (Contains known) branch r ↔ IsMember (Holds s.certs) branch r
     same_member branch r = (
-      λ m. (m.0, (held m.0).0 ((are m.0).0 m.1.0).0, m.1.1),
-      λ m. (m.0, (are m.0).1 ((held m.0).1 m.1.0, stands_at m.0 m.1.0), m.1.1),
+      λ m. (m.0, (held m.0).0 ((are m.0).0 m.1).0, m.2),
+      λ m. (m.0, (are m.0).1 ((held m.0).1 m.1, stands_at m.0 m.1), m.2),
     )
 
     pub heads_over : (branch : List ℕ) (ids : List Id) → IsListOf by_id (IsHead (IsProperlyAboveIn entries) (IsMember (Contains known) branch)) ids → AreHeads s h branch ids
@@ -87,11 +87,11 @@ module _ (f : List ℕ → List ℕ) (c : Contents) (p : Pending) (s : State) (d
 
 -- each member stands in the graph
 pub known_held : (log : List LogEntry) (certs known : List Certificate) → AreKnown log certs known → (branch : List ℕ) (r : Id) → IsMember (Contains known) branch r → IsHeldBy log r
-known_held log certs known are branch r m = subst (IsHeldBy log) m.1.1.revision ((are m.0).0 m.1.0).1
+known_held log certs known are branch r m = subst (IsHeldBy log) m.2.revision ((are m.0).0 m.1).1
 
 -- the branches of the certificates that are held
 pub branches_over : (s : State) (certs : List Certificate) → ((x : Certificate) → Contains certs x ↔ Holds s.certs x) → (values : List (List ℕ)) → IsListOf bytes_cmp (IsBranch (Contains certs)) values → AreBranches s values
-branches_over s certs held values list = list_alike bytes_cmp (IsBranch (Contains certs)) (IsBranch (Holds s.certs)) values (λ v. (λ b. (b.0, (held b.0).0 b.1.0, b.1.1), λ b. (b.0, (held b.0).1 b.1.0, b.1.1))) list
+branches_over s certs held values list = list_alike bytes_cmp (IsBranch (Contains certs)) (IsBranch (Holds s.certs)) values (λ v. (λ b. (b.0, (held b.0).0 b.1, b.2), λ b. (b.0, (held b.0).1 b.1, b.2))) list
 
 -- one certificate after the other
 module _ (log : List LogEntry) (certs known : List Certificate) (x : Certificate) (are : AreKnown log certs known) where
