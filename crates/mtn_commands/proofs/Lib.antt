@@ -1,5 +1,6 @@
 pub mod ReasonLemmas
 pub mod ReplyLemmas
+pub mod SaidLemmas
 pub mod DraftLemmas
 pub mod CommitLemmas
 pub mod HeadsLemmas
