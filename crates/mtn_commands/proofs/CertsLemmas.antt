@@ -1,8 +1,8 @@
 -- The list of a revision's certificates is what its command answers.
-use Rattle.std.specs.Prelude.{Contains, IfSome, map, ◌↔◌, if◌then◌else◌, true, option_and_then, option_map}
+use Rattle.std.specs.Prelude.{Contains, IfSome, ◌↔◌, if◌then◌else◌, true, option_and_then, option_map}
 use Rattle.std.specs.FinMap.{get}
 use Rattle.std.specs.Result.{result_ok}
-use Rattle.std.proofs.Common.{◌≡◌, inl, inr, ℕ, List, [], ◌∷◌, ◌++◌, Option, Some, None, Result, Ok, Err, refl, sym, ap, ◌∙◌, subst}
+use Rattle.std.proofs.Common.{◌≡◌, inl, inr, ℕ, List, [], ◌∷◌, Option, Some, None, Result, Ok, Err, refl, sym, ap, ◌∙◌, subst}
 use Rattle.base64.specs.Engines.{standard}
 use Rattle.base64.specs.GeneralPurpose.{decode_of, decoded_of}
 use Rattle.base64.specs.declared.decode.DecodeError.{DecodeError}
@@ -41,7 +41,7 @@ use Rattle.mtn_ports.proofs.KeptLemmas.{rose_before, stays_trans}
 use Rattle.mtn_replay.specs.Texts.{text_under}
 use Rattle.mtn_put_certs.specs.Accepting.{AcceptsCert}
 use Rattle.mtn_replay.specs.Certificates.{cert_refusal, other_name, with_cert, with_key}
-use Rattle.mtn_step.specs.Certifying.{AreCertsOf, certs_text, fault_cause, held_refusal, key_refusal, signature_of}
+use Rattle.mtn_step.specs.Certifying.{AreCertsOf, certs_text, fault_cause, key_refusal, signature_of}
 use Rattle.mtn_step.specs.Step.{Listed, certified, done, unless}
 use Rattle.mtn_commands.specs.Certifying.{cert_error}
 use Rattle.mtn_commands.specs.Drafts.{Drafts}
@@ -72,8 +72,8 @@ pub keyed : (s : State) (id : Id) (name text : List ℕ) → is_field name ≡ t
 keyed s id name text field other empty =
     ap (done (with_key s id name)) empty
     ∙ sym (ap (λ r. unless r s (with_key s id name) []) (
-        ap (λ b. if b then option_map (λ held. KeyNamed id held) (other_name s id name) else Some (BadField Key)) field
-        ∙ ap (option_map (λ held. KeyNamed id held)) other
+    ap (λ b. if b then option_map (λ held. KeyNamed id held) (other_name s id name) else Some (BadField Key)) field
+    ∙ ap (option_map (λ held. KeyNamed id held)) other
     ))
 
 -- the answer to the question for the certificates of a revision that has a text

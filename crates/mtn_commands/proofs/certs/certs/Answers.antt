@@ -63,11 +63,11 @@ returns-clause-drafts g c =
           let after = subst (λ (p : Pending). IsDraft f k p s) (sym same) draft in (
             s,
             certs_listed s id c.text_of.new.out.items c.from_vec.result certs (name_in names) (c.in_ok-text_of.ensures.finds f k s (held.stays.same k asked) draft) (held.found f k s asked between)
-            (subst (λ (cs : List Certificate). (x : Certificate) → Contains cs x → name_in names x.key ≡ get s.keys x.key.0) c.deref.ensures.value (named.found f k s told after))
-            (c.from_vec.ensures
-            ∙ c.in_ok-list.ensures.ok
-            ∙ ap (λ (t : List ℕ). t ++ certs_text (name_in c.deref-3.result.now) c.deref-2.result.now) c.clear.ensures.items
-            ∙ (λ i. certs_text (name_in (c.deref-3.ensures.value i)) (c.deref-2.ensures.value i))),
+                (subst (λ (cs : List Certificate). (x : Certificate) → Contains cs x → name_in names x.key ≡ get s.keys x.key.0) c.deref.ensures.value (named.found f k s told after))
+                (c.from_vec.ensures
+                ∙ c.in_ok-list.ensures.ok
+                ∙ ap (λ (t : List ℕ). t ++ certs_text (name_in c.deref-3.result.now) c.deref-2.result.now) c.clear.ensures.items
+                ∙ (λ i. certs_text (name_in (c.deref-3.ensures.value i)) (c.deref-2.ensures.value i))),
             subst (λ (p : Pending). IsDraft f k p s) (sym (named.pending ∙ same)) draft,
           );
       reason = λ counted. tt;
