@@ -4,6 +4,7 @@ pub mod SaidLemmas
 pub mod DraftLemmas
 pub mod CommitLemmas
 pub mod HeadsLemmas
+pub mod HeadsMerging
 pub mod CertsLemmas
 pub mod MergeLemmas
 pub mod QueryLemmas
