@@ -3,8 +3,8 @@
 out here over the whole graph: which revisions set a value, and which of these a later one has not overruled. Nothing here
 looks at the marks of a parent, as the program does. Revisions are merged by the program too, in both orders of its words and
 with random resolutions: its conflicts, its refusals and its texts are those of the model in merges.py. Each history is then
-accepted in two more orders: every command but those that answer in the order of the log answers alike over all three, before
-and behind one more revision. Takes a first seed and how many histories (1 and 3 where not given); ends with 'N passed, M
+accepted in two more orders, with random certificates in a random order: every command but those that answer in the order of the
+log answers alike over all three, before and behind one more revision; heads and branches are those of the whole graph. Takes a first seed and how many histories (1 and 3 where not given); ends with 'N passed, M
 failed'."""
 import os
 import random
@@ -20,6 +20,7 @@ from revisions import HEAD, Store, add_dir, add_file, clear, delete, manifest, p
 
 CONTENTS = [b'abc', b'a', b'b', b'c', b'']
 KEYS = ['k', 'l']
+BRANCHES = ['main', 'side', 'a branch', 'none']
 
 
 class Node:
@@ -413,14 +414,32 @@ class History:
             left.remove(order[-1])
         return order
 
+    def certify(self, chance):
+        """Random certificates, as requests, and the members of each branch that they name."""
+        asked, members = [], {}
+        for key in 'ab':
+            asked.append(('key', sha(key.encode()), key + '@example'))
+        for at in self.ids:
+            for _ in range(chance.choice([0, 1, 1, 3])):
+                name, value = chance.choice([('branch', chance.choice(BRANCHES[:3])), ('branch', chance.choice(BRANCHES[:3])), ('author', 'somebody')])
+                signed = chance.choice([[], ['--sig=YWJj']])
+                asked.append(('cert', '--key=' + sha(chance.choice('abc').encode()), *signed, at, name, value))
+                if name == 'branch':
+                    members.setdefault(value, set()).add(at)
+        return asked, members
+
+    def heads(self, members):
+        """The members that no other member descends from."""
+        return sorted(at for at in members if not any(at != other and at in self.above[other] for other in members))
+
     def questions(self, chance):
         """Every command that does not answer in the order of the log, about each revision, and about one that is not there."""
-        asked = [[word] for word in ('leaves', 'roots', 'graph')]
+        asked = [[word] for word in ('leaves', 'roots', 'graph', 'branches')] + [['heads', branch] for branch in BRANCHES]
         asked += [['get_file', sha(data)] for data in CONTENTS + [b'none']]
         asked += [[word, *self.ids] for word in ('ancestors', 'descendents', 'common_ancestors', 'erase_ancestors')]
         for at in self.ids + [sha(b'none')]:
             other = chance.choice(self.ids)
-            asked += [[word, at] for word in ('get_revision', 'get_manifest_of', 'get_roster', 'parents', 'children', 'ancestors', 'descendents')]
+            asked += [[word, at] for word in ('get_revision', 'get_manifest_of', 'get_roster', 'parents', 'children', 'ancestors', 'descendents', 'certs')]
             asked += [[word, at, other] for word in ('common_ancestors', 'erase_ancestors', 'ancestors', 'descendents', 'show_conflicts')]
             for path in sorted(paths(self.trees[at])) if at in self.trees else ['']:
                 asked += [['get_content_changed', at, path], ['get_corresponding_path', at, path, other]]
@@ -436,6 +455,13 @@ class History:
         last = self.ids[-1]
         # One more revision is put behind the questions, and one that no order accepts; then they are asked again.
         merged = b''.join(sessions.request('merge', at, chance.choice(self.ids)) for at in self.ids)
+        merged += b''.join(sessions.request('merge_heads', '--author=a', '--date=d', '--key=' + sha(b'a'), branch) for branch in BRANCHES)
+        # Certificates of revisions that every order has accepted.
+        certificates, members = self.certify(chance)
+        certificates = [words for words in certificates if last not in words]
+        members = {branch: of - {last} for branch, of in members.items() if of - {last}}
+        looked = [b'%s\n' % branch.encode() for branch in sorted(members)]
+        told = sessions.answers((0, b''.join(looked)), *((0, b''.join(b'%s\n' % at.encode() for at in self.heads(members.get(branch, set())))) for branch in BRANCHES))
         grown = asked + sessions.request('put_revision', self.texts[last]) + sessions.request('put_revision', b'no revision') + merged + asked
         orders = [[at for at in order if at != last] for order in (self.ids, self.another_order(chance), self.another_order(chance))]
         answers = []
@@ -443,6 +469,10 @@ class History:
             store = os.path.join(folder, 'order%d-%d' % (number, at))
             put = sessions.session(store, self.accepted(order))
             verdict('history %d is accepted in order %d' % (number, at), put[0] == 0 and put[1].count(b':l:1:0') == len(CONTENTS) + len(order))
+            said = sessions.session(store, b''.join(sessions.request(*words) for words in chance.sample(certificates, len(certificates))))
+            verdict('history %d has its certificates in order %d' % (number, at), said[0] == 0 and said[1].count(b':l:1:0') == len(certificates))
+            seen = sessions.session(store, sessions.request('branches') + b''.join(sessions.request('heads', branch) for branch in BRANCHES))
+            verdict('history %d has its heads in order %d: %r' % (number, at, seen), seen == (0, told, b''))
             answers.append(sessions.session(store, grown))
         verdict('history %d has more than one order' % number, orders[1] != orders[0] or orders[2] != orders[0])
         for at in (1, 2):
