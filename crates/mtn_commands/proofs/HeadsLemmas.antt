@@ -1,6 +1,6 @@
 -- The heads and branches that a draft's certificates and graph give are those of its state.
-use Rattle.std.specs.Prelude.{Contains, IsSome, find, option_map, ◌↔◌}
-use Rattle.std.proofs.Common.{◌≡◌, inl, inr, ℕ, List, [], ◌∷◌, ◌++◌, Option, Some, None, refl, sym, ap, ◌∙◌, subst, ⊎_elim}
+use Rattle.std.specs.Prelude.{Contains, IfErr, IfSome, IsSome, find, is_some, option_map, ◌↔◌}
+use Rattle.std.proofs.Common.{◌≡◌, inr, ℕ, true, false, List, [], ◌∷◌, ◌++◌, Option, Some, None, Result, Err, refl, sym, ap, ◌∙◌, subst, ⊎_elim, arith}
 use Rattle.std.proofs.lemmas.List.Elements.{Contains-append_left, Contains-push, Contains-push_cases}
 use Rattle.mtn_ancestry.specs.Log.{id_at}
 use Rattle.mtn_ancestry.specs.declared.pos.LogEntry.{LogEntry}
@@ -11,21 +11,32 @@ use Rattle.mtn_base.specs.Lists.{IsListOf}
 use Rattle.mtn_base.specs.Names.{bytes_cmp, same_bytes}
 use Rattle.mtn_base.specs.declared.id.Id.{Id}
 use Rattle.mtn_base.proofs.Tests.{same_id-is}
-use Rattle.mtn_branches.specs.Branches.{IsBranch, IsHead, IsMember, NamesBranch}
+use Rattle.mtn_branches.specs.Branches.{IsBranch, IsHead, IsMember}
 use Rattle.mtn_branches.specs.Graphs.{IsHeldBy}
 use Rattle.mtn_branches.specs.Graphs.{IsProperlyAbove as IsProperlyAboveIn}
 use Rattle.mtn_branches.proofs.HeadLemmas.{alike_heads, list_alike}
 use Rattle.mtn_certs.specs.Certificates.{Certificate}
 use Rattle.mtn_graph_queries.proofs.Telling.{above_from, above_to, place_from, place_to}
-use Rattle.mtn_history.specs.Logs.{IsReadTo}
+use Rattle.mtn_history.specs.Certificates.{CertDamage}
+use Rattle.mtn_history.specs.Damage.{IsDamage}
+use Rattle.mtn_history.specs.Errors.{IfDamage}
+use Rattle.mtn_history.specs.Logs.{IsReadTo, WrongBelow}
+use Rattle.mtn_history.specs.Marked.{IsCounted}
 use Rattle.mtn_history.specs.Stands.{IsDraft}
+use Rattle.mtn_history.specs.declared.errors.HistoryError.{HistoryError}
+use Rattle.mtn_history.specs.declared.errors.HistoryError.TheVariants.{Store}
+use Rattle.mtn_history.specs.declared.errors.StoreError.{StoreError}
+use Rattle.mtn_history.specs.declared.errors.StoreError.TheVariants.{Damaged, Failed, NoMemory}
 use Rattle.mtn_history.specs.declared.pending.Pending.{Pending}
 use Rattle.mtn_history.proofs.FileLemmas.{draft_stands}
+use Rattle.mtn_history.proofs.MarkedLemmas.{draft_counts}
 use Rattle.mtn_history.proofs.MetaLemmas.{lawful_of}
 use Rattle.mtn_history_laws.specs.History.{IsPlaceOf, Revision}
+use Rattle.mtn_model.specs.Outcome.{Outcome}
 use Rattle.mtn_model.specs.State.{Holds, Logged, State}
 use Rattle.mtn_model.specs.Table.{Contents, Table}
-use Rattle.mtn_ports.specs.Kept.{with_all}
+use Rattle.mtn_ports.specs.Causes.{Rose}
+use Rattle.mtn_ports.specs.Kept.{Stays, with_all}
 use Rattle.mtn_renaming.proofs.Elements.{at_contains, found_at}
 use Rattle.mtn_renaming.proofs.Spelling.{named, revision_at}
 use Rattle.mtn_replay.specs.Graphs.{Tells}
@@ -33,7 +44,9 @@ use Rattle.mtn_replay.specs.Lawful.{IsHistory, IsLawful}
 use Rattle.mtn_replay.specs.Texts.{text_under}
 use Rattle.mtn_replay.proofs.Histories.{one_history}
 use Rattle.mtn_step.specs.Certifying.{AreBranches, AreHeads}
-use Rattle.mtn_commands.proofs.QueryLemmas.{graph_told}
+use Rattle.mtn_commands.specs.Drafts.{Drafts}
+use Rattle.mtn_commands.proofs.QueryLemmas.{graph_damage, graph_told}
+use Rattle.mtn_commands.proofs.ViewLemmas.{never, reason_of}
 
 -- a revision whose text is held has a place
 text_held : (f : List ℕ → List ℕ) (files : Table) (log : List Logged) (h : List Revision) (id : Id) → IsHistory f files log h → IsSome (text_under log id.0) → (a : ℕ) × IsPlaceOf h id a
@@ -107,3 +120,47 @@ module _ (log : List LogEntry) (certs known : List Certificate) (x : Certificate
     λ m. let w = (are y).0 m in (Contains-append_left certs (x ∷ []) y w.0, w.1),
     λ m. ⊎_elim (λ k. (are y).1 (k, m.1)) (λ e. absurd (let t = subst (λ (z : Certificate). IsHeldBy log z.revision) (sym e) m.1 in none t.0 t.1)) (Contains-push_cases certs x y m.0),
   )
+
+-- before the first one
+pub known_none : (log : List LogEntry) → AreKnown log [] []
+known_none log y = (λ m. absurd (omega (arith, m.1)), λ m. absurd (omega (arith, m.0.1)))
+
+module _ (log : List LogEntry) (a b : Id) (same : a ≡ b) where
+  -- what was found in the graph stands there
+  pub found_held : (o : Option ℕ) → IfSome o (λ at. id_at log at ≡ Some a) → is_some o ≡ true → IsHeldBy log b
+  found_held None found is = absurd cc
+  found_held (Some at) found is = (at, found ∙ ap Some same)
+
+  -- what was not found does not
+  pub none_held : (o : Option ℕ) → ((at : ℕ) → id_at log at ≡ Some a → o ≡ Some at) → is_some o ≡ false → (at : ℕ) → id_at log at ≡ Some b → ⊥
+  none_held None all is at stands = let e : None ≡ Some at = all at (stands ∙ ap Some (sym same)) in absurd cc
+  none_held (Some n) all is at stands = absurd cc
+
+-- a certificate's damage is one of the records
+pub cert_damage : (told : Option Contents) (p : Pending) (e : StoreError) → IfSome told (λ c. IfDamage e (CertDamage (with_all c p.batch))) → IfSome told (λ c. IsCounted p c → IfDamage e (IsDamage (with_all c p.batch)))
+cert_damage None p e damage = tt
+cert_damage (Some c) p Failed damage = λ counted. tt
+cert_damage (Some c) p NoMemory damage = λ counted. tt
+cert_damage (Some c) p (Damaged d) damage = λ counted. inr (inr (inr (inr (inr (inr (inr damage))))))
+
+-- a damage that the graph found is one of the records
+pub log_damage : {X : Type 0} (told : Option Contents) (p : Pending) (r : Result X StoreError) (e : StoreError) → r ≡ Err e → IfSome told (λ c. IfDamage e (WrongBelow p.count (with_all c p.batch))) →
+    IfSome told (λ c. IsCounted p c → IfErr r (λ e. IfDamage e (IsDamage (with_all c p.batch))))
+log_damage None p r e is wrong = tt
+log_damage {X} (Some c) p r e is wrong = λ counted. subst (λ (r : Result X StoreError). IfErr r (λ e. IfDamage e (IsDamage (with_all c p.batch)))) (sym is) (graph_damage (Some c) p e counted wrong)
+
+-- records that stand for a state have no damage
+pub never_told : (f : List ℕ → List ℕ) (told : Option Contents) (p : Pending) (c : Contents) (s : State) (e : StoreError) → told ≡ Some c → IsDraft f c p s →
+    IfSome told (λ c. IsCounted p c → IfDamage e (IsDamage (with_all c p.batch))) → IfDamage e (λ _. ⊥)
+never_told f told p c s e now draft damage = never f c p s e draft (subst (λ o. IfSome o (λ x. IsCounted p x → IfDamage e (IsDamage (with_all x p.batch)))) now damage (draft_counts f c p s draft))
+
+module _ (f : List ℕ → List ℕ) {K : Type 0} (contents : K → Option Contents) (leaves : K → Contents → Type 0) (faults : K → ℕ) (old new : K) (before after : Pending)
+    (Outcomes : State → Outcome → Type 0) (stays : Stays contents leaves faults old new) where
+  -- the heads could not be told
+  pub heads_failed : (result : Result (List ℕ) HistoryError) (e : StoreError) → result ≡ Err (Store e) → IfSome (contents new) (λ c. IsCounted before c → IfDamage e (IsDamage (with_all c before.batch))) →
+      (e ≡ Failed → Rose (faults old) (faults new)) → Drafts f contents leaves faults old new before after Outcomes result
+  heads_failed result e is damage rose = subst (Drafts f contents leaves faults old new before after Outcomes) (sym is) record {
+    stays = stays;
+    done = λ c s now draft. never_told f (contents new) before c s e now draft damage;
+    reason = λ counts. reason_of (contents new) before e (faults old) (faults new) rose damage counts;
+  }
