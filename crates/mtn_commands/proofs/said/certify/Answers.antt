@@ -54,5 +54,5 @@ pub returns-clause-certifies : goal.returns-clause-certifies
 returns-clause-certifies g c = λ f k s told draft known. (
   c.in_ok-certs.ensures.fits,
   subst (IsDraft f k c.loop-cert.draft.pending) (all_held c.args.id c.args.said.now c.deref-cert-items.result.now (c.deref-cert-items.ensures.value ∙ c.in_ok-certs.ensures.ok) c.loop-cert.cert-index (omega (arith, c.loop-cert-test.false)) s)
-  (c.loop-cert.invariant.holds f k s told draft known),
+      (c.loop-cert.invariant.holds f k s told draft known),
 )
