@@ -1,11 +1,9 @@
 -- A text that is put, alone or with what is said of it.
-use Rattle.std.specs.Prelude.{IfSome, IsSome}
-use Rattle.std.proofs.Common.{◌≡◌, ℕ, List, Option, Some, None, Result, Ok, Err, refl, sym, ap, ◌∙◌, subst}
+use Rattle.std.specs.Prelude.{IsSome}
+use Rattle.std.proofs.Common.{◌≡◌, ℕ, List, Option, Some, None, Ok, Err, refl, sym, ap, ◌∙◌, subst}
 use Rattle.mtn_base.specs.Hex.{id_of}
 use Rattle.mtn_base.specs.declared.id.Id.{Id}
 use Rattle.mtn_base.specs.declared.refusal.Cause.{Cause}
-use Rattle.mtn_changeset_laws.specs.Changes.{or_else}
-use Rattle.mtn_history.specs.Errors.{IfDamage}
 use Rattle.mtn_history.specs.Stands.{IsDraft}
 use Rattle.mtn_history.specs.declared.errors.HistoryError.{HistoryError}
 use Rattle.mtn_history.specs.declared.errors.HistoryError.TheVariants.{Refused, Store}
@@ -15,7 +13,7 @@ use Rattle.mtn_model.specs.Table.{Contents}
 use Rattle.mtn_put_revision.specs.Accepting.{AcceptsRevision}
 use Rattle.mtn_replay.specs.Accepting.{Decides}
 use Rattle.mtn_replay.specs.Texts.{text_under}
-use Rattle.mtn_step.specs.Certifying.{said_certs, said_refusal, with_certs}
+use Rattle.mtn_step.specs.Certifying.{said_certs, with_certs}
 use Rattle.mtn_step.specs.Step.{done, id_line, refused, unless}
 use Rattle.mtn_step.specs.declared.call.Said.{Said}
 use Rattle.mtn_step_laws.proofs.Certifying.{held_after}

@@ -1,6 +1,6 @@
 -- A merge that is planned over a draft is its line of the step.
 use Rattle.std.specs.Prelude.{IfSome, if◌then◌else◌}
-use Rattle.std.proofs.Common.{◌≡◌, ℕ, Bool, true, false, List, Option, Some, None, Result, Ok, Err, refl, sym, ap, ◌∙◌, subst, arith}
+use Rattle.std.proofs.Common.{◌≡◌, ℕ, Bool, true, false, List, Option, Some, None, Result, Ok, Err, refl, sym, ap, subst, arith}
 use Rattle.mtn_base.specs.declared.id.Id.{Id}
 use Rattle.mtn_conflicts.specs.declared.lists.Conflicts.{Conflicts}
 use Rattle.mtn_frame.specs.declared.works.Reply.{Reply}

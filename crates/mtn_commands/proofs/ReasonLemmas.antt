@@ -1,21 +1,15 @@
 -- An error over a draft comes from its cause.
 use Rattle.std.proofs.Common.{◌≡◌, ◌≤◌, ℕ, Option, Some, None, Result, Ok, Err, refl, arith}
 use Rattle.std.specs.Prelude.{IfSome}
-use Rattle.mtn_put_revision.specs.Accepting.{AcceptsRevision}
-use Rattle.mtn_base.specs.declared.id.Id.{Id}
 use Rattle.mtn_history.specs.Damage.{IsDamage}
 use Rattle.mtn_history.specs.Meta.{IsMetaOf}
-use Rattle.mtn_history.specs.Stands.{IsDraft}
 use Rattle.mtn_history.specs.declared.errors.HistoryError.{HistoryError}
 use Rattle.mtn_history.specs.declared.errors.HistoryError.TheVariants.{Refused, Store}
 use Rattle.mtn_history.specs.declared.errors.StoreError.TheVariants.{Failed, Damaged, NoMemory}
 use Rattle.mtn_history.specs.declared.pending.Pending.{Pending}
-use Rattle.mtn_model.specs.State.{State}
 use Rattle.mtn_model.specs.Table.{Contents}
 use Rattle.mtn_ports.specs.Causes.{Rose}
-use Rattle.mtn_ports.specs.Kept.{Stays, with_all}
-use Rattle.mtn_step.specs.Step.{Steps, done, id_line}
-use Rattle.mtn_step.specs.declared.call.Call.TheVariants.{PutRevision}
+use Rattle.mtn_ports.specs.Kept.{with_all}
 use Rattle.mtn_history.specs.declared.errors.StoreError.{StoreError}
 use Rattle.mtn_frame.specs.declared.works.Reply.{Reply}
 use Rattle.mtn_history.specs.Errors.{IfDamage, IfStoreDamage}

@@ -1,9 +1,8 @@
 -- Certificate by certificate.
-use Rattle.std.proofs.Common.{◌≡◌, ◌∙◌, ◌+◌, ℕ, List, Err, take, refl, sym, ap, subst, arith}
+use Rattle.std.proofs.Common.{◌≡◌, ◌∙◌, Err, take, refl, sym, ap, subst, arith}
 use Rattle.std.proofs.lemmas.Result.{err_from_is_err_and}
 use Rattle.mtn_history.specs.Stands.{IsDraft}
 use Rattle.mtn_history.specs.declared.errors.StoreError.TheVariants.{Failed}
-use Rattle.mtn_model.specs.State.{State}
 use Rattle.mtn_ports.proofs.KeptLemmas.{rose_before, stays_trans}
 use Rattle.mtn_step.specs.Certifying.{said_certs, with_certs}
 use Rattle.mtn_commands.proofs.SaidLemmas.{all_held, one_more, speaks}
