@@ -25,9 +25,10 @@ pub fn cert<I: Ident, K: Keeper>(
     ensures drafts { Drafts (I.meaning ident.now) K.contents K.leaves K.faults draft.old.keeper.now draft.new.keeper.now draft.old.pending draft.new.pending
         (Steps (I.meaning ident.now) (Call.Cert revision name.now key value.now signature.now) payload.now) result }
 {
-    mtn_commands::cert::cert(
+    let done = mtn_commands::cert::cert(
         alloc, ident, revision, name, key, value, signature, payload, draft,
-    )
+    );
+    done
 }
 
 /// `mtn_commands::certs::certs`.

@@ -41,7 +41,8 @@ pub fn merge_heads<I: Ident, K: Keeper>(
     ensures replies { Replies (I.meaning ident.now) K.contents K.leaves K.faults draft.old.keeper.now draft.new.keeper.now draft.old.pending draft.new.pending
         true (Steps (I.meaning ident.now) (Call.MergeHeads branch.now author.now date.now key resolves) payload.now) result }
 {
-    mtn_commands::merge_heads::merge_heads(
+    let reply = mtn_commands::merge_heads::merge_heads(
         alloc, ident, branch, author, date, key, resolves, payload, draft,
-    )
+    );
+    reply
 }
