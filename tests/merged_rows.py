@@ -418,7 +418,7 @@ def lines(rows, folder):
             if given is not None:
                 asked.append('give ' + escaped(given) if given else 'give ')
             asked.append(' '.join(['run', *(escaped(word.encode()).replace(' ', '\\x20') for word in words)]))
-            answered.append('%d %s' % (status, escaped(output)))
+            answered.append('%d %s' % (status, escaped(output).replace('\\x5c', '\\\\')))
         for side in (asked, answered):
             side.append('')
     for name, side in (('asked', asked), ('answered', answered)):
