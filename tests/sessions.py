@@ -2,12 +2,16 @@
 """Sessions of requests through the built program: answers in their frames, inputs that are no list of requests, the histories of
 revisions.py, the merges of merged_rows.py and the branches of cert_rows.py as one session each, and ten thousand requests. Requests are read here by a model
 of their own. Ends with 'N passed, M failed'."""
+import base64
+import contextlib
 import os
+import random
 import re
 import sqlite3
 import subprocess
 import sys
 import tempfile
+import time
 
 sys.dont_write_bytecode = True
 sys.path.insert(0, os.path.dirname(os.path.abspath(__file__)))
@@ -71,7 +75,10 @@ def session(store, data):
 
 
 def row(name, data, status, output, store='-'):
+    """With no output given, each answer has status 0."""
     ended = session(store, data)
+    if output is None:
+        output = ended[1] if ended[1].count(b':l:1:0') == len(requests_of(data)) else b'an answer has another status'
     verdict('%s: %r' % (name, (ended[0], ended[1][:300], ended[2])), ended == (status, output, b''))
 
 
@@ -192,6 +199,50 @@ def worked(folder):
         row('%s %d requests' % (history.title, len(history.steps)), data, 0, want, os.path.join(folder, 'worked%d' % number))
 
 
+def too_long():
+    """A value and a signature of one byte more than 64 MiB, after what is looked at first."""
+    key, many = '1' * 40, b'x' * 67108865
+    text = revisions.revision({'': None}, ('', [revisions.add_dir('')]))
+    lone, refused = sha(text), (1, b'refused TextTooLong 67108865\n')
+    cert = lambda *words: request('cert', '--key=' + key, *words)
+    data = request('put_revision', text) + cert(lone, 'branch', many) + cert(b'--sig=' + base64.b64encode(many), lone, 'branch', 'main')
+    data += cert(lone, 'no field', many) + cert('--sig=no', lone, 'branch', many) + cert(sha(b''), 'branch', many) + cert(lone, 'branch', many[1:]) + request('heads', many[1:])
+    data += request('commit', b'--author=' + many, '--branch=b', '--changelog=c', b'--date=' + many + b'x', '--key=' + key, text) + request('branches')
+    data += request('commit', '--author=a', '--branch=b', '--changelog=c', b'--date=' + many, '--key=' + key, b'no revision')
+    row('values that are too long', data, 0, answers((0, lone.encode() + b'\n'), refused, refused, (1, b'refused BadField name\n'), (1, b'refused BadField signature\n'), refused, (0, b''),
+        (0, lone.encode() + b'\n'), refused, (0, many[1:] + b'\n'), (1, b'refused NotText 2\n')))
+
+
+def killed(folder):
+    """A session of commits that is killed leaves each revision with its certificates, and a store that is whole."""
+    requests, parent = [], ''
+    for number in range(150):
+        attributes = {'': [('k', str(number))]}
+        edge = (parent, [*([] if parent else [revisions.add_dir('')]), revisions.set_attr('', 'k', str(number))])
+        text = revisions.revision({'': None}, edge, attributes=attributes)
+        requests.append(request('commit', '--author=a', '--branch=main', '--changelog=c', '--date=%d' % number, '--key=' + '1' * 40, text))
+        parent = sha(text)
+    data, chance, seen = b''.join(requests), random.Random(1), set()
+    for number in range(10):
+        store = os.path.join(folder, 'killed%d.mtn' % number)
+        process = subprocess.Popen([*MTN, store, 'stdio'], stdin=subprocess.PIPE, stdout=subprocess.PIPE)
+        process.stdin.write(data)
+        process.stdin.close()
+        process.stdout.read(1)
+        time.sleep(chance.random() * 0.3)
+        process.kill()
+        process.stdout.close()
+        process.wait()
+        with contextlib.closing(sqlite3.connect(store)) as records:
+            count = lambda table: records.execute('SELECT count(*) FROM kept WHERE kind = ?', (table,)).fetchone()[0]
+            made = count(3)
+            verdict('a killed session of %d commits parts none' % made, made > 0 and count(4) == count(5) == made and count(8) == 4 * made)
+            verdict('and leaves a whole store', records.execute('PRAGMA integrity_check').fetchone() == ('ok',))
+        seen.add(made)
+        row('which goes on', request('heads', 'main') + requests[made - 1], 0, None, store)
+    verdict('sessions were killed on their way: %r' % sorted(seen), any(made < len(requests) for made in seen))
+
+
 def many(folder):
     store = os.path.join(folder, 'many.mtn')
     bodies = [b'body %d' % i for i in range(5000)]
@@ -219,6 +270,8 @@ def main():
         bad_among_good(folder)
         histories(folder)
         worked(folder)
+        too_long()
+        killed(folder)
         many(folder)
         damaged(folder)
     print('%d passed, %d failed' % (passed, failed))
