@@ -200,17 +200,20 @@ def worked(folder):
 
 
 def too_long():
-    """A value and a signature of one byte more than 64 MiB, after what is looked at first."""
+    """A value and a signature of one byte more than 64 MiB, behind what is looked at first. An input has at most 256 MiB."""
     key, many = '1' * 40, b'x' * 67108865
     text = revisions.revision({'': None}, ('', [revisions.add_dir('')]))
     lone, refused = sha(text), (1, b'refused TextTooLong 67108865\n')
+    put, made = request('put_revision', text), (0, lone.encode() + b'\n')
     cert = lambda *words: request('cert', '--key=' + key, *words)
-    data = request('put_revision', text) + cert(lone, 'branch', many) + cert(b'--sig=' + base64.b64encode(many), lone, 'branch', 'main')
-    data += cert(lone, 'no field', many) + cert('--sig=no', lone, 'branch', many) + cert(sha(b''), 'branch', many) + cert(lone, 'branch', many[1:]) + request('heads', many[1:])
-    data += request('commit', b'--author=' + many, '--branch=b', '--changelog=c', b'--date=' + many + b'x', '--key=' + key, text) + request('branches')
-    data += request('commit', '--author=a', '--branch=b', '--changelog=c', b'--date=' + many, '--key=' + key, b'no revision')
-    row('values that are too long', data, 0, answers((0, lone.encode() + b'\n'), refused, refused, (1, b'refused BadField name\n'), (1, b'refused BadField signature\n'), refused, (0, b''),
-        (0, lone.encode() + b'\n'), refused, (0, many[1:] + b'\n'), (1, b'refused NotText 2\n')))
+    commit = lambda author, date, text: request('commit', b'--author=' + author, '--branch=b', '--changelog=c', b'--date=' + date, '--key=' + key, text)
+    row('a value and a signature that are too long', put + cert(lone, 'branch', many) + cert(b'--sig=' + base64.b64encode(many), lone, 'branch', 'main') + request('certs', lone), 0,
+        answers(made, refused, refused, (0, b'')))
+    row('a name and a signature come before, a revision behind', put + cert(lone, 'no field', many) + cert('--sig=no', lone, 'branch', many) + cert(sha(b''), 'branch', many), 0,
+        answers(made, (1, b'refused BadField name\n'), (1, b'refused BadField signature\n'), refused))
+    row('64 MiB are held', put + cert(lone, 'branch', many[1:]) + request('heads', many[1:]) + request('branches'), 0, answers(made, (0, b''), made, (0, many[1:] + b'\n')))
+    row('the first value of a commit that is too long', commit(many, many + b'x', text) + request('leaves') + request('branches'), 0, answers(refused, (0, b''), (0, b'')))
+    row('which comes behind the text', commit(b'a', many, b'no revision') + commit(b'a', many, text), 0, answers((1, b'refused NotText 3\n'), refused))
 
 
 def killed(folder):
