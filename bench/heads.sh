@@ -60,14 +60,16 @@ def best(words, data=b''):
     return min(times), told
 
 def heads(store, last):
+    """What a session takes that asks for the heads, and what one request more takes."""
     spent, told = best([mtn, store, 'stdio'], b'l5:heads4:maine')
     assert told == b'0:m:41:%s\n0:l:1:0' % last.encode(), told
-    return spent
+    return spent, (best([mtn, store, 'stdio'], b'l5:heads4:maine' * 3)[0] - spent) / 2
 
 small, large = made(10000), made(100000)
-fewer, more = heads(*small), heads(*large)
+(fewer, _), (more, request) = heads(*small), heads(*large)
 printing, _ = best(['sqlite3', large[0], 'SELECT hex(name), hex(body) FROM kept WHERE kind IN (4, 8)'])
 print(f'heads of 100,000 revisions with 400,000 certificates: {more:.2f} s, sqlite3 printing both tables {printing:.2f} s: {more / printing:.2f} times (at most 5)')
+print(f'a request more in that session, which opens the store once: {request:.2f} s, {request / printing:.2f} times')
 print(f'the same of 10,000 revisions: {fewer:.2f} s, so ten times the revisions take {more / fewer:.1f} times as long (at most 12)')
 opening, _ = best([mtn, large[0], 'get_revision', large[1]])
 asked, told = best([mtn, large[0], 'certs', large[1]])
