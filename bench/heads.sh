@@ -8,45 +8,23 @@ cd "$(dirname "${BASH_SOURCE[0]}")/.." || exit 1
 work=$(mktemp -d)
 trap 'rm -rf "$work"' EXIT
 
-python3 - "$work" "$PWD/target/mtn" <<'PYTHON'
+PYTHONDONTWRITEBYTECODE=1 PYTHONPATH=bench python3 - "$work" "$PWD/target/mtn" <<'PYTHON'
 import hashlib, os, sqlite3, subprocess, sys, time
+from line import field, records
 work, mtn = sys.argv[1:]
 KEY = hashlib.sha1(b'key').digest()
 
-number = lambda value: value.to_bytes(8, 'big')
-field = lambda text: len(text).to_bytes(4, 'big') + text
-marks = lambda at: (1).to_bytes(4, 'big') + number(at)
-
-def entry(born, value, at):
-    """The root, with one attribute that this revision set."""
-    node = number(1) + number(0) + born + field(b'') + b'\0' + number(0) + field(b'') + marks(0)
-    return node + number(1) + field(b'k') + b'\1' + field(value) + marks(at)
-
-def text_of(parent, value, change):
-    manifest = b'format_version "1"\n\n dir ""\nattr "k" "%s"\n' % value
-    return b'format_version "1"\n\nnew_manifest [%s]\n\nold_revision [%s]\n\n%s' % (hashlib.sha1(manifest).hexdigest().encode(), parent, change)
-
-def records(count, ids):
-    for at in range(count):
-        value = b'%d' % at
-        change = b'  set ""\n attr "k"\nvalue "%s"\n' % value
-        text = text_of(ids[-1].hex().encode() if ids else b'', value, change if ids else b'add_dir ""\n\n' + change)
-        ids.append(hashlib.sha1(text).digest())
-        yield 3, ids[-1], number(at) + text
-        yield 4, number(at), ids[-1] + number(2) + (b'\1' + number(at - 1) if at else b'\0')
-        entries = number(1) + entry(ids[0], value, at)
-        yield 5, number(at), b'\0' + entries if at % 16 == 0 else b'\1' + number(at - 1) + bytes([at % 16]) + number(0) + entries
-        for name, said in ((b'author', b'somebody'), (b'branch', b'main'), (b'changelog', b'change %d' % at), (b'date', b'2026-11-28T12:00:00')):
-            yield 8, ids[-1] + field(name) + KEY + field(said) + field(b''), b''
-    yield 1, b'count', number(count)
-    yield 1, b'version', b'2'
+def said(at, made):
+    """The four certificates of a revision."""
+    for name, value in ((b'author', b'somebody'), (b'branch', b'main'), (b'changelog', b'change %d' % at), (b'date', b'2026-11-28T12:00:00')):
+        yield 8, made + field(name) + KEY + field(value) + field(b''), b''
 
 def made(count):
     """A store of so many revisions, and the id of the last."""
     store, ids = os.path.join(work, '%d.mtn' % count), []
     subprocess.run([mtn, store, 'put_file'], stdin=subprocess.DEVNULL, stdout=subprocess.DEVNULL, check=True)
     database = sqlite3.connect(store)
-    database.executemany('INSERT OR REPLACE INTO kept (kind, name, body) VALUES (?, ?, ?)', records(count, ids))
+    database.executemany('INSERT OR REPLACE INTO kept (kind, name, body) VALUES (?, ?, ?)', records(count, ids, said))
     database.commit()
     database.close()
     return store, ids[-1].hex()
