@@ -15,7 +15,7 @@ use Rattle.mtn_ancestry.specs.Walking.{pending_of, Pending, IsFromLeft, IsFromRi
 use Rattle.mtn_ancestry.proofs.Members.{Contains-nil}
 use Rattle.mtn_ancestry.proofs.Ancestry.{IsAncestor-le, ancestor_at}
 use Rattle.mtn_ancestry.proofs.Walks as walks
-use Rattle.mtn_ancestry.proofs.Walks.{stepped, lowered, same_walk, all_found, start_reached, with_here, with_other, single_sides}
+use Rattle.mtn_ancestry.proofs.Walks.{lowered, same_walk, all_found, start_reached, with_here, with_other, single_sides}
 
 pub found_left : (parents : ℕ → List ℕ) → ParentsAreEarlier parents → (a b low at : ℕ) (f : Pending) (r : Reach) (left right : List ℕ) → IsBelow f at →
     IsWalked parents a b low (suc at) (with_position f at r) left right → (x : ℕ) → Contains (left_noted r left at) x ↔ ((at ≤ x) × IsUncommon parents a b x)

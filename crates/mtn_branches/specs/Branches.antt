@@ -1,6 +1,6 @@
 -- The members and heads of a branch, over a set of certificates and the ids of revisions. Branches and heads are those of
 -- Monotone's manual; that a certificate counts whatever its key and signature is our choice.
-use Rattle.std.specs.Prelude.{◌≡◌, ◌↔◌, ◌&&◌, ℕ, Bool, List, Contains, codes}
+use Rattle.std.specs.Prelude.{◌≡◌, ◌↔◌, ◌&&◌, ℕ, Bool, List, codes}
 use Rattle.mtn_base.specs.Names.{same_bytes}
 use Rattle.mtn_base.specs.declared.id.Id.{Id}
 use Rattle.mtn_certs.specs.Certificates.{Certificate}

@@ -26,7 +26,7 @@ use Rattle.mtn_history.proofs.FileLemmas.{draft_stands}
 use Rattle.mtn_history.proofs.MetaLemmas.{no_damage, shown}
 use Rattle.mtn_step.specs.Step.{refused}
 use Rattle.mtn_commands.proofs.ReasonLemmas.{reason_of, wider_reason}
-use Rattle.mtn_commands.specs.Drafts.{Counts, drafted, Drafts, Drafted, HasReason, HasReplyReason, IsQuiet, Reason, Replied, Replies, reply_of}
+use Rattle.mtn_commands.specs.Drafts.{Counts, drafted, Drafted, HasReason, HasReplyReason, IsQuiet, Replied, Replies}
 use Rattle.mtn_cli.specs.Store.{IsLine, IsTold, ShowsDamage}
 
 -- a fact of told records

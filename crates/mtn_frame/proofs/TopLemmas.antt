@@ -9,7 +9,6 @@ use Rattle.mtn_ports.specs.Causes.{Rose}
 use Rattle.mtn_ports.specs.Kept.{Same}
 use Rattle.mtn_frame.specs.declared.script.Form.TheVariants.{Plain}
 use Rattle.mtn_frame.specs.declared.script.Script.{Script}
-use Rattle.mtn_frame.specs.declared.script.Script.TheVariants.{Bare}
 use Rattle.mtn_model.specs.declared.status.Status.{Status}
 use Rattle.mtn_model.specs.declared.status.Status.TheVariants as status
 use Rattle.mtn_frame.specs.Kinds.{Kind, Answered, Cut, Halted, Quiet, Hurt, kind_of, ByKind}

@@ -1,5 +1,5 @@
 -- The lengths of paths along a walk, and the first that is too long.
-use Rattle.std.specs.Prelude.{map, find, nat_lt, slice_get, option_map, option_and_then, option_copied}
+use Rattle.std.specs.Prelude.{map, find, nat_lt, slice_get, option_map, option_copied}
 use Rattle.std.proofs.Common.{◌≡◌, ℕ, zero, suc, ◌+◌, ◌<◌, ◌≤◌, Bool, true, false, List, [], ◌∷◌, ◌++◌, length, get_or, take, Option, Some, None, refl, sym, ◌∙◌, ap, subst, arith, length-append, cond, Bor}
 use Rattle.std.proofs.lemmas.Bool.Decides.{nat_tests}
 use Rattle.mtn_base.specs.Paths.{path_text}
@@ -14,10 +14,6 @@ use Rattle.mtn_roster.specs.Walk.{by_path, IsAbove, AreStops}
 use Rattle.mtn_roster.proofs.Along.{held, named_by, take_at, stop_has}
 use Rattle.mtn_roster.proofs.Leading.{get_map, get_within}
 use Rattle.mtn_roster.proofs.Walking.{child_path}
-use Rattle.mtn_roster.proofs.Forest.{same_some}
-use Rattle.mtn_base.proofs.Members.{taken}
-use Rattle.mtn_base.proofs.Finding.{Split}
-use Rattle.mtn_roster.proofs.Ordered.{forest_of}
 use Rattle.mtn_replay.specs.Making.{is_long}
 use Rattle.mtn_make_roster.specs.Limits.{slashed, slashed_at, IsMet}
 

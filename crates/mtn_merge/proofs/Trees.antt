@@ -3,7 +3,6 @@ use Rattle.std.specs.Prelude.{IfOk}
 use Rattle.std.proofs.Common.{◌≡◌, ◌∙◌, ℕ, List, [], Some, None, Result, Ok, Err, refl, sym, subst}
 use Rattle.mtn_base.specs.Hex.{id_of}
 use Rattle.mtn_base.specs.declared.id.Id.{Id}
-use Rattle.mtn_changes.specs.declared.change.Revision.{Revision as Spelled}
 use Rattle.mtn_conflicts.specs.Lists.{AreClear}
 use Rattle.mtn_decide.specs.Decisions.{Merge}
 use Rattle.mtn_history.specs.declared.errors.HistoryError.{HistoryError}
@@ -15,7 +14,7 @@ use Rattle.mtn_planned_trees.proofs.Planned.{planned as planned_tree}
 use Rattle.mtn_plans.specs.Sides.{left_of, right_of, side_refusal}
 use Rattle.mtn_put_revision.specs.Keeping.{IsPlanned}
 use Rattle.mtn_replay.specs.Lawful.{IsHistory, Spells}
-use Rattle.mtn_replay.specs.Making.{log_full, made_tree, place_of, refusal_of}
+use Rattle.mtn_replay.specs.Making.{made_tree, place_of, refusal_of}
 use Rattle.mtn_resolve.specs.declared.resolution.Resolution.{Resolution}
 use Rattle.mtn_resolve.specs.Overriding.{overridden}
 use Rattle.mtn_resolve.specs.Texts.{AreResolutions}

@@ -1,17 +1,16 @@
 -- No two nodes that live after resolutions have one name.
 use Rattle.std.specs.Prelude.{filter, map, not, IsSome}
 use Rattle.std.specs.List.{AllByRecursion, IsDistinct}
-use Rattle.std.proofs.Common.{◌≡◌, Bool, true, false, List, [], ◌∷◌, ◌++◌, Option, Some, None, inl, inr, refl, sym, ◌∙◌, ap, subst}
+use Rattle.std.proofs.Common.{◌≡◌, Bool, false, List, [], ◌∷◌, ◌++◌, inl, inr, refl, sym, ◌∙◌, ap, subst}
 use Rattle.mtn_base.specs.Names.{same_name, name_cmp}
-use Rattle.mtn_base.specs.declared.name.NodeName.{NodeName}
 use Rattle.mtn_base.proofs.Finding.{Split, later, finds_some}
 use Rattle.mtn_base.proofs.Members.{head}
 use Rattle.mtn_base.proofs.Orders.{names_total, exact_names}
-use Rattle.mtn_base.proofs.Sorting.{rec_at, rising_differ}
+use Rattle.mtn_base.proofs.Sorting.{rising_differ}
 use Rattle.mtn_base.proofs.Tests.{told, same_name-is, same_name-self}
 use Rattle.mtn_decide.specs.declared.decision.Decision.{Decision}
 use Rattle.mtn_decide.specs.declared.decision.Pending.{Pending}
-use Rattle.mtn_decide.specs.Decisions.{Merge, IsInOrder, decision_of, pending_of}
+use Rattle.mtn_decide.specs.Decisions.{Merge, IsInOrder}
 use Rattle.mtn_conflicts.proofs.Nodes.{distinct}
 use Rattle.mtn_conflicts.proofs.Renamed.{of_map}
 use Rattle.mtn_resolve.specs.declared.resolution.Resolution.{Resolution}

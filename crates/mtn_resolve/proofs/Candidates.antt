@@ -1,6 +1,6 @@
 -- What may live after resolutions of a merge of a grown history: what has the root slot or is a parent is a directory.
 -- The first half is that of the proof of the same for the live nodes alone.
-use Rattle.std.specs.Prelude.{IsSome, option_map, option_and_then, slice_get}
+use Rattle.std.specs.Prelude.{option_map, option_and_then, slice_get}
 use Rattle.std.proofs.Common.{◌≡◌, ◌≢◌, ℕ, ◌<◌, length, true, false, List, [], Option, Some, None, ◌⊎◌, inl, inr, ⊎_elim, refl, sym, ◌∙◌, ap, subst}
 use Rattle.mtn_ancestry.proofs.Members.{by_position}
 use Rattle.mtn_base.specs.declared.id.Id.{Id}
@@ -25,7 +25,7 @@ use Rattle.mtn_decide.specs.declared.decision.Decision.{Decision}
 use Rattle.mtn_decide.specs.declared.decision.SlotChoice.{SlotChoice}
 use Rattle.mtn_decide.specs.declared.decision.SlotChoice.TheVariants.{Fixed, Clash}
 use Rattle.mtn_decide.specs.Decisions.{Merge, IsInOrder, decision_of, is_absent}
-use Rattle.mtn_decide.specs.Graph.{IsDecided, IsLive, IsLiveWith, IsMergeOf}
+use Rattle.mtn_decide.specs.Graph.{IsDecided, IsMergeOf}
 use Rattle.mtn_decide.specs.Graph.IsDecided.{common, left_alone, right_alone, left_wins, right_wins, clash}
 use Rattle.mtn_decide.specs.Verdicts.{Verdict, slot_verdict, content_verdict, verdict_of}
 use Rattle.mtn_decide.specs.Verdicts.Verdict.{Settled, Clashing}
@@ -38,7 +38,6 @@ use Rattle.mtn_decide.specs.declared.decision.Pending.{Pending}
 use Rattle.mtn_decide.specs.Decisions.{pending_of}
 use Rattle.mtn_decide.specs.Graph.{IsPending}
 use Rattle.mtn_decide.specs.Graph.IsPending.{of_left, of_right}
-use Rattle.mtn_resolve.specs.declared.resolution.Resolution.{Resolution}
 use Rattle.mtn_resolve.specs.Overriding.{reborn_of, candidates}
 use Rattle.mtn_resolve.proofs.Looking.{or_else, look_candidates}
 

@@ -1,10 +1,9 @@
 -- Lists that grow by an element a turn, and the table of resolutions.
-use Rattle.std.specs.Prelude.{drop, find, filter, filter_map, map, not, option_and_then, slice_get, IfSome, ◌||◌}
+use Rattle.std.specs.Prelude.{drop, find, filter, map, not, option_and_then, slice_get, IfSome, ◌||◌}
 use Rattle.std.specs.BTreeMap.{BTreeMap, get, is_at}
-use Rattle.std.proofs.Common.{◌≡◌, ℕ, zero, suc, ◌+◌, ◌<◌, Bool, true, false, cond, List, [], ◌∷◌, ◌++◌, length, take, get_or, append_assoc, Option, Some, None, refl, sym, ◌∙◌, ap, subst, arith}
+use Rattle.std.proofs.Common.{◌≡◌, ℕ, ◌+◌, ◌<◌, Bool, true, false, cond, List, [], ◌∷◌, ◌++◌, length, take, get_or, append_assoc, Option, Some, sym, ◌∙◌, ap, subst}
 use Rattle.std.proofs.lemmas.List.{take_more, map-append}
-use Rattle.std.proofs.lemmas.List.Elements.{filter-append, filter_map-append}
-use Rattle.mtn_roster.specs.declared.entry.Attr.{Attr}
+use Rattle.std.proofs.lemmas.List.Elements.{filter-append}
 use Rattle.mtn_base.proofs.Dropping.{drop_step}
 use Rattle.mtn_base.proofs.Members.{taken}
 use Rattle.mtn_decide.specs.declared.decision.Decision.{Decision}

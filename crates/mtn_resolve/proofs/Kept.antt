@@ -2,7 +2,7 @@
 use Rattle.std.specs.Prelude.{filter_map, find, map, option_map, option_and_then, if◌then◌else◌}
 use Rattle.std.specs.Option.{option_map_or}
 use Rattle.std.specs.List.{cons_option}
-use Rattle.std.proofs.Common.{◌≡◌, ℕ, Bool, true, false, cond, List, [], ◌∷◌, Option, Some, None, refl, sym, ◌∙◌, ap, subst}
+use Rattle.std.proofs.Common.{◌≡◌, ℕ, Bool, true, false, cond, List, [], ◌∷◌, Option, Some, None, refl, sym, ◌∙◌, ap}
 use Rattle.mtn_base.specs.Names.{same_bytes}
 use Rattle.mtn_base.specs.declared.name.NodeName.{NodeName}
 use Rattle.mtn_roster.specs.declared.entry.Attr.{Attr}
@@ -21,9 +21,9 @@ use Rattle.mtn_resolve.specs.declared.resolution.Resolution.{Resolution}
 use Rattle.mtn_resolve.specs.declared.resolution.Resolution.TheVariants.{Drop, Place, Content, AttrSet, AttrClear, Keep}
 use Rattle.mtn_resolve.specs.declared.fault.Fault.TheVariants as one
 use Rattle.mtn_resolve.specs.Faults.{names_known, names_dirs, has_conflict, key_clashes, is_attr_torn, fault_of, AreFitting}
-use Rattle.mtn_resolve.specs.Overriding.{new_node, new_attr, value_in, live_attr, reborn_of, overridden, candidates}
+use Rattle.mtn_resolve.specs.Overriding.{new_attr, value_in, live_attr, reborn_of, overridden, candidates}
 use Rattle.mtn_resolve.specs.Subjects.{attr_of, is_about, resolution_of}
-use Rattle.mtn_resolve.proofs.Looking.{or_else, Was, was, look_candidates}
+use Rattle.mtn_resolve.proofs.Looking.{or_else, was, look_candidates}
 use Rattle.mtn_resolve.proofs.Staying.{same_node}
 
 abbrev pub IsLiveChoice : AttrChoice → Type 0

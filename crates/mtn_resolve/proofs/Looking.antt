@@ -1,11 +1,11 @@
 -- What overridden decisions have at a name.
-use Rattle.std.specs.Prelude.{find, filter, map, option_map, option_and_then, is_some, not, ◌||◌}
+use Rattle.std.specs.Prelude.{find, filter, map, option_map, not, ◌||◌}
 use Rattle.std.specs.Option.{option_map_or}
-use Rattle.std.proofs.Common.{◌≡◌, ℕ, Bool, true, false, cond, List, [], ◌∷◌, ◌++◌, Option, Some, None, ◌⊎◌, inl, inr, refl, sym, ◌∙◌, ap, subst}
+use Rattle.std.proofs.Common.{◌≡◌, Bool, true, false, cond, List, [], ◌∷◌, ◌++◌, Option, Some, None, ◌⊎◌, refl, sym, ◌∙◌, ap}
 use Rattle.mtn_base.specs.Names.{same_name, name_cmp}
 use Rattle.mtn_base.specs.declared.name.NodeName.{NodeName}
 use Rattle.mtn_base.specs.Lists.{ordered}
-use Rattle.mtn_base.proofs.Tests.{same_name-is, told}
+use Rattle.mtn_base.proofs.Tests.{same_name-is}
 use Rattle.mtn_base.proofs.Orders.{names_total, exact_names}
 use Rattle.mtn_base.proofs.Placed.{find-placed}
 use Rattle.mtn_decide.specs.declared.decision.Decision.{Decision}
@@ -14,7 +14,7 @@ use Rattle.mtn_decide.specs.Decisions.{Merge, decision_of, pending_of}
 use Rattle.mtn_resolve.specs.declared.resolution.Resolution.{Resolution}
 use Rattle.mtn_resolve.specs.declared.resolution.Resolution.TheVariants.{Drop, Place, Content, AttrSet, AttrClear, Keep}
 use Rattle.mtn_resolve.specs.Subjects.{life_of, resolution_of}
-use Rattle.mtn_resolve.specs.Overriding.{is_drop, is_keep, is_dropped, is_kept, new_node, reborn_of, living, still_pending, overridden, candidates}
+use Rattle.mtn_resolve.specs.Overriding.{is_drop, is_keep, is_dropped, is_kept, new_node, reborn_of, living, overridden, candidates}
 
 abbrev pub or_else : {X : Type 0} → Option X → Option X → Option X
 or_else None o = o

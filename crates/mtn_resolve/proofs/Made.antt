@@ -1,9 +1,9 @@
 -- The lists that are made are those of the overridden decisions.
 use Rattle.std.specs.Prelude.{filter, map, not, IsTrue, ◌↔◌}
 use Rattle.std.specs.List.{IsDistinct}
-use Rattle.std.proofs.Common.{◌≡◌, Bool, List, ◌++◌, refl, sym, ◌∙◌, ap, subst}
+use Rattle.std.proofs.Common.{◌≡◌, Bool, List, ◌++◌, sym, ◌∙◌, ap, subst}
 use Rattle.std.proofs.lemmas.List.{map-append}
-use Rattle.mtn_base.specs.Names.{name_cmp, same_name}
+use Rattle.mtn_base.specs.Names.{name_cmp}
 use Rattle.mtn_base.specs.Lists.{ordered}
 use Rattle.mtn_decide.specs.declared.decision.Decision.{Decision}
 use Rattle.mtn_decide.specs.declared.decision.Pending.{Pending}

@@ -1,12 +1,12 @@
 -- Overridden decisions are in order.
-use Rattle.std.specs.Prelude.{filter, filter_map, find, map, option_map, option_and_then, not, is_some, ◌&&◌, ◌||◌, IsSome, IsTrue}
+use Rattle.std.specs.Prelude.{filter, filter_map, map, option_map, option_and_then, not, ◌&&◌, ◌||◌, IsSome}
 use Rattle.std.specs.Option.{option_map_or}
 use Rattle.std.specs.List.{list_all, cons_option}
 use Rattle.std.specs.declared.cmp.Ordering.{Ordering}
 use Rattle.std.specs.Ordering.{is_lt}
 use Rattle.std.specs.Cmp.{first_so, second_so}
-use Rattle.std.proofs.Common.{◌≡◌, ℕ, Bool, true, false, cond, List, [], ◌∷◌, ◌++◌, Option, Some, None, ◌⊎◌, inl, inr, ⊎_elim, refl, sym, ◌∙◌, ap, subst}
-use Rattle.mtn_base.specs.Names.{same_name, name_cmp, bytes_cmp}
+use Rattle.std.proofs.Common.{◌≡◌, ℕ, Bool, true, false, cond, List, [], ◌∷◌, ◌++◌, Option, Some, None, ◌⊎◌, inl, inr, refl, sym, ◌∙◌, ap, subst}
+use Rattle.mtn_base.specs.Names.{name_cmp, bytes_cmp}
 use Rattle.mtn_base.specs.declared.id.Id.{Id}
 use Rattle.mtn_base.specs.declared.name.NodeName.{NodeName}
 use Rattle.mtn_roster.specs.declared.entry.Attr.{Attr}
@@ -14,13 +14,12 @@ use Rattle.mtn_roster.specs.declared.entry.Body.{Body}
 use Rattle.mtn_roster.specs.declared.entry.Body.TheVariants.{Dir, File}
 use Rattle.mtn_roster.specs.Attrs.{are_keyed}
 use Rattle.mtn_roster.specs.Tree.{is_dir_body}
-use Rattle.mtn_base.specs.Lists.{ordered}
 use Rattle.mtn_base.specs.Lists.{rises}
 use Rattle.mtn_base.proofs.Finding.{Split, later}
 use Rattle.mtn_base.proofs.Members.{head, split_cons, of_append}
-use Rattle.mtn_base.proofs.Orders.{names_total, exact_names}
-use Rattle.mtn_base.proofs.Sorting.{no_split, rec_at, ordered-rises, of_ordered, rising_differ}
-use Rattle.mtn_base.proofs.Tests.{both_true, told, same_name-is, same_name-self}
+use Rattle.mtn_base.proofs.Orders.{names_total}
+use Rattle.mtn_base.proofs.Sorting.{no_split, ordered-rises, of_ordered}
+use Rattle.mtn_base.proofs.Tests.{both_true, told}
 use Rattle.mtn_decide.specs.declared.decision.AttrChoice.TheVariants.{Fixed as FixedAttr}
 use Rattle.mtn_decide.specs.declared.decision.AttrDecision.{AttrDecision}
 use Rattle.mtn_decide.specs.declared.decision.ContentChoice.{ContentChoice}
@@ -33,7 +32,7 @@ use Rattle.mtn_conflicts.proofs.Renamed.{of_map, one_of}
 use Rattle.mtn_resolve.specs.declared.resolution.Resolution.{Resolution}
 use Rattle.mtn_resolve.specs.Subjects.{content_of, resolution_of}
 use Rattle.mtn_resolve.specs.Overriding.{is_dropped, is_kept, new_node, new_content, live_attr, content_in, with_content, pick_in, reborn_of, living, still_pending, overridden}
-use Rattle.mtn_resolve.proofs.Looking.{or_else, look_filter, look_living, look_over, kept_stays}
+use Rattle.mtn_resolve.proofs.Looking.{or_else, look_filter, look_living, look_over}
 use Rattle.mtn_resolve.proofs.Staying.{keys_stay}
 
 -- a test of all is one of those that a filter leaves

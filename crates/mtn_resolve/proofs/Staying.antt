@@ -1,24 +1,21 @@
 -- What stays of decisions after resolutions.
-use Rattle.std.specs.Prelude.{map, option_map, option_and_then, find, is_some, if◌then◌else◌}
+use Rattle.std.specs.Prelude.{map, option_map, option_and_then, if◌then◌else◌}
 use Rattle.std.specs.Option.{option_map_or}
-use Rattle.std.specs.List.{AllByRecursion}
 use Rattle.std.specs.declared.cmp.Ordering.{Ordering}
 use Rattle.std.specs.declared.cmp.Ordering.TheVariants.{Less, Equal, Greater}
 use Rattle.std.specs.Ordering.{is_eq, ordering_then, nat_cmp}
-use Rattle.std.proofs.Common.{◌≡◌, ◌≢◌, ℕ, Bool, true, false, cond, List, [], ◌∷◌, ◌++◌, Option, Some, None, refl, sym, ◌∙◌, ap, subst}
-use Rattle.mtn_base.specs.Names.{same_name, name_cmp, bytes_cmp}
+use Rattle.std.proofs.Common.{◌≡◌, ◌≢◌, Bool, true, false, List, [], ◌∷◌, ◌++◌, Option, Some, None, refl, sym, ◌∙◌, ap, subst}
+use Rattle.mtn_base.specs.Names.{name_cmp, bytes_cmp}
 use Rattle.mtn_base.specs.declared.id.Id.{Id}
 use Rattle.mtn_base.specs.declared.name.NodeName.{NodeName}
 use Rattle.mtn_roster.specs.declared.entry.Slot.{Slot}
 use Rattle.mtn_roster.specs.declared.entry.Slot.TheVariants.{Root, Below}
-use Rattle.mtn_base.specs.Lists.{is_some_with}
 use Rattle.mtn_base.proofs.Finding.{found, passing_some}
 use Rattle.mtn_base.proofs.Orders.{exact_names}
 use Rattle.mtn_base.proofs.Sorting.{rec_at}
 use Rattle.mtn_decide.specs.declared.decision.AttrDecision.{AttrDecision}
 use Rattle.mtn_decide.specs.declared.decision.Decision.{Decision}
-use Rattle.mtn_decide.specs.declared.decision.SlotChoice.{SlotChoice}
-use Rattle.mtn_decide.specs.declared.decision.SlotChoice.TheVariants.{Fixed, Clash}
+use Rattle.mtn_decide.specs.declared.decision.SlotChoice.TheVariants.{Fixed}
 use Rattle.mtn_decide.specs.Decisions.{Merge, decision_of, pending_of}
 use Rattle.mtn_conflicts.specs.declared.lists.Conflicts.{Conflicts}
 use Rattle.mtn_conflicts.specs.Result.{ParentsAreDirs, NoneBornIn}
@@ -27,12 +24,11 @@ use Rattle.mtn_conflicts.proofs.Nodes.{found_name}
 use Rattle.mtn_resolve.specs.declared.resolution.Resolution.{Resolution}
 use Rattle.mtn_resolve.specs.declared.resolution.Resolution.TheVariants.{Drop, Place, Content, AttrSet, AttrClear, Keep}
 use Rattle.mtn_resolve.specs.declared.subject.Subject.{Subject}
-use Rattle.mtn_resolve.specs.declared.fault.Fault.{Fault}
 use Rattle.mtn_resolve.specs.declared.fault.Fault.TheVariants as one
 use Rattle.mtn_resolve.specs.Faults.{names_known, names_dirs, has_conflict, fault_of, is_live_dir, AreFitting}
-use Rattle.mtn_resolve.specs.Overriding.{new_node, new_slot, new_attr, slot_in, reborn_of, living, overridden, candidates}
-use Rattle.mtn_resolve.specs.Subjects.{subject_of, subject_cmp, slot_of, is_about, resolution_of}
-use Rattle.mtn_resolve.proofs.Looking.{or_else, Was, was, look_candidates}
+use Rattle.mtn_resolve.specs.Overriding.{new_slot, new_attr, slot_in, reborn_of, overridden, candidates}
+use Rattle.mtn_resolve.specs.Subjects.{subject_cmp, slot_of, is_about, resolution_of}
+use Rattle.mtn_resolve.proofs.Looking.{or_else, was, look_candidates}
 
 pub keys_stay : (rs : List Resolution) (n : NodeName) (as' : List AttrDecision) → map (λ (a : AttrDecision). a.key) (map (new_attr rs n) as') ≡ map (λ (a : AttrDecision). a.key) as'
 keys_stay rs n [] = refl

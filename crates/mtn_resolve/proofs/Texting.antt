@@ -1,7 +1,7 @@
 -- Resolutions read one behind the other.
 use Rattle.std.specs.Prelude.{map, ◌||◌, drop, slice_get}
 use Rattle.std.specs.List.{list_any, AllByRecursion, IsDistinct}
-use Rattle.std.proofs.Common.{◌≡◌, ◌≢◌, ℕ, ◌+◌, ◌<◌, ◌≤◌, Bool, true, false, List, [], ◌∷◌, ◌++◌, length, take, get_or, append_assoc, append-nil, Option, Some, None, inl, inr, refl, sym, ◌∙◌, ap, subst, arith}
+use Rattle.std.proofs.Common.{◌≡◌, ◌≢◌, ℕ, ◌+◌, ◌<◌, ◌≤◌, Bool, true, false, List, [], ◌∷◌, ◌++◌, length, take, get_or, append_assoc, append-nil, Some, inr, refl, sym, ◌∙◌, ap, subst, arith}
 use Rattle.std.proofs.lemmas.List.{take_more, take-append-drop, length-take-le, map-append}
 use Rattle.mtn_basic_io.specs.Spelling.{LineText}
 use Rattle.mtn_base.proofs.Finding.{either_false}
@@ -10,8 +10,8 @@ use Rattle.mtn_resolve.specs.declared.resolution.Resolution.{Resolution}
 use Rattle.mtn_resolve.specs.declared.error.ResolveTextError.{ResolveTextError}
 use Rattle.mtn_resolve.specs.declared.error.ResolveTextError.TheVariants.{NotText, BadStanza, BadOrder, Repeated, NoMemory}
 use Rattle.mtn_resolve.specs.Subjects.{subject_of, is_about, is_repeat, AreApart}
-use Rattle.mtn_resolve.specs.Texts.{stanza_of, header, IsResolution, IsNothing, AreResolutions, StandsAt}
-use Rattle.mtn_resolve.specs.Reading.{IsNext, IsRefused, IsList, IsListFault}
+use Rattle.mtn_resolve.specs.Texts.{stanza_of, header, IsResolution, AreResolutions, StandsAt}
+use Rattle.mtn_resolve.specs.Reading.{IsNext, IsRefused, IsListFault}
 use Rattle.mtn_base.proofs.Dropping.{drop_step}
 
 none_left : {X : Type 0} (f : X → Bool) (xs ys : List X) → list_any f (xs ++ ys) ≡ false → list_any f xs ≡ false

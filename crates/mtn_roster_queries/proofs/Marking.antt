@@ -1,12 +1,12 @@
 -- Marks and the ids of their revisions.
-use Rattle.std.specs.Prelude.{Contains, slice_get, option_map, option_and_then, IsSome, reverse}
+use Rattle.std.specs.Prelude.{Contains, option_map, option_and_then, IsSome, reverse}
 use Rattle.std.specs.List.{AllZip}
 use Rattle.std.specs.List.Sorted.{IsStrictlySortedBy}
-use Rattle.std.proofs.Common.{◌≡◌, ◌↔◌, ◌<◌, ℕ, List, [], ◌∷◌, Option, Some, None, Result, Ok, Err, length, refl, sym, ap, ◌∙◌, subst, ⊎_elim}
+use Rattle.std.proofs.Common.{◌≡◌, ◌↔◌, ◌<◌, ℕ, List, [], ◌∷◌, Option, Some, None, Result, Ok, Err, length, sym, ap, ◌∙◌, subst, ⊎_elim}
 use Rattle.mtn_base.specs.declared.id.Id.{Id}
 use Rattle.mtn_base.specs.declared.name.NodeName.{NodeName}
 use Rattle.mtn_base.specs.declared.refusal.Cause.TheVariants.{NoSuchPath, NotAFile}
-use Rattle.mtn_history_laws.specs.History.{Revision, tree_at, revision_tree, IsPlaceOf}
+use Rattle.mtn_history_laws.specs.History.{Revision, tree_at, IsPlaceOf}
 use Rattle.mtn_history_laws.specs.Scalars.{Scalar, Value, IsMark, content_of, value_at, value_of, value_in}
 use Rattle.mtn_history_laws.specs.Scalars.Scalar.{ContentOf}
 use Rattle.mtn_history_laws.specs.Scalars.Value.{ContentValue}
@@ -15,7 +15,7 @@ use Rattle.mtn_base.proofs.IdOrder.{contains_nil, contains_head, contains_later,
 use Rattle.mtn_replay.proofs.Places.{inside}
 use Rattle.mtn_marking.specs.Graph.{AreMarksOf, IsMarkedAt}
 use Rattle.mtn_marking.specs.Marking.{MarkedTree, marks_in}
-use Rattle.mtn_mark_laws.specs.Marks.{IsMarked, IsMarkOf, fresh, changed, chosen, here, onward}
+use Rattle.mtn_mark_laws.specs.Marks.{IsMarkOf, here, onward}
 use Rattle.mtn_roster.specs.declared.entry.Body.{Body}
 use Rattle.mtn_roster.specs.declared.entry.Body.TheVariants.{Dir, File}
 use Rattle.mtn_roster.specs.declared.entry.Entry.{Entry}
@@ -24,7 +24,7 @@ use Rattle.mtn_roster.proofs.Forest.{node_there}
 use Rattle.mtn_roster.proofs.Ordered.{forest_of}
 use Rattle.mtn_roster_queries.specs.Marks.{AreContentMarks, AreMarksFor}
 use Rattle.mtn_answers.specs.Views.{AreMarkIds}
-use Rattle.mtn_answers.proofs.Marks.{mark_event, event_value, mark_placed}
+use Rattle.mtn_answers.proofs.Marks.{event_value, mark_placed}
 
 -- two revisions at one place are one
 pub one_id : (h : List Revision) (x y : Id) (a : ℕ) → IsPlaceOf h x a → IsPlaceOf h y a → x ≡ y
