@@ -3,17 +3,30 @@ import os, subprocess, sys, tempfile, time
 
 TOP = os.path.dirname(os.path.dirname(os.path.abspath(__file__)))
 PROGRAM = os.environ.get('MTN_BENCH', TOP + '/crates/mtn_bench/out/mtn_bench')
-if not os.path.exists(PROGRAM):
-    sys.exit('build mtn_bench first: `rt run` in crates/mtn_bench, or give its path in MTN_BENCH')
+# Its lines are calls of `run` over objects in memory.
+CASES = os.environ.get('MTN_CASES', TOP + '/crates/mtn_cases_store/out/mtn_cases_store')
+
+
+def must_be_built(program):
+    """Ends the script where a program is not there."""
+    if not os.path.exists(program):
+        sys.exit('build %s first: `rt run` in its crate, or give its path in MTN_BENCH or MTN_CASES' % program)
+
+
+def escaped(text):
+    """A text as the lines of mtn_cases_store spell it."""
+    return text.replace(b'\\', b'\\\\').replace(b'\n', b'\\n').replace(b' ', b'\\s')
 
 
 def answer(word, given):
     """What mtn_bench writes for a word over some bytes."""
+    must_be_built(PROGRAM)
     return subprocess.run([PROGRAM, word], input=given, stdout=subprocess.PIPE, check=True).stdout
 
 
 def steps(word, given):
     """The seconds of the word's steps, by the program's own clock, which begins with what is read in memory."""
+    must_be_built(PROGRAM)
     told = subprocess.run([PROGRAM, word, 'times'], input=given, stdout=subprocess.PIPE, check=True).stdout
     return [int(step) / 1e6 for step in told.split()]
 

@@ -1,23 +1,28 @@
 #!/bin/sh
 # Makes a history of 2,000 revisions in a line over a tree of 200 files, 20 to a directory, each of which patches one file.
-# Puts the files and the revisions, each by its own `run` over one keeper in memory in one process, and gives the same
-# history to git fast-import, in the same run. Prints the time as a multiple of git's, and how much longer twice the
-# revisions take. The program's own clock takes its time, with the texts in memory; git's is that of its process.
+# Puts the files and the revisions, each by its own `run` over one keeper in memory, and gives the same history to git
+# fast-import, in the same run. Prints the time as a multiple of git's, and how much longer twice the revisions take. The
+# program is mtn_cases_store, whose lines are calls of `run`; both times are those of the process.
 # Then puts a root of 100,000 nodes, two children and their merge, and a root over 1,000 contents of 1 MiB, which are not
 # to be read for it: what the last command takes, of time and of memory.
 set -eu
 cd "$(dirname "$0")/.."
 PYTHONDONTWRITEBYTECODE=1 PYTHONPATH="$PWD/bench:$PWD/tests" python3 - <<'PYTHON'
 import subprocess, tempfile
-from measure import PROGRAM, answer, peak, seconds, steps
+from measure import CASES, escaped, must_be_built, peak, seconds
 from revisions import add_dir, add_file, patch, revision, sha, two
 from tree import tree
+must_be_built(CASES)
 ROUNDS = 3
 FILES = 200
 
 def section(word, payload):
-    """A command for mtn_bench: its word, and its payload behind it."""
-    return b'%s %d\n%s' % (word, len(payload), payload)
+    """The lines of a command: its payload, and its word."""
+    return b'give %s\nrun %s\n' % (escaped(payload), word)
+
+def lines(commands):
+    """The commands over a store of their own."""
+    return b'store plain sha1\n' + b''.join(commands)
 
 def content(file, version):
     return b'file %d, version %d\n' % (file, version)
@@ -47,10 +52,10 @@ def history(count):
         text = revision(nodes, (sha(text), [patch(paths[file], old, new)]))
         put(b'put_revision', text)
         commit(number, [(file, number)])
-    return b''.join(ours), b''.join(git)
+    return lines(ours), b''.join(git)
 
 def ours(given):
-    return min(sum(steps('commands', given)) for _ in range(ROUNDS))
+    return min(seconds([CASES], given) for _ in range(ROUNDS))
 
 def once(given):
     with tempfile.TemporaryDirectory() as folder:
@@ -59,7 +64,8 @@ def once(given):
 
 one, one_git = history(2000)
 two, _ = history(4000)
-assert answer('commands', one) == b'4199\n', answer('commands', one)
+done = subprocess.run([CASES], input=one, stdout=subprocess.PIPE, check=True).stdout.splitlines()
+assert len(done) == 4199 and all(line.startswith(b'0 ') for line in done), done[:3]
 once_ours, git, twice = ours(one), min(once(one_git) for _ in range(ROUNDS)), ours(two)
 print('2,000 revisions %.3f s, git fast-import %.3f s: %.2f times (at most 8)' % (once_ours, git, once_ours / git))
 print('4,000 revisions %.3f s: %.2f times as long (at most 2.2)' % (twice, twice / once_ours))
@@ -72,7 +78,8 @@ def root(paths, contents):
     return nodes, revision(nodes, ('', [add_dir(path) for path in dirs] + [add_file(path, contents[path]) for path in sorted(contents, key=order)]))
 
 def last(commands):
-    return min(steps('commands', b''.join(commands))[1] for _ in range(ROUNDS))
+    """What the last of these takes beside the others."""
+    return ours(lines(commands)) - ours(lines(commands[:-1]))
 
 first, second = sha(b'abc'), sha(b'a')
 files = [line for line in tree() if not line.endswith('/')]
@@ -84,12 +91,12 @@ merge = revision({**nodes, files[0]: second, files[-1]: second},
 commands = [section(b'put_file', b'abc'), section(b'put_file', b'a')] + [section(b'put_revision', of) for of in (text, left, right, merge)]
 rooted, merged = last(commands[:3]), last(commands)
 print('a root of 100,000 nodes %.3f s, a merge of two children %.3f s: %.2f times, peak %.2f GiB'
-      % (rooted, merged, merged / rooted, peak([PROGRAM, 'commands'], b''.join(commands)) / 2**30))
+      % (rooted, merged, merged / rooted, peak([CASES], lines(commands)) / 2**30))
 
 bodies = [(b'%d ' % number).ljust(1 << 20, b'x') for number in range(1000)]
 nodes, text = root(['d', ''] + ['d/f%d' % number for number in range(1000)], {'d/f%d' % number: sha(body) for number, body in enumerate(bodies)})
 puts = [section(b'put_file', body) for body in bodies]
-held = peak([PROGRAM, 'commands'], b''.join(puts))
-more = peak([PROGRAM, 'commands'], b''.join(puts + [section(b'put_revision', text)])) - held
+held = peak([CASES], lines(puts))
+more = peak([CASES], lines(puts + [section(b'put_revision', text)])) - held
 print('a root over 1,000 contents of 1 MiB %.3f s, %.2f MiB more than without it' % (last(puts + [section(b'put_revision', text)]), more / 2**20))
 PYTHON

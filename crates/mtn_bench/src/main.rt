@@ -6,7 +6,6 @@
 mod ancestry;
 mod canonical;
 mod changeset;
-mod commands;
 mod joined;
 mod long;
 mod marks;
@@ -23,23 +22,15 @@ use sections::next_section;
 use std::env;
 use std::io::{self, Read, Write};
 use std::process::ExitCode;
-use std::thread::Threads;
 use watch::Watch;
 
 // The words that measure texts and graphs.
-fn of_texts<T: Threads + Sync>(
-    threads: &T,
-    rt: &HostRuntime,
-    watch: &mut Watch,
-    word: &str,
-    text: &[u8],
-) -> Option<Vec<u8>> {
+fn of_texts(rt: &HostRuntime, watch: &mut Watch, word: &str, text: &[u8]) -> Option<Vec<u8>> {
     match word {
         "stanzas" => stanzas::stanzas(rt, watch, text),
         "revision" => revision::revision(rt, watch, text),
         "ancestry" => ancestry::ancestry(rt, watch, text),
         "records" => records::records(rt, watch, text),
-        "commands" => commands::commands(threads, rt, watch, text),
         _ => None,
     }
 }
@@ -53,13 +44,7 @@ fn of_merges(rt: &HostRuntime, watch: &mut Watch, word: &str, text: &[u8]) -> Op
 }
 
 // What a word answers; None for no word, or where it cannot be done.
-fn answer<T: Threads + Sync>(
-    threads: &T,
-    rt: &HostRuntime,
-    watch: &mut Watch,
-    word: &str,
-    text: &[u8],
-) -> Option<Vec<u8>> {
+fn answer(rt: &HostRuntime, watch: &mut Watch, word: &str, text: &[u8]) -> Option<Vec<u8>> {
     match word {
         "roster" => roster::roster(rt, watch, text),
         "long" => long::long(rt, watch, text),
@@ -67,17 +52,12 @@ fn answer<T: Threads + Sync>(
         "join" => joined::joined(rt, watch, text),
         "marks" => marks::marks(rt, watch, text),
         "merge" | "between" => of_merges(rt, watch, word, text),
-        _ => of_texts(threads, rt, watch, word, text),
+        _ => of_texts(rt, watch, word, text),
     }
 }
 
 // What the words of all sections answer.
-fn answers<T: Threads + Sync>(
-    threads: &T,
-    rt: &HostRuntime,
-    watch: &mut Watch,
-    input: &[u8],
-) -> Option<Vec<u8>> {
+fn answers(rt: &HostRuntime, watch: &mut Watch, input: &[u8]) -> Option<Vec<u8>> {
     let mut out = Vec::new(rt.alloc());
     let mut rest = input;
     for _ in 0..input.len() {
@@ -86,7 +66,7 @@ fn answers<T: Threads + Sync>(
         }
         let next = next_section(rest)?;
         let word = str::from_utf8(next.word).ok()?;
-        let told = answer(threads, rt, watch, word, next.given)?;
+        let told = answer(rt, watch, word, next.given)?;
         out.extend_from_slice(&told).ok()?;
         rest = next.rest;
     }
@@ -94,17 +74,11 @@ fn answers<T: Threads + Sync>(
 }
 
 // What is written for the words of the command line.
-fn told<T: Threads + Sync>(
-    threads: &T,
-    rt: &HostRuntime,
-    word: Option<&str>,
-    times: bool,
-    text: &[u8],
-) -> Option<Vec<u8>> {
+fn told(rt: &HostRuntime, word: Option<&str>, times: bool, text: &[u8]) -> Option<Vec<u8>> {
     let mut watch = Watch::start(rt)?;
     let out = match word {
-        Some(word) => answer(threads, rt, &mut watch, word, text)?,
-        None => answers(threads, rt, &mut watch, text)?,
+        Some(word) => answer(rt, &mut watch, word, text)?,
+        None => answers(rt, &mut watch, text)?,
     };
     if times {
         watch.line(rt.alloc())
@@ -123,7 +97,7 @@ fn main(rt: HostRuntime) -> io::Result<ExitCode> {
         Some(text) => Some(text.as_str()),
         None => None,
     };
-    let Some(out) = told(&rt, &rt, word, words.next().is_some(), &text) else {
+    let Some(out) = told(&rt, word, words.next().is_some(), &text) else {
         return Ok(ExitCode::FAILURE);
     };
     rt.stdout().write_all(&out)?;
