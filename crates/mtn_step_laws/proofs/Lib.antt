@@ -9,5 +9,3 @@ pub mod Decoding
 pub mod Telling
 pub mod Revisions
 pub mod Existing
-pub mod TreeEntries
-pub mod LawfulEntries

@@ -4,22 +4,17 @@
 //! what it does is a function of the state; and a merge is the same in both orders of its words.
 #![tactic(auto)]
 
-ghost use Rattle.std.specs.Prelude.{◌≡◌, ◌≢◌, ◌⊎◌, ℕ, Bool, List, Some};
+ghost use Rattle.std.specs.Prelude.{◌≡◌, ◌≢◌, ◌⊎◌, ℕ, Bool, List};
 ghost use Rattle.mtn_base.specs.declared.id.Id.{Id};
-ghost use Rattle.mtn_base.specs.declared.name.NodeName.{NodeName};
 ghost use Rattle.mtn_changes.specs.RevisionText.{IsRevisionFault};
 ghost use Rattle.mtn_changes.specs.declared.change.Revision.{Revision};
 ghost use Rattle.mtn_changes.specs.declared.error.ChangeTextError.{ChangeTextError};
 ghost use Rattle.mtn_changes.specs.declared.error.ChangeTextError.TheVariants.{NoMemory};
-ghost use Rattle.mtn_history_laws.specs.History.{Revision as Made, entry_at};
 ghost use Rattle.mtn_model.specs.Outcome.{Outcome};
-ghost use Rattle.mtn_model.specs.State.{Logged, State};
-ghost use Rattle.mtn_model.specs.Table.{Table};
-ghost use Rattle.mtn_replay.specs.Lawful.{IsHistory, IsLawful, Spells};
-ghost use Rattle.mtn_roster.specs.declared.entry.Entry.{Entry};
+ghost use Rattle.mtn_model.specs.State.{State};
+ghost use Rattle.mtn_replay.specs.Lawful.{IsLawful, Spells};
 ghost use Rattle.mtn_step.specs.Step.{Steps};
 ghost use Rattle.mtn_step.specs.declared.call.Call.{Call};
-ghost use Rattle.mtn_step_laws.specs.Entries.{IsLawfulEntry};
 ghost use Rattle.mtn_step_laws.specs.Held.{IsHeldIn};
 
 /// Over a lawful state a command has no more than one outcome.
@@ -35,11 +30,6 @@ pub fn some_outcome()
 /// Each text spells a revision, or has a fault that is none of memory.
 pub fn some_fault()
     ensures { (text : List ℕ) → ((r : Revision) × Spells text r) ⊎ ((e : ChangeTextError) × (e ≢ NoMemory) × IsRevisionFault text e) }
-{}
-
-/// Over a lawful log each entry of each tree has a lawful component, a lawful path of birth and lawful keys.
-pub fn lawful_entries()
-    ensures { (f : List ℕ → List ℕ) (files : Table) (log : List Logged) (h : List Made) → IsHistory f files log h → (r : ℕ) (n : NodeName) (e : Entry) → entry_at h r n ≡ Some e → IsLawfulEntry e }
 {}
 
 /// A merge has one outcome in both orders of the words, where both revisions are held, and so has what is shown of it.

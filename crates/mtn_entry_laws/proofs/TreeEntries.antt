@@ -32,7 +32,7 @@ use Rattle.mtn_changeset_laws.specs.Laws.{IsOldTree}
 use Rattle.mtn_changeset_laws.proofs.AfterSane.{forest_before}
 use Rattle.mtn_changeset_laws.proofs.Agreeing.{attr_of-joined}
 use Rattle.mtn_changeset_laws.proofs.Joins.{of_map}
-use Rattle.mtn_step_laws.specs.Entries.{IsLawfulEntry, HasLawfulEntries}
+use Rattle.mtn_entry_laws.specs.Entries.{IsLawfulEntry, HasLawfulEntries}
 
 abbrev HasComp : Slot → Type 0
 HasComp s = (parent : NodeName) (name : List ℕ) → s ≡ Below parent name → IsComp name

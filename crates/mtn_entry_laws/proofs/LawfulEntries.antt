@@ -24,8 +24,8 @@ use Rattle.mtn_replay.proofs.Places.{within, no_place, place_within}
 use Rattle.mtn_replay.proofs.Steps.{both_none, unmapped}
 use Rattle.mtn_replay.proofs.Histories.{Place, place, kept_at, last_at, history_is_grown, history_none, history_more}
 use Rattle.mtn_replay.proofs.Histories.Place.{in_front, at_back}
-use Rattle.mtn_step_laws.specs.Entries.{HasLawfulEntries}
-use Rattle.mtn_step_laws.proofs.TreeEntries.{nothing_spells, after_spells, joined_spells}
+use Rattle.mtn_entry_laws.specs.Entries.{HasLawfulEntries}
+use Rattle.mtn_entry_laws.proofs.TreeEntries.{nothing_spells, after_spells, joined_spells}
 
 abbrev AllSpell : List Revision → Type 0
 AllSpell h = (p : ℕ) → HasLawfulEntries (tree_at h p)

@@ -1,5 +1,0 @@
-use Rattle.mtn_step_laws.proofs.LawfulEntries.{all_spell}
-use Rattle.mtn_step_laws.proofs.lawful_entries.Goals as goal
-
-pub returns : goal.returns
-returns c f files log h is r n e at = all_spell f files log h is r n e at
