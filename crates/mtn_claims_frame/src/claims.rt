@@ -1,6 +1,7 @@
 //! The public calls of the frame under their own contracts.
 ghost use Rattle.std.specs.Prelude.{◌≡◌, ◌≤◌, IfOk, IsErrOf, OnErr, true};
 ghost use Rattle.mtn_frame.specs.Limit.{Stops};
+ghost use Rattle.mtn_frame.specs.One.{Puts};
 ghost use Rattle.mtn_frame.specs.Payload.{takes_last as takes_payload};
 ghost use Rattle.mtn_frame.specs.Requests.{ReadsList};
 ghost use Rattle.mtn_frame.specs.Script.{Does, IsScript, is_session as session_words};
@@ -13,7 +14,7 @@ use mtn_base::{Bytes, List};
 use mtn_frame::settle::Settled;
 use mtn_frame::{Commands, Form, ReadStop, Request, RequestStop, WorkError, Worked};
 use mtn_model::Status;
-use mtn_ports::{Keeper, Sink, Source};
+use mtn_ports::{Batch, KeepError, Keeper, Sink, Source};
 use std::alloc::Global;
 
 /// As `mtn_frame::takes_last`.
@@ -54,6 +55,13 @@ pub fn goes_on(status: Status) -> bool
     ensures { result ≡ answers_on status }
 {
     mtn_frame::goes_on(status)
+}
+
+/// As `mtn_frame::put_all`, handed where memory is taken from: it takes none.
+pub fn put_all<K: Keeper>(_alloc: Global, keeper: &mut K, batch: &Batch) -> Result<(), KeepError>
+    ensures { Puts K.contents K.leaves K.faults K.reads keeper.old keeper.new batch.now result }
+{
+    mtn_frame::put_all(keeper, batch)
 }
 
 /// As `mtn_frame::run_frame`.

@@ -26,7 +26,7 @@ use Rattle.mtn_history.specs.declared.errors.StoreError.{StoreError}
 use Rattle.mtn_history.specs.declared.errors.StoreError.TheVariants.{Damaged, Failed, NoMemory}
 use Rattle.mtn_history.specs.declared.pending.Pending.{Pending}
 use Rattle.mtn_history.proofs.CertRecords.{no_cert_damage, no_key_damage}
-use Rattle.mtn_put_certs.specs.Reading.{AreBehind, AreCertsOf}
+use Rattle.mtn_put_certs.specs.Reading.{AreBehind, AreCertsOf, AreRecorded}
 use Rattle.mtn_put_certs.specs.Walking.{IsBehind, IsHeldBehind}
 use Rattle.mtn_put_certs.proofs.CertLemmas.{are_parts, held_by, one_key}
 
@@ -85,6 +85,17 @@ pub told_behind : (f : List ℕ → List ℕ) (told : Option Contents) (p : Pend
     told ≡ Some c → IsDraft f c p s → IfSome told (λ d. IsListOf bytes_cmp (IsHeldBehind (with_all d p.batch) 8 front) keys) → AreCertsOf keys certs → AreBehind s front certs
 told_behind f told p c s front keys certs at draft listed read =
     are_behind p.is_new f (with_all c p.batch) s draft.stands front keys certs (subst (λ o. IfSome o (λ d. IsListOf bytes_cmp (IsHeldBehind (with_all d p.batch) 8 front) keys)) at listed) read
+
+-- the certificates of keys that have records
+pub recorded_behind : (told : Option Contents) (p : Pending) (c : Contents) (front : List ℕ) (keys : List (List ℕ)) (certs : List Certificate) →
+    told ≡ Some c → IfSome told (λ d. IsListOf bytes_cmp (IsHeldBehind (with_all d p.batch) 8 front) keys) → AreCertsOf keys certs → AreRecorded (with_all c p.batch) certs
+recorded_behind told p c front keys certs at listed read x among =
+    let own : IsListOf bytes_cmp (IsHeldBehind (with_all c p.batch) 8 front) keys = subst (λ o. IfSome o (λ d. IsListOf bytes_cmp (IsHeldBehind (with_all d p.batch) 8 front) keys)) at listed in
+    let k = (read x).0 among in
+    record {
+      key = subst (λ key. IsCertKey key x) k.2.whole k.2;
+      there = subst (λ key. IsSome (body_at (with_all c p.batch) 8 key)) k.2.whole ((own.exact k.0).0 k.1).1;
+    }
 
 -- those of one revision
 pub of_revision : (f : List ℕ → List ℕ) (c : Contents) (p : Pending) (s : State) → IsDraft f c p s → (revision : Id) (front : List ℕ) (certs : List Certificate) → front ≡ revision.0 → IsIdBytes revision.0 → AreBehind s front certs →

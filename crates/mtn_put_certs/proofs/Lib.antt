@@ -2,6 +2,7 @@ pub mod Joining
 pub mod CertLemmas
 pub mod HeldLemmas
 pub mod KeyLemmas
+pub mod LoggedLemmas
 pub mod NameLemmas
 pub mod NamedLemmas
 pub mod ReadLemmas

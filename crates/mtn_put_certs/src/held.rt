@@ -9,7 +9,7 @@ ghost use Rattle.mtn_history.specs.Asking.{OnlyAsks};
 ghost use Rattle.mtn_history.specs.Certificates.{CertDamage, IsCertKey};
 ghost use Rattle.mtn_history.specs.Errors.{IfDamage};
 ghost use Rattle.mtn_history.specs.Stands.{IsDraft};
-ghost use Rattle.mtn_put_certs.specs.Reading.{AreBehind, AreCertsOf, IsRecordOf};
+ghost use Rattle.mtn_put_certs.specs.Reading.{AreBehind, AreCertsOf, AreRecorded, IsRecordOf};
 
 use crate::damaged::bad;
 use crate::read::read_cert;
@@ -74,6 +74,7 @@ fn certs_behind<K: Keeper>(draft: &mut Draft<'_, K>, front: &[u8]) -> Result<Vec
     ensures pending { draft.new.pending ≡ draft.old.pending }
     ensures found { (f : List ℕ → List ℕ) (c : Contents) (s : State) → K.contents draft.new.keeper.now ≡ Some c → IsDraft f c draft.old.pending s
         → IfOk result (λ certs. AreBehind s front.now certs.items) }
+    ensures recorded { IfSome (K.contents draft.new.keeper.now) (λ c. IfOk result (λ certs. AreRecorded (with_all c draft.old.pending.batch) certs.items)) }
     ensures damaged { IfSome (K.contents draft.new.keeper.now) (λ c. IfErr result (λ e. IfDamage e (CertDamage (with_all c draft.old.pending.batch)))) }
     ensures failed { result ≡ Err StoreError.Failed → Rose (K.faults draft.old.keeper.now) (K.faults draft.new.keeper.now) }
 {
@@ -104,6 +105,7 @@ pub fn certs<K: Keeper>(draft: &mut Draft<'_, K>) -> Result<Vec<Cert>, StoreErro
     ensures pending { draft.new.pending ≡ draft.old.pending }
     ensures found { (f : List ℕ → List ℕ) (c : Contents) (s : State) → K.contents draft.new.keeper.now ≡ Some c → IsDraft f c draft.old.pending s
         → IfOk result (λ certs. (x : Certificate) → Contains certs.items x ↔ Holds s.certs x) }
+    ensures recorded { IfSome (K.contents draft.new.keeper.now) (λ c. IfOk result (λ certs. AreRecorded (with_all c draft.old.pending.batch) certs.items)) }
     ensures sound { (f : List ℕ → List ℕ) (c : Contents) (s : State) → K.contents draft.new.keeper.now ≡ Some c → IsDraft f c draft.old.pending s
         → IfErr result (λ e. IfDamage e (λ _. ⊥)) }
     ensures damaged { IfSome (K.contents draft.new.keeper.now) (λ c. IfErr result (λ e. IfDamage e (CertDamage (with_all c draft.old.pending.batch)))) }
