@@ -1,7 +1,7 @@
 -- The texts of a log, and the contents that they bring.
 use Rattle.std.specs.Prelude.{Contains, find, is_none, option_map, slice_get}
 use Rattle.std.specs.FinMap.{get}
-use Rattle.std.proofs.Common.{◌≡◌, ◌<◌, ℕ, zero, suc, Bool, true, false, cond, List, [], ◌∷◌, length, take, Option, Some, None, refl, sym, ap, ◌∙◌, subst, ⊎_elim}
+use Rattle.std.proofs.Common.{◌≡◌, ◌<◌, ℕ, zero, suc, Bool, true, false, cond, List, [], ◌∷◌, take, Option, Some, None, refl, sym, ap, ◌∙◌, subst, ⊎_elim}
 use Rattle.mtn_answers.specs.Queries.{IsHeld}
 use Rattle.mtn_base.specs.Hex.{id_of}
 use Rattle.mtn_base.specs.Names.{same_bytes}

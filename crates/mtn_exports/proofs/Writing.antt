@@ -1,9 +1,9 @@
 -- The packets of an export can be written, and their files are held.
-use Rattle.std.specs.Prelude.{Contains, not, nat_le, ◌&&◌, ◌||◌, ◌==◌, unwrap_or, is_some}
+use Rattle.std.specs.Prelude.{Contains, not, nat_le, ◌&&◌, ◌==◌, unwrap_or}
 use Rattle.std.specs.FinMap.{get}
 use Rattle.std.specs.List.{All, list_all, list_any}
-use Rattle.std.proofs.Common.{◌≡◌, ◌<◌, ◌≤◌, ℕ, zero, suc, Bool, true, false, cond, List, [], ◌∷◌, ◌++◌, length, map, Option, Some, None, refl, sym, ap, ◌∙◌, subst, arith, ⊎_elim, inl, inr}
-use Rattle.std.proofs.lemmas.List.Elements.{All-append, All-cons, All-map, All-nil, Contains-append_cases}
+use Rattle.std.proofs.Common.{◌≡◌, ℕ, Bool, true, false, cond, List, [], ◌∷◌, ◌++◌, length, map, Option, Some, None, refl, sym, ap, ◌∙◌, subst, arith, ⊎_elim}
+use Rattle.std.proofs.lemmas.List.Elements.{All-append, All-cons, All-nil, Contains-append_cases}
 use Rattle.mtn_base.specs.Names.{same_id}
 use Rattle.mtn_base.specs.declared.id.Id.{Id}
 use Rattle.mtn_base.proofs.IdOrder.{contains_cases, contains_head, contains_later, contains_nil}
@@ -15,7 +15,7 @@ use Rattle.mtn_packets.specs.Printed.{IsWritable}
 use Rattle.mtn_packets.specs.declared.packet.Packet.{Packet}
 use Rattle.mtn_packets.specs.declared.packet.Packet.TheVariants as packet
 use Rattle.mtn_replay.specs.Lawful.{IsHistory, IsLawful}
-use Rattle.mtn_exports.specs.Exports.{AreCertsOf, AreSent, IsSent, cert_packet, file_packet, new_to, packets_with}
+use Rattle.mtn_exports.specs.Exports.{AreSent, IsSent, cert_packet, file_packet, new_to}
 use Rattle.mtn_exports.proofs.Contents.{contents_held}
 
 and_true : (a b : Bool) → (a && b) ≡ true → (a ≡ true) × (b ≡ true)
@@ -79,7 +79,7 @@ file_held s (id ∷ files) file bytes held c = ⊎_elim here (λ d. file_held s 
     here : file_packet s id ≡ packet.File file bytes → get s.files file.0 ≡ Some bytes
     here e =
         let t = held id (contains_head id files) in
-        let both : (Some (id, unwrap_or (get s.files id.0) []) : Option (Id × List ℕ)) ≡ Some (file, bytes) = ap named e in
+        let both : named (file_packet s id) ≡ named (packet.File file bytes) = ap named e in
         let same : id ≡ file = cc in
         let is : unwrap_or (get s.files id.0) [] ≡ bytes = cc in
         ap (λ (i : Id). get s.files i.0) (sym same) ∙ t.1 ∙ ap Some (sym (ap (λ o. unwrap_or o []) t.1) ∙ is)
@@ -88,8 +88,8 @@ module _ (f : List ℕ → List ℕ) (s : State) (h : List Revision) (is : IsHis
   own_held : (before files : List Id) (id : Id) (own : List Packet) → IsSent s before id files own → Contains own (packet.File file bytes) → get s.files file.0 ≡ Some bytes
   own_held before files id own sent c =
       let contents : (x : Id) → Contains files x → (held : List ℕ) × (get s.files x.0 ≡ Some held) =
-            λ x d. contents_held f s.files s.log h is id.0 sent.text sent.brings.read sent.brings.held sent.brings.spells x
-                (subst (λ ids. Contains ids x) sent.brings.is (new_contained before sent.contents x (subst (λ ids. Contains ids x) sent.new d))) in
+      λ x d. contents_held f s.files s.log h is id.0 sent.text sent.brings.read sent.brings.held sent.brings.spells x
+      (subst (λ ids. Contains ids x) sent.brings.is (new_contained before sent.contents x (subst (λ ids. Contains ids x) sent.new d))) in
       ⊎_elim (λ d. file_held s files file bytes contents d)
       (λ d. ⊎_elim (λ e. let t = ap named e in absurd cc) (λ k. absurd (no_cert_file sent.certs file bytes k)) (contains_cases (packet.Revision id sent.text) (map cert_packet sent.certs) (packet.File file bytes) d))
       (Contains-append_cases (map (file_packet s) files) (packet.Revision id sent.text ∷ map cert_packet sent.certs) (packet.File file bytes) (subst (λ ps. Contains ps (packet.File file bytes)) sent.are c))
