@@ -24,11 +24,20 @@ use Rattle.mtn_replay.proofs.Places.{within, no_place, place_within}
 use Rattle.mtn_replay.proofs.Steps.{both_none, unmapped}
 use Rattle.mtn_replay.proofs.Histories.{Place, place, kept_at, last_at, history_is_grown, history_none, history_more}
 use Rattle.mtn_replay.proofs.Histories.Place.{in_front, at_back}
+use Rattle.mtn_base.proofs.Finding.{Split, later}
+use Rattle.mtn_base.proofs.Members.{head}
+use Rattle.mtn_base.specs.declared.limits.TheConstants.{MAX_TEXT}
+use Rattle.mtn_changes.specs.declared.change.Change.{Change}
 use Rattle.mtn_entry_laws.specs.Entries.{HasLawfulEntries}
+use Rattle.mtn_entry_laws.proofs.Short.{IsNoLonger, text_bounds}
 use Rattle.mtn_entry_laws.proofs.TreeEntries.{nothing_spells, after_spells, joined_spells}
 
-abbrev AllSpell : List Revision → Type 0
+abbrev pub AllSpell : List Revision → Type 0
 AllSpell h = (p : ℕ) → HasLawfulEntries (tree_at h p)
+
+-- the changes are no longer than a text
+abbrev pub AreBounded : List Edge → Type 0
+AreBounded edges = (e : Edge) → Split edges e → (c : Change) → Split e.changes c → IsNoLonger MAX_TEXT c
 
 -- what is known of a parent's tree
 record IsParent (t : Tree) (new : Id) : Type 0 where
@@ -48,29 +57,29 @@ module _ (h : List Revision) (grown : IsGrown h) (spell : AllSpell h) (new : Id)
       by None is = nothing_old new
       by (Some p) is = record { old = inr (grown.sane p (place_within h id p is)); spell = spell p; unborn = unborn_at h p new grown.born fresh }
 
-  edge_spells : (e : Edge) → AreChanges e.changes → HasLawfulEntries (edge_tree h new e)
-  edge_spells e lawful = let p = parent_of e.parent in after_spells (parent_tree h e.parent) e.changes new p.old p.spell (unsorted e.changes lawful).each
+  edge_spells : (e : Edge) → AreChanges e.changes → ((c : Change) → Split e.changes c → IsNoLonger MAX_TEXT c) → HasLawfulEntries (edge_tree h new e)
+  edge_spells e lawful short = let p = parent_of e.parent in after_spells (parent_tree h e.parent) e.changes new p.old p.spell (unsorted e.changes lawful).each short
 
   edge_sane : (e : Edge) → AreChanges e.changes → first_fault (parent_tree h e.parent) e.changes ≡ None → IsSane (edge_tree h new e)
   edge_sane e lawful fine =
       let p = parent_of e.parent in
       after_is_sane (parent_tree h e.parent) e.changes new p.old (renames_differ e.changes (unsorted e.changes lawful)) p.unborn fine
 
-  made_spells : (edges : List Edge) → AreEdges edges → bad_change h 1 edges ≡ None → HasLawfulEntries (made_tree h new edges)
-  made_spells [] lawful fine = absurd lawful
-  made_spells (e ∷ []) lawful fine = edge_spells e lawful
-  made_spells (e ∷ g ∷ []) lawful fine =
+  pub made_spells : (edges : List Edge) → AreEdges edges → AreBounded edges → bad_change h 1 edges ≡ None → HasLawfulEntries (made_tree h new edges)
+  made_spells [] lawful short fine = absurd lawful
+  made_spells (e ∷ []) lawful short fine = edge_spells e lawful (short e (head e []))
+  made_spells (e ∷ g ∷ []) lawful short fine =
       let c = both_none _ _ fine in
       let d = both_none _ _ c.1 in
-      joined_spells (edge_tree h new e) (edge_tree h new g) new (edge_sane e lawful.0 (unmapped _ _ c.0)) (edge_sane g lawful.1 (unmapped _ _ d.0)) (edge_spells e lawful.0) (edge_spells g lawful.1)
-  made_spells (e ∷ g ∷ k ∷ more) lawful fine = absurd lawful
+      joined_spells (edge_tree h new e) (edge_tree h new g) new (edge_sane e lawful.0 (unmapped _ _ c.0)) (edge_sane g lawful.1 (unmapped _ _ d.0)) (edge_spells e lawful.0 (short e (head e (g ∷ [])))) (edge_spells g lawful.1 (short g (later e (g ∷ []) g (head g []))))
+  made_spells (e ∷ g ∷ k ∷ more) lawful short fine = absurd lawful
 
 next_spells : (f : List ℕ → List ℕ) (files : Table) (h : List Revision) (l : Logged) (v : Revision) → IsGrown h → AllSpell h → IsNext f files h l v → HasLawfulEntries v.tree
 next_spells f files h l v grown spell next =
     let a = both_none _ _ next.accepted in
     let b = both_none _ _ a.1 in
     let c = both_none _ _ b.1 in
-    subst (λ (r : Revision). HasLawfulEntries r.tree) (sym next.made) (made_spells h grown spell (id_of l.id) (no_place h (id_of l.id) next.fresh) next.read.edges next.spells.reads.lawful c.0)
+    subst (λ (r : Revision). HasLawfulEntries r.tree) (sym next.made) (made_spells h grown spell (id_of l.id) (no_place h (id_of l.id) next.fresh) next.read.edges next.spells.reads.lawful (text_bounds l.text next.read MAX_TEXT next.spells.reads next.short) c.0)
 
 more_spell : (h : List Revision) (v : Revision) → AllSpell h → HasLawfulEntries v.tree → AllSpell (h ++ v ∷ [])
 more_spell h v spell new p = by (slice_get (h ++ v ∷ []) p) refl
