@@ -1,12 +1,13 @@
 -- What a revision text spells is no longer than the text.
-use Rattle.std.specs.Prelude.{replicate, map}
+use Rattle.std.specs.Prelude.{All, replicate, map}
 use Rattle.std.specs.List.{flat_map}
 use Rattle.std.proofs.Common.{◌≤◌, ◌-◌, ◌==◌, ◌||◌, ℕ, Bool, true, false, cond, List, [], ◌∷◌, ◌++◌, length, sym, subst, arith}
 use Rattle.std.proofs.lemmas.List.{length-append}
 use Rattle.mtn_base.specs.Paths.{path_text}
+use Rattle.mtn_base.specs.declared.limits.TheConstants.{MAX_TEXT}
 use Rattle.mtn_base.specs.Quoted.{escaped_byte, quoted}
 use Rattle.mtn_base.proofs.Finding.{Split, later}
-use Rattle.mtn_base.proofs.Members.{head, in_left, in_right}
+use Rattle.mtn_base.proofs.Members.{head, in_left, in_right, taken}
 use Rattle.mtn_basic_io.specs.declared.stanza.Value.TheVariants.{Text}
 use Rattle.mtn_basic_io.specs.Spelling.{LineText, value_text, spaced, longest, line_text, stanza_text, spelling}
 use Rattle.mtn_changes.specs.declared.change.Change.{Change}
@@ -15,13 +16,7 @@ use Rattle.mtn_changes.specs.declared.change.Edge.{Edge}
 use Rattle.mtn_changes.specs.declared.change.Revision.{Revision as Spelled}
 use Rattle.mtn_changes.specs.RevisionText.{IsRevisionText, edge_stanzas, revision_stanzas}
 use Rattle.mtn_changes.specs.Stanzas.{text_line, stanza_of}
-
--- the path that it adds, or the value that it sets
-abbrev pub IsNoLonger : ℕ → Change → Type 0
-IsNoLonger most (AddDir path) = length (path_text path) ≤ most
-IsNoLonger most (AddFile path content) = length (path_text path) ≤ most
-IsNoLonger most (Set path key value) = length value ≤ most
-IsNoLonger most _ = Unit {0}
+use Rattle.mtn_entry_laws.specs.Entries.{IsBounded, AreBounded}
 
 le_trans : (a b c : ℕ) → a ≤ b → b ≤ c → a ≤ c
 le_trans a b c h k = omega (arith, h, k)
@@ -83,14 +78,14 @@ part_in {X} g xs x s = subst (λ l. length (g x) ≤ length (flat_map g l)) (sym
 line_in : (lines : List LineText) (symbol bs : List ℕ) → Split lines (text_line symbol bs) → length bs ≤ length (stanza_text lines)
 line_in lines symbol bs s = le_trans _ _ _ (line_long (longest lines) symbol bs) (part_in (line_text (longest lines)) lines (text_line symbol bs) s)
 
-change_short : (c : Change) (most : ℕ) → length (stanza_text (stanza_of c)) ≤ most → IsNoLonger most c
-change_short (Delete p) most h = tt
-change_short (Rename p q) most h = tt
-change_short (AddDir p) most h = le_trans _ _ _ (line_in (stanza_of (AddDir p)) _ (path_text p) (head _ _)) h
-change_short (AddFile p content) most h = le_trans _ _ _ (line_in (stanza_of (AddFile p content)) _ (path_text p) (head _ _)) h
-change_short (Patch p a b) most h = tt
-change_short (Clear p k) most h = tt
-change_short (Set p k v) most h = le_trans _ _ _ (line_in (stanza_of (Set p k v)) _ v (later _ _ _ (later _ _ _ (head _ _)))) h
+change_short : (c : Change) → length (stanza_text (stanza_of c)) ≤ MAX_TEXT → IsBounded c
+change_short (Delete p) h = tt
+change_short (Rename p q) h = tt
+change_short (AddDir p) h = le_trans _ _ _ (line_in (stanza_of (AddDir p)) _ (path_text p) (head _ _)) h
+change_short (AddFile p content) h = le_trans _ _ _ (line_in (stanza_of (AddFile p content)) _ (path_text p) (head _ _)) h
+change_short (Patch p a b) h = tt
+change_short (Clear p k) h = tt
+change_short (Set p k v) h = le_trans _ _ _ (line_in (stanza_of (Set p k v)) _ v (later _ _ _ (later _ _ _ (head _ _)))) h
 
 module _ (s : List LineText) where
   first : (rest : List (List LineText)) → length (stanza_text s) ≤ length (spelling (s ∷ rest))
@@ -125,8 +120,10 @@ in_flat {X} g xs x y s t = subst (λ l. Split (flat_map g l) y) (sym s.is) (go s
 stanza_there : (r : Spelled) (e : Edge) (c : Change) → Split r.edges e → Split e.changes c → Split (revision_stanzas r) (stanza_of c)
 stanza_there r e c s t = later _ _ _ (later _ _ _ (in_flat edge_stanzas r.edges e (stanza_of c) s (later _ _ _ (in_map stanza_of e.changes c t))))
 
+all_of_split : {X : Type 0} (P : X → Type 0) (xs : List X) → ((x : X) → Split xs x → P x) → All P xs
+all_of_split P xs each k d fits = let r = taken xs k fits in subst P (sym (r.3 d)) (each r.0 r.2)
+
 -- each change of a text
-pub text_bounds : (text : List ℕ) (r : Spelled) (most : ℕ) → IsRevisionText text r → length text ≤ most → (e : Edge) → Split r.edges e → (c : Change) → Split e.changes c → IsNoLonger most c
-text_bounds text r most is short e s c t =
-    change_short c most
-    (le_trans _ _ _ (stanza_in (stanza_of c) (revision_stanzas r) (stanza_there r e c s t)) (subst (λ (bs : List ℕ). length bs ≤ most) is.spelled short))
+pub text_bounds : (text : List ℕ) (r : Spelled) → IsRevisionText text r → length text ≤ MAX_TEXT → AreBounded r.edges
+text_bounds text r is short = all_of_split (λ (e : Edge). All IsBounded e.changes) r.edges (λ e s. all_of_split IsBounded e.changes (λ c t.
+    change_short c (le_trans _ _ _ (stanza_in (stanza_of c) (revision_stanzas r) (stanza_there r e c s t)) (subst (λ (bs : List ℕ). length bs ≤ MAX_TEXT) is.spelled short))))

@@ -34,12 +34,11 @@ use Rattle.mtn_changeset_laws.specs.Laws.{IsOldTree}
 use Rattle.mtn_changeset_laws.proofs.AfterSane.{forest_before}
 use Rattle.mtn_changeset_laws.proofs.Agreeing.{attr_of-joined}
 use Rattle.mtn_changeset_laws.proofs.Joins.{of_map}
-use Rattle.mtn_entry_laws.specs.Entries.{IsLawfulEntry, HasLawfulEntries}
-use Rattle.mtn_entry_laws.proofs.Short.{IsNoLonger}
+use Rattle.mtn_entry_laws.specs.Entries.{IsLawfulEntry, HasLawfulEntries, IsBounded}
 
 -- a change that a text can have
 abbrev pub CanStand : Change → Type 0
-CanStand c = IsChange c × IsNoLonger MAX_TEXT c
+CanStand c = IsChange c × IsBounded c
 
 abbrev HasComp : Slot → Type 0
 HasComp s = (parent : NodeName) (name : List ℕ) → s ≡ Below parent name → IsComp name
@@ -190,8 +189,8 @@ module _ (old : Tree) (all : List Change) (new : Id) (each : (c : Change) → Sp
 all_at_split : {X : Type 0} (P : X → Type 0) (xs : List X) → All P xs → (x : X) → Split xs x → P x
 all_at_split P xs h x s = let q = place_of xs x s in subst P (q.2 x) (All-get_or P xs q.0 x q.1 h)
 
-pub after_spells : (old : Tree) (all : List Change) (new : Id) → IsOldTree old → HasLawfulEntries old → All IsChange all → ((c : Change) → Split all c → IsNoLonger MAX_TEXT c) → HasLawfulEntries (tree_after old all new)
-after_spells old all new before spell lawful short = spell_after old all new (λ c s. (all_at_split IsChange all lawful c s, short c s)) (forest_before old before) spell
+pub after_spells : (old : Tree) (all : List Change) (new : Id) → IsOldTree old → HasLawfulEntries old → All IsChange all → All IsBounded all → HasLawfulEntries (tree_after old all new)
+after_spells old all new before spell lawful short = spell_after old all new (λ c s. (all_at_split IsChange all lawful c s, all_at_split IsBounded all short c s)) (forest_before old before) spell
 
 pub nothing_spells : HasLawfulEntries []
 nothing_spells n e h = absurd cc
