@@ -12,7 +12,13 @@ use Rattle.mtn_history.specs.Errors.{IfDamage}
 use Rattle.mtn_history.specs.Stands.{IsDraft}
 use Rattle.mtn_replay.specs.Files.{file_refusal, with_file}
 
--- the answer to `put_file`, and what is pending then
+-- the answer to `put_file_as`, and what is pending then
+abbrev pub KeepsFile : (List ℕ → List ℕ) → Contents → State → List ℕ → Result (Unit {0}) HistoryError → Pending → Type 0
+KeepsFile f c s bytes (Ok done) p = (file_refusal f s bytes ≡ None) × IsDraft f c p (with_file f s bytes)
+KeepsFile f c s bytes (Err (Refused cause)) p = file_refusal f s bytes ≡ Some cause
+KeepsFile f c s bytes (Err (Store e)) p = IfDamage e (λ _. ⊥)
+
+-- the answer to `put_file`, which is the id besides
 abbrev pub AcceptsFile : (List ℕ → List ℕ) → Contents → State → List ℕ → Result Id HistoryError → Pending → Type 0
 AcceptsFile f c s bytes (Ok id) p = (id.0 ≡ f bytes) × (file_refusal f s bytes ≡ None) × IsDraft f c p (with_file f s bytes)
 AcceptsFile f c s bytes (Err (Refused cause)) p = file_refusal f s bytes ≡ Some cause

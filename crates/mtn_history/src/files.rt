@@ -6,7 +6,7 @@ ghost use Rattle.mtn_ports.specs.Causes.{Rose};
 ghost use Rattle.mtn_ports.specs.Kept.{Stays, with_all};
 ghost use Rattle.mtn_history.specs.Asking.{OnlyAsks};
 ghost use Rattle.mtn_history.specs.Errors.{IfDamage, IfStoreDamage};
-ghost use Rattle.mtn_history.specs.Files.{AcceptsFile, FindsFile, IsFileHeld};
+ghost use Rattle.mtn_history.specs.Files.{AcceptsFile, FindsFile, IsFileHeld, KeepsFile};
 ghost use Rattle.mtn_history.specs.Stands.{IsDraft};
 
 use crate::{Draft, FILES, HistoryError, StoreError};
@@ -33,16 +33,37 @@ impl<'a, K: Keeper> Draft<'a, K> {
             }));
         }
         let id = ident.id(bytes);
+        self.put_file_as(id, bytes)?;
+        Ok(id)
+    }
+
+    /// Keeps a file as [`Draft::put_file`] does, under an id that the caller has and that is not computed again. That it is the
+    /// id of these bytes is trusted by the clause alone.
+    pub fn put_file_as(&mut self, id: Id, bytes: &[u8]) -> Result<(), HistoryError>
+        ensures same_reference { self.new.keeper.ghost_name ≡ self.old.keeper.ghost_name }
+        ensures stays { Stays K.contents K.leaves K.faults self.old.keeper.now self.new.keeper.now }
+        ensures accepts { (f : List ℕ → List ℕ) (c : Contents) (s : State) → K.contents self.new.keeper.now ≡ Some c → IsDraft f c self.old.pending s
+            → id.0 ≡ f bytes.now → KeepsFile f c s bytes.now result self.new.pending }
+        ensures err { OnErr result (self.new.pending ≡ self.old.pending) }
+        ensures sound { IfErr result (λ e. IfStoreDamage e (λ _. ⊥)) }
+        ensures failed { result ≡ Err (HistoryError.Store StoreError.Failed) → Rose (K.faults self.old.keeper.now) (K.faults self.new.keeper.now) }
+        ensures reads { K.reads self.new.keeper.now ≤ K.reads self.old.keeper.now + 1 }
+    {
+        if bytes.len() > MAX_TEXT {
+            return Err(HistoryError::Refused(Cause::TextTooLong {
+                length: bytes.len() as u64,
+            }));
+        }
         let key = id.0.as_slice();
         let mut held = Vec::new(self.alloc());
         if !self.get(FILES, key, &mut held)? {
             self.keep(FILES, key, bytes)?;
-            return Ok(id);
+            return Ok(());
         }
         if held.as_slice() != bytes {
             return Err(HistoryError::Refused(Cause::Collision { id }));
         }
-        Ok(id)
+        Ok(())
     }
 
     /// Whether a file is held under an id. Its bytes are not read: where it is held it asks for one record, and else for two.
