@@ -1,5 +1,5 @@
 -- Each tree of a history has lawful entries.
-use Rattle.std.specs.Prelude.{slice_get}
+use Rattle.std.specs.Prelude.{All, slice_get}
 use Rattle.std.specs.Option.{option_map_or}
 use Rattle.std.proofs.Common.{◌≡◌, ◌≤◌, ◌<◌, ℕ, zero, suc, List, [], ◌∷◌, ◌++◌, length, take, Option, Some, None, refl, sym, ap, subst, inl, inr, arith}
 use Rattle.std.proofs.lemmas.List.{take_all}
@@ -24,11 +24,9 @@ use Rattle.mtn_replay.proofs.Places.{within, no_place, place_within}
 use Rattle.mtn_replay.proofs.Steps.{both_none, unmapped}
 use Rattle.mtn_replay.proofs.Histories.{Place, place, kept_at, last_at, history_is_grown, history_none, history_more}
 use Rattle.mtn_replay.proofs.Histories.Place.{in_front, at_back}
-use Rattle.mtn_entry_laws.specs.Entries.{HasLawfulEntries}
+use Rattle.mtn_entry_laws.specs.Entries.{HasLawfulEntries, HaveLawfulEntries, IsBounded, AreBounded}
+use Rattle.mtn_entry_laws.proofs.Short.{text_bounds}
 use Rattle.mtn_entry_laws.proofs.TreeEntries.{nothing_spells, after_spells, joined_spells}
-
-abbrev AllSpell : List Revision → Type 0
-AllSpell h = (p : ℕ) → HasLawfulEntries (tree_at h p)
 
 -- what is known of a parent's tree
 record IsParent (t : Tree) (new : Id) : Type 0 where
@@ -39,7 +37,7 @@ record IsParent (t : Tree) (new : Id) : Type 0 where
 nothing_old : (new : Id) → IsParent [] new
 nothing_old new = record { old = inl refl; spell = nothing_spells; unborn = λ n e h. absurd cc }
 
-module _ (h : List Revision) (grown : IsGrown h) (spell : AllSpell h) (new : Id) (fresh : IsFresh h new) where
+module _ (h : List Revision) (grown : IsGrown h) (spell : HaveLawfulEntries h) (new : Id) (fresh : IsFresh h new) where
   parent_of : (parent : Option Id) → IsParent (parent_tree h parent) new
   parent_of None = nothing_old new
   parent_of (Some id) = by (place_of h id) refl
@@ -48,31 +46,31 @@ module _ (h : List Revision) (grown : IsGrown h) (spell : AllSpell h) (new : Id)
       by None is = nothing_old new
       by (Some p) is = record { old = inr (grown.sane p (place_within h id p is)); spell = spell p; unborn = unborn_at h p new grown.born fresh }
 
-  edge_spells : (e : Edge) → AreChanges e.changes → HasLawfulEntries (edge_tree h new e)
-  edge_spells e lawful = let p = parent_of e.parent in after_spells (parent_tree h e.parent) e.changes new p.old p.spell (unsorted e.changes lawful).each
+  edge_spells : (e : Edge) → AreChanges e.changes → All IsBounded e.changes → HasLawfulEntries (edge_tree h new e)
+  edge_spells e lawful short = let p = parent_of e.parent in after_spells (parent_tree h e.parent) e.changes new p.old p.spell (unsorted e.changes lawful).each short
 
   edge_sane : (e : Edge) → AreChanges e.changes → first_fault (parent_tree h e.parent) e.changes ≡ None → IsSane (edge_tree h new e)
   edge_sane e lawful fine =
       let p = parent_of e.parent in
       after_is_sane (parent_tree h e.parent) e.changes new p.old (renames_differ e.changes (unsorted e.changes lawful)) p.unborn fine
 
-  made_spells : (edges : List Edge) → AreEdges edges → bad_change h 1 edges ≡ None → HasLawfulEntries (made_tree h new edges)
-  made_spells [] lawful fine = absurd lawful
-  made_spells (e ∷ []) lawful fine = edge_spells e lawful
-  made_spells (e ∷ g ∷ []) lawful fine =
+  pub made_spells : (edges : List Edge) → AreEdges edges → AreBounded edges → bad_change h 1 edges ≡ None → HasLawfulEntries (made_tree h new edges)
+  made_spells [] lawful short fine = absurd lawful
+  made_spells (e ∷ []) lawful short fine = edge_spells e lawful (short 0 e (omega arith))
+  made_spells (e ∷ g ∷ []) lawful short fine =
       let c = both_none _ _ fine in
       let d = both_none _ _ c.1 in
-      joined_spells (edge_tree h new e) (edge_tree h new g) new (edge_sane e lawful.0 (unmapped _ _ c.0)) (edge_sane g lawful.1 (unmapped _ _ d.0)) (edge_spells e lawful.0) (edge_spells g lawful.1)
-  made_spells (e ∷ g ∷ k ∷ more) lawful fine = absurd lawful
+      joined_spells (edge_tree h new e) (edge_tree h new g) new (edge_sane e lawful.0 (unmapped _ _ c.0)) (edge_sane g lawful.1 (unmapped _ _ d.0)) (edge_spells e lawful.0 (short 0 e (omega arith))) (edge_spells g lawful.1 (short 1 g (omega arith)))
+  made_spells (e ∷ g ∷ k ∷ more) lawful short fine = absurd lawful
 
-next_spells : (f : List ℕ → List ℕ) (files : Table) (h : List Revision) (l : Logged) (v : Revision) → IsGrown h → AllSpell h → IsNext f files h l v → HasLawfulEntries v.tree
+next_spells : (f : List ℕ → List ℕ) (files : Table) (h : List Revision) (l : Logged) (v : Revision) → IsGrown h → HaveLawfulEntries h → IsNext f files h l v → HasLawfulEntries v.tree
 next_spells f files h l v grown spell next =
     let a = both_none _ _ next.accepted in
     let b = both_none _ _ a.1 in
     let c = both_none _ _ b.1 in
-    subst (λ (r : Revision). HasLawfulEntries r.tree) (sym next.made) (made_spells h grown spell (id_of l.id) (no_place h (id_of l.id) next.fresh) next.read.edges next.spells.reads.lawful c.0)
+    subst (λ (r : Revision). HasLawfulEntries r.tree) (sym next.made) (made_spells h grown spell (id_of l.id) (no_place h (id_of l.id) next.fresh) next.read.edges next.spells.reads.lawful (text_bounds l.text next.read next.spells.reads next.short) c.0)
 
-more_spell : (h : List Revision) (v : Revision) → AllSpell h → HasLawfulEntries v.tree → AllSpell (h ++ v ∷ [])
+more_spell : (h : List Revision) (v : Revision) → HaveLawfulEntries h → HasLawfulEntries v.tree → HaveLawfulEntries (h ++ v ∷ [])
 more_spell h v spell new p = by (slice_get (h ++ v ∷ []) p) refl
   where
     by_place : (k : ℕ) → Place h k → HasLawfulEntries (tree_at (h ++ v ∷ []) k)
@@ -91,7 +89,7 @@ front_more (y ∷ ys) (suc k) x e = ap (λ zs. y ∷ zs) (front_more ys k x e)
 module _ (f : List ℕ → List ℕ) (files : Table) (log : List Logged) (h : List Revision) (is : IsHistory f files log h) where
   record IsFront (k : ℕ) : Type 0 where
     history : IsHistory f files (take k log) (take k h)
-    spell : AllSpell (take k h)
+    spell : HaveLawfulEntries (take k h)
 
   front : (k : ℕ) → k ≤ length h → IsFront k
   front zero le = record { history = history_none f files; spell = λ p. nothing_spells }
@@ -104,8 +102,8 @@ module _ (f : List ℕ → List ℕ) (files : Table) (log : List Logged) (h : Li
       let grown = history_is_grown f files (take k log) (take k h) before.history in
       record {
         history = subst (λ ls. IsHistory f files ls (take (suc k) h)) (sym (front_more log k l.0 l.1)) (subst (IsHistory f files (take k log ++ l.0 ∷ [])) (sym (front_more h k v.0 v.1)) (history_more f files (take k log) (take k h) l.0 v.0 before.history next));
-        spell = subst AllSpell (sym (front_more h k v.0 v.1)) (more_spell (take k h) v.0 before.spell (next_spells f files (take k h) l.0 v.0 grown before.spell next));
+        spell = subst HaveLawfulEntries (sym (front_more h k v.0 v.1)) (more_spell (take k h) v.0 before.spell (next_spells f files (take k h) l.0 v.0 grown before.spell next));
       }
 
-  pub all_spell : AllSpell h
-  all_spell = subst AllSpell (take_all (length h) h (omega arith)) (front (length h) (omega arith)).spell
+  pub all_spell : HaveLawfulEntries h
+  all_spell = subst HaveLawfulEntries (take_all (length h) h (omega arith)) (front (length h) (omega arith)).spell

@@ -1,2 +1,3 @@
+pub mod Short
 pub mod TreeEntries
 pub mod LawfulEntries

@@ -13,7 +13,8 @@ ghost use Rattle.mtn_replay.specs.Lawful.{IsHistory};
 ghost use Rattle.mtn_roster.specs.declared.entry.Entry.{Entry};
 ghost use Rattle.mtn_entry_laws.specs.Entries.{IsLawfulEntry};
 
-/// Over a lawful log each entry of each tree has a lawful component, a lawful path of birth and lawful keys.
+/// Over a lawful log each entry of each tree has a lawful component, a lawful path of birth and lawful keys, and that path and
+/// its values are no longer than a text may be.
 pub fn lawful_entries()
     ensures { (f : List ℕ → List ℕ) (files : Table) (log : List Logged) (h : List Revision) → IsHistory f files log h → (r : ℕ) (n : NodeName) (e : Entry) → entry_at h r n ≡ Some e → IsLawfulEntry e }
 {}

@@ -44,7 +44,7 @@ take_next (y ∷ ys) (suc m) x at = ap (λ zs. y ∷ zs) (take_next ys m x at)
 small_tree : (n : ℕ) → nat_lt 100000 n ≡ false → n ≤ 100000
 small_tree n e = grind (arith, nat_tests, e)
 
-few_nodes : (t : Tree) → too_many t ≡ None → length t ≤ 100000
+pub few_nodes : (t : Tree) → too_many t ≡ None → length t ≤ 100000
 few_nodes t none = by (nat_lt 100000 (length t)) refl none
   where
     by : (b : Bool) → nat_lt 100000 (length t) ≡ b → cond b (Some (TooManyNodes (length t))) None ≡ None → length t ≤ 100000

@@ -12,14 +12,14 @@ ghost use Rattle.mtn_history.specs.Stands.{IsDraft, IsFounded};
 ghost use Rattle.mtn_put_revision.specs.Finding.{IsFound};
 ghost use Rattle.mtn_put_revision.specs.Keeping.{AreKeptAt, AreParents, IsFirstRebuilt, IsMade, with_text};
 
-use crate::records::{KeptParents, Written, log_body, next_number, numbered, write_record};
+use crate::records::{KeptParents, Written, log_body, next_number, write_record};
 use crate::unfit::unfit;
 use mtn_ancestry::Pos;
 use mtn_base::Id;
 use mtn_history::{Draft, Rebuilt, StoreError};
 use mtn_marking::MarkedRoster;
 use mtn_ports::Keeper;
-use mtn_roster_deltas::NumberError;
+use mtn_roster_deltas::{NumberError, number};
 use std::alloc::Global;
 
 /// Puts the records of a revision with this tree and these parents, and the draft remembers its roster. An error leaves what
@@ -33,6 +33,7 @@ pub fn keep<K: Keeper>(
     known: &KeptParents<'_>,
 ) -> Result<(), StoreError>
     requires room { draft.old.pending.count < 2147483648 }
+    requires nodes { length roster.tree ≤ 100000 }
     requires few { length known.now.places.now ≤ 2 }
     requires below { All (λ p. p < draft.old.pending.count) known.now.places.now }
     requires unknown { known.now.places.now ≡ [] → shown known.now.entries.now ≡ [] }
@@ -52,7 +53,7 @@ pub fn keep<K: Keeper>(
 {
     let at = Pos(draft.count());
     let next = next_number(draft)?;
-    let (entries, free) = match numbered(alloc, &roster, known.entries, next) {
+    let (entries, free) = match number(alloc, &roster, known.entries, next) {
         Ok(numbers) => numbers,
         Err(NumberError::Clash) => return Err(unfit(draft, known.places.first().copied())),
         Err(NumberError::NoMemory) => return Err(StoreError::NoMemory),

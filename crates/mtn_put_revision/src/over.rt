@@ -17,7 +17,7 @@ use crate::records::KeptParents;
 use crate::tree::tree_of;
 use crate::uncommon::uncommon_of;
 use mtn_ancestry::Pos;
-use mtn_base::Id;
+use mtn_base::{Id, MAX_NODES};
 use mtn_changes::Revision;
 use mtn_history::{Draft, HistoryError, StoreError};
 use mtn_make_roster::{Basis, mark};
@@ -33,7 +33,8 @@ pub struct NewRevision<'a> {
     pub id: Id,
 }
 
-// The tree that was planned, or the tree that the text's edges make over this basis.
+// The tree that was planned, or the tree that the text's edges make over this basis. No plan is of too many nodes where the
+// records stand for a state: one that is tells nothing, and the tree is made.
 fn tree_or<I: Ident, K: Keeper>(
     alloc: Global,
     ident: &I,
@@ -59,13 +60,14 @@ fn tree_or<I: Ident, K: Keeper>(
         IsNew (I.meaning ident.now) d.stands.history fresh.now → OnOk result (made_refusal_of (I.meaning ident.now) s.files d.stands.history fresh.now.id fresh.now.read.now ≡ None) }
     ensures refused { (s : State) → (d : IsFounded (I.meaning ident.now) (K.contents draft.new.keeper.now) draft.old.pending s) →
         IfErr result (IsRefusal (made_refusal_of (I.meaning ident.now) s.files d.stands.history fresh.now.id fresh.now.read.now)) }
+    ensures few { IfOk result (λ roster. length roster ≤ 100000) }
     ensures damaged { IfSome (K.contents draft.new.keeper.now) (λ c. IfErr result (λ e. IfStoreDamage e
         (IsFound (K.contents draft.new.keeper.now) draft.old.pending (with_all c draft.old.pending.batch)))) }
     ensures failed { result ≡ Err (HistoryError.Store StoreError.Failed) → Rose (K.faults draft.old.keeper.now) (K.faults draft.new.keeper.now) }
 {
     match planned {
-        Some(tree) => Ok(tree),
-        None => tree_of(alloc, ident, draft, fresh.read, basis, parent, fresh.id),
+        Some(tree) if tree.len() <= MAX_NODES as u64 => Ok(tree),
+        _ => tree_of(alloc, ident, draft, fresh.read, basis, parent, fresh.id),
     }
 }
 

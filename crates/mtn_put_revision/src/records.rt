@@ -1,8 +1,7 @@
 // The records of a new revision.
-ghost use Rattle.std.specs.Prelude.{◌≡◌, ◌<◌, ◌≤◌, ◌+◌, All, List, ℕ, length, Err, IfOk, IfErr, IfSome};
+ghost use Rattle.std.specs.Prelude.{◌≡◌, ◌<◌, ◌≤◌, All, List, ℕ, length, Err, IfOk, IfErr, IfSome};
 ghost use Rattle.mtn_ancestry.specs.Log.{list_of};
-ghost use Rattle.mtn_roster_deltas.specs.Numbering.{fresh, shown, AreKnown, IsNumbering};
-ghost use Rattle.mtn_roster_deltas.specs.Spelled.{Spells};
+ghost use Rattle.mtn_roster_deltas.specs.Numbering.{shown};
 ghost use Rattle.mtn_model.specs.State.{State};
 ghost use Rattle.mtn_ports.specs.Causes.{Rose};
 ghost use Rattle.mtn_ports.specs.Kept.{Stays, with_all};
@@ -15,12 +14,11 @@ ghost use Rattle.mtn_put_revision.specs.Finding.{IsFound};
 ghost use Rattle.mtn_put_revision.specs.Keeping.{IsDeltaBody, IsLogBodyOf, IsWhole, IsWrittenOn};
 
 use mtn_ancestry::{ParentList, Pos};
-use mtn_base::{Bytes, Id, List as Items, MAX_NODES, NoMemory};
+use mtn_base::{Bytes, Id, List as Items, NoMemory};
 use mtn_history::{Draft, StoreError};
-use mtn_marking::MarkedRoster;
 use mtn_ports::Keeper;
 use mtn_records::{LogRecord, Numbered, RosterRecord, is_record_at, write_log, write_roster};
-use mtn_roster_deltas::{DEEPEST, NumberError, delta, number};
+use mtn_roster_deltas::{DEEPEST, delta};
 use std::alloc::Global;
 
 /// The greatest number that a log can have as its next: 100,000 for each of 2,147,483,648 revisions, from 1.
@@ -58,26 +56,6 @@ pub fn next_number<K: Keeper>(draft: &mut Draft<'_, K>) -> Result<u64, StoreErro
         return Err(draft.log_held(at));
     }
     Ok(log.next_node)
-}
-
-/// The entries of a marked tree under numbers, and the next number after them. A tree of too many nodes, which no history
-/// has, wants memory.
-pub fn numbered(
-    alloc: Global,
-    roster: &MarkedRoster,
-    known: &[&Numbered],
-    next: u64,
-) -> Result<(Numbered, u64), NumberError>
-    requires { next ≤ 214748364800001 }
-    ensures spells { IfOk result (λ r. Spells r.0 roster.now) }
-    ensures numbers { AreKnown (shown known.now) next → IfOk result (λ r. IsNumbering (shown known.now) next roster.now r.0) }
-    ensures next { AreKnown (shown known.now) next → IfOk result (λ r. r.1 ≡ next + length (fresh (shown known.now) roster.now.tree)) }
-    ensures clash { result ≡ Err NumberError.Clash → AreKnown (shown known.now) next → ⊥ }
-{
-    if roster.roster().len() > MAX_NODES as u64 {
-        return Err(NumberError::NoMemory);
-    }
-    number(alloc, roster, known, next)
 }
 
 /// The body of a roster's record, with the entries that it tells and how many deltas it stands above a whole one.

@@ -1,5 +1,6 @@
 -- The tree, its marks, and its records.
-use Rattle.std.proofs.Common.{◌∙◌, ℕ, List, sym}
+use Rattle.std.proofs.Common.{◌∙◌, ◌≤◌, ℕ, List, length, sym, subst}
+use Rattle.mtn_roster.specs.Tree.{Tree}
 use Rattle.std.proofs.lemmas.Result.{err_from_is_err_and}
 use Rattle.mtn_changes.specs.declared.change.Edge.{Edge}
 use Rattle.mtn_roster_deltas.specs.Numbering.{shown}
@@ -35,6 +36,9 @@ keep-requires-clause-first g c =
     let p = c.args.draft.now.pending in
     moved (λ (x : Pending). IfSome mid (λ y. IsFirstRebuilt (with_all y x.batch) known.places.now (shown known.entries.now) known.depth)) p c.tree_or.new.draft.pending (sym c.tree_or.ensures.pending)
     (told_back (g.K.Keeper.contents c.args.draft.now.keeper.now) mid (λ y. IsFirstRebuilt (with_all y p.batch) known.places.now (shown known.entries.now) known.depth) c.tree_or.ensures.stays.same c.requires.first)
+
+pub keep-requires-clause-nodes : goal.keep-requires-clause-nodes
+keep-requires-clause-nodes g c = subst (λ (t : Tree). length t ≤ 100000) (sym c.in_ok-marked.ensures.tree) c.in_ok-roster.ensures.few
 
 pub returns-in_err-roster-clause-refused : goal.returns-in_err-roster-clause-refused
 returns-in_err-roster-clause-refused g c = λ s d. let p = err_from_is_err_and c.from_residual.result c.from_residual.ensures.1 in rw (p.1, p.2) (c.in_err-roster.ensures.refused s d)

@@ -16,5 +16,5 @@ returns-in-Some-clause-fine g c = λ s d new.
     let f = g.I.Ident.meaning c.args.ident.now in
     planned_fine f s.files d.stands.history c.args.fresh.now c.in-Some.tree (subst (λ (o : Option Tree). IfSome o (λ t. IsPlanned f s.files d.stands.history c.args.fresh.now.text.now t)) c.in-Some.is (c.requires.planned s d)) new
 
-pub returns-in-None-clause-tree : goal.returns-in-None-clause-tree
-returns-in-None-clause-tree g c = λ s d new. c.tree_of.ensures.tree (g.I.Ident.meaning c.args.ident.now) s d
+pub returns-in_default-clause-tree : goal.returns-in_default-clause-tree
+returns-in_default-clause-tree g c = λ s d new. c.tree_of.ensures.tree (g.I.Ident.meaning c.args.ident.now) s d
