@@ -1,3 +1,4 @@
 pub mod Lasting
 pub mod Ordering
 pub mod Planned
+pub mod Births

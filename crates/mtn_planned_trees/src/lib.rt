@@ -1,7 +1,8 @@
 //! That the tree which a plan of a merge decides is the one that its text makes, in laws. Nothing here runs.
 //!
 //! The crates above rely on this: whatever revision the text of a planned merge spells, where its id is new and the log has room
-//! nothing of it is refused, and its tree is the one that was decided. Where no node is reborn that tree is the same under every id.
+//! nothing of it is refused, and its tree is the one that was decided. Where no node is reborn that tree is the same under every
+//! id. An id that is new to the history is the birth of no node that is decided.
 #![tactic(auto)]
 
 ghost use Rattle.std.specs.Prelude.{◌≡◌, false, ℕ, List, [], None};
@@ -13,10 +14,10 @@ ghost use Rattle.mtn_changes.specs.declared.change.Revision.{Revision as Spelled
 ghost use Rattle.mtn_changes.specs.RevisionText.{revision_stanzas};
 ghost use Rattle.mtn_conflicts.specs.declared.lists.Conflicts.{Conflicts};
 ghost use Rattle.mtn_conflicts.specs.Lists.{AreConflictsOf, IsNone};
-ghost use Rattle.mtn_conflicts.specs.Result.{result_of};
+ghost use Rattle.mtn_conflicts.specs.Result.{NoneBornIn, result_of};
 ghost use Rattle.mtn_decide.specs.declared.decision.Decision.{Decision};
 ghost use Rattle.mtn_decide.specs.Decisions.{Merge};
-ghost use Rattle.mtn_history_laws.specs.History.{Revision};
+ghost use Rattle.mtn_history_laws.specs.History.{Revision, IsGrown};
 ghost use Rattle.mtn_model.specs.State.{Logged};
 ghost use Rattle.mtn_model.specs.Table.{Table};
 ghost use Rattle.mtn_plans.specs.Given.{IsChecked};
@@ -43,4 +44,9 @@ pub fn planned_trees_are_made()
 /// Where no node is reborn the tree is the same in a revision of any id.
 pub fn trees_stay()
     ensures { (m : Merge) (x y : Id) → list_any (λ (d : Decision). d.reborn) m.nodes ≡ false → result_of m x ≡ result_of m y }
+{}
+
+/// An id that no revision of the history has is the birth of no node that a merge decides.
+pub fn births_are_held()
+    ensures { (h : List Revision) (l r x : Id) (m : Merge) (rs : List Resolution) → IsGrown h → IsMergeAt h l r m → place_of h x ≡ None → NoneBornIn (overridden rs m).nodes x }
 {}
