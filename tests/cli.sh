@@ -127,6 +127,12 @@ sqlite3 "$work/bad.mtn" "UPDATE kept SET body = x'010203' WHERE kind = 1 AND nam
 row "a bad record is shown" 8 x 'damaged 1 636f756e74 010203\n' "$work/bad.mtn" put_file
 sqlite3 "$work/bad.mtn" "UPDATE kept SET body = x'0000000000000000' WHERE kind = 1 AND name = CAST('count' AS BLOB); DELETE FROM kept WHERE name = CAST('version' AS BLOB)"
 row "a missing record is shown" 8 x 'missing 1 76657273696f6e\n' "$work/bad.mtn" put_file
+cp "$store" "$work/astray.mtn"
+astray=${abc}000000066272616e63681111111111111111111111111111111111111111000000046d61696e00000000
+sqlite3 "$work/astray.mtn" "INSERT INTO kept VALUES (8, x'$astray', x'')"
+row "a certificate of no revision is shown where heads are asked" 8 '' "damaged 8 $astray \n" "$work/astray.mtn" heads main
+row "and where branches are" 8 '' "damaged 8 $astray \n" "$work/astray.mtn" branches
+row "and no file is" 0 '' 'abc' "$work/astray.mtn" get_file "$abc"
 
 # What is no store is left as it is.
 mkdir "$work/folder"

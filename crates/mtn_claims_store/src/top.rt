@@ -1,6 +1,6 @@
 //! The top call.
 ghost use Rattle.std.specs.Prelude.{◌≡◌, IfOk};
-ghost use Rattle.mtn_cli.specs.Run.{MergesAreDecided, OrderFree, Outcomes, Scripts, StaysLawful, is_read};
+ghost use Rattle.mtn_cli.specs.Run.{HeadsMergesAreDecided, MergesAreDecided, OrderFree, Outcomes, Scripts, StaysLawful, is_read};
 ghost use Rattle.mtn_cli.specs.Store.{IsLine, ShowsDamage, is_merging, is_spelled};
 ghost use Rattle.mtn_words.specs.Words.{Reads, command_of};
 ghost use Rattle.mtn_frame.specs.Frame.{Completes, HasCauses, LeavesRecords, Meets, Survives, TellsDamage, Writes};
@@ -50,6 +50,9 @@ pub fn run<R: Threads + Sync, I: Ident, S: Source, O: Sink, K: Keeper>(
         (K.leaves keeper.old) (K.leaves keeper.new) }
     ensures order_free { OrderFree (I.meaning ident.now) words.now }
     ensures merges { MergesAreDecided (I.meaning ident.now) words.now
+        (record { contents = K.contents keeper.old; left = S.left source.old; written = O.written sink.old })
+        (record { contents = K.contents keeper.new; left = S.left source.new; written = O.written sink.new }) result }
+    ensures merges_heads { HeadsMergesAreDecided (I.meaning ident.now) words.now
         (record { contents = K.contents keeper.old; left = S.left source.old; written = O.written sink.old })
         (record { contents = K.contents keeper.new; left = S.left source.new; written = O.written sink.new }) result }
 {

@@ -1,7 +1,5 @@
 // The commands `heads` and `branches`.
-ghost use Rattle.std.specs.Prelude.{◌≡◌, ◌↔◌, List as Seq, ℕ, Contains, Err, IfErr, IfOk, IfSome};
-ghost use Rattle.mtn_branches.specs.Graphs.{IsHeldBy};
-ghost use Rattle.mtn_certs.specs.Certificates.{Certificate};
+ghost use Rattle.std.specs.Prelude.{◌≡◌, List as Seq, ℕ, Err, IfErr, IfOk, IfSome};
 ghost use Rattle.mtn_commands.specs.Certifying.{AreHeadsOver};
 ghost use Rattle.mtn_commands.specs.Drafts.{Drafts};
 ghost use Rattle.mtn_history.specs.Damage.{IsDamage};
@@ -13,30 +11,14 @@ ghost use Rattle.mtn_step.specs.Certifying.{value_lines as lines_of};
 ghost use Rattle.mtn_step.specs.Step.{Steps};
 
 use crate::ask::id_lines;
-use mtn_ancestry::Graph;
 use mtn_base::{Bytes, Id, NoMemory};
-use mtn_certs::Cert;
 use mtn_history::{Draft, HistoryError, StoreError};
 use mtn_ports::{Ident, Keeper};
-use mtn_put_certs::certs;
+use mtn_put_certs::graph_and_certs;
 use mtn_step::Call;
 use std::alloc::Global;
 
-// The certificates of revisions that the graph has.
-fn known(alloc: Global, graph: &Graph, certs: Vec<Cert>) -> Result<Vec<Cert>, NoMemory>
-    ensures { IfOk result (λ known. (x : Certificate) → Contains known.items x ↔ (Contains certs.items x × IsHeldBy graph.now x.revision)) }
-{
-    let mut known = Vec::with_capacity(alloc, certs.len())?;
-    for cert in certs {
-        if graph.find(cert.revision).is_some() {
-            known.push(cert)?;
-        }
-    }
-    Ok(known)
-}
-
-/// The heads of a branch, by ascending ids. A certificate of a revision that the log does not have makes no member; where one is
-/// held the records stand for no state.
+/// The heads of a branch, by ascending ids. A certificate of a revision that the log does not have is damage.
 pub fn heads_of<K: Keeper>(
     alloc: Global,
     draft: &mut Draft<'_, K>,
@@ -49,10 +31,8 @@ pub fn heads_of<K: Keeper>(
     ensures damaged { IfSome (K.contents draft.new.keeper.now) (λ c. IsCounted draft.old.pending c → IfErr result (λ e. IfDamage e (IsDamage (with_all c draft.old.pending.batch)))) }
     ensures failed { result ≡ Err StoreError.Failed → Rose (K.faults draft.old.keeper.now) (K.faults draft.new.keeper.now) }
 {
-    let certs = certs(draft)?;
-    let graph = draft.graph()?;
-    let known = known(alloc, &graph, certs)?;
-    Ok(mtn_branches::heads(alloc, &graph, &known, branch)?)
+    let (graph, certs) = graph_and_certs(draft)?;
+    Ok(mtn_branches::heads(alloc, &graph, &certs, branch)?)
 }
 
 /// Answers the heads of a branch.
@@ -83,7 +63,7 @@ fn value_lines(alloc: Global, values: &[Bytes]) -> Result<Bytes, NoMemory>
     Ok(Bytes::from_vec(text))
 }
 
-/// Answers the branches that have a member.
+/// Answers the branches that have a member. A certificate of a revision that the log does not have is damage.
 pub fn branches<I: Ident, K: Keeper>(
     alloc: Global,
     ident: &I,
@@ -94,7 +74,7 @@ pub fn branches<I: Ident, K: Keeper>(
     ensures drafts { Drafts (I.meaning ident.now) K.contents K.leaves K.faults draft.old.keeper.now draft.new.keeper.now draft.old.pending draft.new.pending
         (Steps (I.meaning ident.now) Call.Branches payload.now) result }
 {
-    let certs = certs(draft)?;
+    let (_graph, certs) = graph_and_certs(draft)?;
     let values = mtn_branches::branches(alloc, &certs)?;
     Ok(value_lines(alloc, &values)?)
 }

@@ -1,4 +1,4 @@
-use Rattle.mtn_cli.proofs.RunLemmas.{merges_are_decided, order_free, stays_lawful}
+use Rattle.mtn_cli.proofs.RunLemmas.{heads_merges_are_decided, merges_are_decided, order_free, stays_lawful}
 use Rattle.mtn_cli.proofs.top.run.Goals as goal
 
 pub returns : goal.returns
@@ -15,4 +15,5 @@ returns g c =
       crash = all.crash;
       order_free = order_free (g.I.Ident.meaning c.args.ident.now) c.args.words.now;
       merges = merges_are_decided (g.I.Ident.meaning c.args.ident.now) c.args.words.now _ _ c.run_words.result all.meets;
+      merges_heads = heads_merges_are_decided (g.I.Ident.meaning c.args.ident.now) c.args.words.now _ _ c.run_words.result all.meets;
     }
