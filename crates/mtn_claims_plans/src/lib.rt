@@ -11,7 +11,7 @@ ghost use Rattle.mtn_plans.specs.Plans.{Looks, Plans};
 ghost use Rattle.mtn_ports.specs.Causes.{Rose};
 ghost use Rattle.mtn_ports.specs.Kept.{Stays, with_all};
 ghost use Rattle.mtn_resolve.specs.Texts.{AreResolutions};
-ghost use Rattle.mtn_merge.specs.Plans.{AreOrdered, AreShown, Gives, HasTree, MergesText, outcomes};
+ghost use Rattle.mtn_merge.specs.Plans.{AreShown, Gives, HasIds, HasTree, MergesText, outcomes};
 
 use mtn_base::{Bytes, Cause, Id, MAX_TEXT};
 use mtn_history::{Draft, HistoryError, StoreError};
@@ -52,7 +52,7 @@ pub fn planned<I: Ident, K: Keeper>(
     ensures pending { draft.new.pending ≡ draft.old.pending }
     ensures plans { (s : State) (d : IsFounded (I.meaning ident.now) (K.contents draft.new.keeper.now) draft.old.pending s) →
         Gives (Plans (I.meaning ident.now) s.files d.stands.history a b resolutions.now) (outcomes result) }
-    ensures ordered { IfOk result AreOrdered }
+    ensures ids { IfOk result (HasIds (I.meaning ident.now)) }
     // Only of lawful resolutions: with others the text may be none that is read.
     ensures tree { (s : State) (d : IsFounded (I.meaning ident.now) (K.contents draft.new.keeper.now) draft.old.pending s) → AreResolutions [] resolutions.now →
         IfOk result (HasTree (I.meaning ident.now) s.files d.stands.history) }
@@ -76,7 +76,7 @@ pub fn planned_with<I: Ident, K: Keeper>(
     ensures pending { draft.new.pending ≡ draft.old.pending }
     ensures merges { (s : State) (d : IsFounded (I.meaning ident.now) (K.contents draft.new.keeper.now) draft.old.pending s) →
         Gives (MergesText (I.meaning ident.now) s.files d.stands.history a b (option_copied text.entry)) (outcomes result) }
-    ensures ordered { IfOk result AreOrdered }
+    ensures ids { IfOk result (HasIds (I.meaning ident.now)) }
     ensures tree { (s : State) (d : IsFounded (I.meaning ident.now) (K.contents draft.new.keeper.now) draft.old.pending s) → IfOk result (HasTree (I.meaning ident.now) s.files d.stands.history) }
     ensures damaged { IfSome (K.contents draft.new.keeper.now) (λ c. IsCounted draft.old.pending c → IfErr result (λ e. IfStoreDamage e (IsDamage (with_all c draft.old.pending.batch)))) }
     ensures failed { result ≡ Err (HistoryError.Store StoreError.Failed) → Rose (K.faults draft.old.keeper.now) (K.faults draft.new.keeper.now) }

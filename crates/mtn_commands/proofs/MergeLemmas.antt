@@ -180,11 +180,12 @@ module _ (f : List ℕ → List ℕ) (a b : Id) (payload : List ℕ) {K : Type 0
   not_shown result e is looks damage rose = subst (Drafts f contents leaves faults old new before after Shows) (sym is) (show_err e looks damage rose)
 
 -- a tree that is handed on with a text, for the put over an equal name of what is pending
-pub put_with : (f : List ℕ → List ℕ) (told : Option Contents) (p q : Pending) → q ≡ p → (same_text text : List ℕ) → same_text ≡ text → (tree : Option Tree) → ((s : State) (d : IsFounded f told p s) → HasTree f s.files d.stands.history (planned.Merged text tree)) →
+pub put_with : (f : List ℕ → List ℕ) (told : Option Contents) (p q : Pending) → q ≡ p → (same_text text : List ℕ) → same_text ≡ text → (id : Id) (tree : Option Tree) →
+    ((s : State) (d : IsFounded f told p s) → HasTree f s.files d.stands.history (planned.Merged text id tree)) →
     (s : State) → (d : IsFounded f told q s) → IfSome tree (λ t. IsPlanned f s.files d.stands.history same_text t)
-put_with f told p q same same_text text is tree has = subst (λ (y : Pending). (s : State) → (d : IsFounded f told y s) → IfSome tree (λ t. IsPlanned f s.files d.stands.history same_text t)) (sym same)
+put_with f told p q same same_text text is id tree has = subst (λ (y : Pending). (s : State) → (d : IsFounded f told y s) → IfSome tree (λ t. IsPlanned f s.files d.stands.history same_text t)) (sym same)
     (subst (λ (w : List ℕ). (s : State) → (d : IsFounded f told p s) → IfSome tree (λ t. IsPlanned f s.files d.stands.history w t)) (sym is) (by tree has))
   where
-    by : (o : Option Tree) → ((s : State) (d : IsFounded f told p s) → HasTree f s.files d.stands.history (planned.Merged text o)) → (s : State) → (d : IsFounded f told p s) → IfSome o (λ t. IsPlanned f s.files d.stands.history text t)
+    by : (o : Option Tree) → ((s : State) (d : IsFounded f told p s) → HasTree f s.files d.stands.history (planned.Merged text id o)) → (s : State) → (d : IsFounded f told p s) → IfSome o (λ t. IsPlanned f s.files d.stands.history text t)
     by None has s d = tt
     by (Some t) has s d = has s d

@@ -1,6 +1,5 @@
 -- The tree of a merge and its text, over a history that has the sides.
-use Rattle.std.specs.List.{list_any}
-use Rattle.std.specs.Prelude.{IfSome, nat_lt, length, if◌then◌else◌}
+use Rattle.std.specs.Prelude.{nat_lt, length, if◌then◌else◌}
 use Rattle.std.specs.Option.{option_map_or}
 use Rattle.std.proofs.Common.{◌≡◌, ◌<◌, ◌≤◌, ℕ, Bool, true, false, List, [], Option, Some, None, Ok, Err, refl, sym, ◌∙◌, ap, subst}
 use Rattle.std.proofs.lemmas.Bool.Decides.{nat_tests}
@@ -16,7 +15,6 @@ use Rattle.mtn_changeset_laws.specs.Changes.{or_else}
 use Rattle.mtn_changeset_laws.specs.Laws.{NoneBornIn}
 use Rattle.mtn_conflicts.specs.Result.{result_of}
 use Rattle.mtn_decide.specs.Decisions.{Merge}
-use Rattle.mtn_decide.specs.declared.decision.Decision.{Decision}
 use Rattle.mtn_history.specs.declared.errors.HistoryError.{HistoryError}
 use Rattle.mtn_history.specs.declared.errors.HistoryError.TheVariants.{Refused, Store}
 use Rattle.mtn_history_laws.specs.History.{Revision, tree_at}
@@ -25,7 +23,7 @@ use Rattle.mtn_plans.specs.declared.outcome.Outcome.TheVariants.{Merged}
 use Rattle.mtn_put_revision.specs.Finding.{IsRefusal}
 use Rattle.mtn_replay.specs.Making.{parent_tree, too_long, too_many}
 use Rattle.mtn_roster.specs.Tree.{Tree}
-use Rattle.mtn_merge.specs.Plans.{Gives, HasKept, IsKept, IsMadeOf, revision_of_sides, text_of_sides}
+use Rattle.mtn_merge.specs.Plans.{Gives, HasKept, IsMadeOf, IsTreeIn, revision_of_sides, text_of_sides}
 use Rattle.mtn_merge.specs.Sides.{IsSideOf}
 use Rattle.mtn_merge.specs.declared.answer.Planned.TheVariants as planned
 use Rattle.mtn_merge.specs.declared.sides.Side.{Side}
@@ -89,22 +87,18 @@ module _ (f : List ℕ → List ℕ) (h : List Revision) (left right : Side) (m 
         ap (λ a. revision_of_sides f left.id a right.id right.roster.tree t) (sym (side_tree h left sl))
         ∙ ap (λ b. revision_of_sides f left.id (parent_tree h (Some left.id)) right.id b t) (sym (side_tree h right sr))
 
-    -- the tree that is handed on with it
-    kept : nat_lt MAX_TEXT (length text) ≡ false → AreStanzas (revision_stanzas (revision_of_sides f left.id left.roster.tree right.id right.roster.tree t)) → list_any (λ (d : Decision). d.reborn) m.nodes ≡ false → IsKept f h left.id right.id m text t
-    kept e stanzas lasting = record {
-      id = x;
+    -- what is handed on
+    pub kept : nat_lt MAX_TEXT (length text) ≡ false → AreStanzas (revision_stanzas (revision_of_sides f left.id left.roster.tree right.id right.roster.tree t)) → (id : Id) → id.0 ≡ f text → (tree : Option Tree) → IsTreeIn m id tree →
+        HasKept f h left.id right.id m (planned.Merged text id tree)
+    kept e stanzas id named tree under = record {
+      first = x;
       unborn = born_nowhere;
-      is = is;
-      lasting = lasting;
       within = ap (limit_refusal f h left.id right.id) (sym is) ∙ limit_is ∙ ap (λ (b : Bool). if b then Some (TextTooLong (length text)) else None) e;
       spelled = same ∙ text_is ∙ ap (merge_text f h left.id right.id) is;
       stanzas = subst (λ (u : Tree). AreStanzas (revision_stanzas (merge_revision f h left.id right.id u))) is (subst (λ (z : Spelled). AreStanzas (revision_stanzas z)) revision_is stanzas);
+      named = named;
+      made = under;
     }
-
-    pub has_kept : nat_lt MAX_TEXT (length text) ≡ false → AreStanzas (revision_stanzas (revision_of_sides f left.id left.roster.tree right.id right.roster.tree t)) → (o : Option Tree) →
-        IfSome o (λ u. (u ≡ t) × (list_any (λ (d : Decision). d.reborn) m.nodes ≡ false)) → HasKept f h left.id right.id m (planned.Merged text o)
-    has_kept e stanzas None is = tt
-    has_kept e stanzas (Some u) is = subst (IsKept f h left.id right.id m text) (sym is.0) (kept e stanzas is.1)
 
   pub refused_made : (e : HistoryError) → IsRefusal (or_else (too_many t) (too_long t)) e → Gives (IsMadeOf f h left.id right.id m) (Err e)
   refused_made (Refused cause) is = too_much cause is

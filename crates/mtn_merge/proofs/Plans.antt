@@ -25,7 +25,7 @@ use Rattle.mtn_resolve.specs.Texts.{AreResolutions}
 use Rattle.mtn_resolve.specs.declared.resolution.Resolution.{Resolution}
 use Rattle.mtn_merge.proofs.None.{not_overridden}
 use Rattle.mtn_merge.specs.Given.{GivesResolutions, Overrides}
-use Rattle.mtn_merge.specs.Plans.{AreOrdered, Gives, HasClear, HasKept, IsMadeOf, IsText, MergesText}
+use Rattle.mtn_merge.specs.Plans.{Gives, HasClear, HasKept, IsMadeOf, MergesText}
 use Rattle.mtn_merge.specs.Sides.{AreCompared, FindsSides}
 use Rattle.mtn_merge.specs.declared.answer.Planned.{Planned}
 use Rattle.mtn_merge.specs.declared.answer.Planned.TheVariants as planned
@@ -37,14 +37,8 @@ unless_some o cause Is e = subst (λ u. Unless u Is (Err cause)) (sym e) refl
 pub unless_none : (o : Option Cause) (Is : Plan → Type 0) (plan : Plan) → o ≡ None → Is plan → Unless o Is plan
 unless_none o Is plan e is = subst (λ u. Unless u Is plan) (sym e) is
 
-pub texts_are_ordered : (r : Result Planned HistoryError) → IfOk r IsText → IfOk r AreOrdered
-texts_are_ordered (Ok (planned.Merged text tree)) is = tt
-texts_are_ordered (Ok (planned.Conflicted left right conflicts)) is = absurd is
-texts_are_ordered (Err e) is = tt
-
 pub clear_kept : (f : List ℕ → List ℕ) (h : List Revision) (l r : Id) (m : Merge) (clear : AreClear m) (result : Result Planned HistoryError) → IfOk result (HasKept f h l r m) → IfOk result (HasClear f h l r m)
-clear_kept f h l r m clear (Ok (planned.Merged text (Some t))) has = (clear, has)
-clear_kept f h l r m clear (Ok (planned.Merged text None)) has = tt
+clear_kept f h l r m clear (Ok (planned.Merged text id tree)) has = (clear, has)
 clear_kept f h l r m clear (Ok (planned.Conflicted left right conflicts)) has = tt
 clear_kept f h l r m clear (Err e) has = tt
 

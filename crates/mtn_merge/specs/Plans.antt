@@ -1,6 +1,5 @@
 -- What the calls answer.
-use Rattle.std.specs.List.{list_any}
-use Rattle.std.specs.Prelude.{◌≡◌, ℕ, true, false, List, [], ◌∷◌, Option, Some, None, Result, Ok, Err, ⊤}
+use Rattle.std.specs.Prelude.{◌≡◌, ℕ, true, false, List, [], ◌∷◌, Option, Some, None, IsSome, Result, Ok, Err, ⊤}
 use Rattle.mtn_base.specs.Hex.{id_of}
 use Rattle.mtn_base.specs.declared.id.Id.{Id}
 use Rattle.mtn_basic_io.specs.Spelling.{AreStanzas, spelling}
@@ -9,9 +8,8 @@ use Rattle.mtn_changes.specs.RevisionText.{revision_stanzas}
 use Rattle.mtn_changes.specs.declared.change.Revision.{Revision as Spelled}
 use Rattle.mtn_conflicts.specs.ConflictText.{IsLesser}
 use Rattle.mtn_conflicts.specs.Lists.{AreClear}
-use Rattle.mtn_conflicts.specs.Result.{result_of}
+use Rattle.mtn_conflicts.specs.Result.{NoneBornIn, result_of}
 use Rattle.mtn_decide.specs.Decisions.{Merge}
-use Rattle.mtn_decide.specs.declared.decision.Decision.{Decision}
 use Rattle.mtn_history.specs.declared.errors.HistoryError.{HistoryError}
 use Rattle.mtn_history.specs.declared.errors.HistoryError.TheVariants.{Refused, Store}
 use Rattle.mtn_history_laws.specs.History.{Revision}
@@ -21,6 +19,7 @@ use Rattle.mtn_plans.specs.Plans.{Plan, IsResult, IsUnborn, limit_refusal, merge
 use Rattle.mtn_plans.specs.declared.outcome.Outcome.{Outcome}
 use Rattle.mtn_plans.specs.declared.outcome.Outcome.TheVariants.{Merged, Conflicted}
 use Rattle.mtn_put_revision.specs.Keeping.{IsPlanned}
+use Rattle.mtn_replay.specs.Making.{place_of}
 use Rattle.mtn_roster.specs.Tree.{Tree}
 use Rattle.mtn_merge.specs.declared.answer.Planned.{Planned}
 use Rattle.mtn_merge.specs.declared.answer.Planned.TheVariants as planned
@@ -31,24 +30,19 @@ Gives Is (Ok outcome) = Is (Ok outcome)
 Gives Is (Err (Refused cause)) = Is (Err cause)
 Gives Is (Err (Store e)) = ⊤
 
--- what is planned, without its tree
+-- what is planned, without the text's id and its tree
 abbrev pub outcome_of : Planned → Outcome
-outcome_of (planned.Merged text tree) = Merged text
+outcome_of (planned.Merged text id tree) = Merged text
 outcome_of (planned.Conflicted left right conflicts) = Conflicted left right conflicts
 
 abbrev pub outcomes : Result Planned HistoryError → Result Outcome HistoryError
 outcomes (Ok plan) = Ok (outcome_of plan)
 outcomes (Err e) = Err e
 
--- conflicts are those of a lesser id and a greater one
-abbrev pub AreOrdered : Planned → Type 0
-AreOrdered (planned.Merged text tree) = ⊤
-AreOrdered (planned.Conflicted left right conflicts) = IsLesser left right
-
--- it is no list of conflicts
-abbrev pub IsText : Planned → Type 0
-IsText (planned.Merged text tree) = ⊤
-IsText (planned.Conflicted left right conflicts) = ⊥
+-- its ids: the text's own, or those of the sides, the lesser first
+abbrev pub HasIds : (List ℕ → List ℕ) → Planned → Type 0
+HasIds f (planned.Merged text id tree) = id.0 ≡ f text
+HasIds f (planned.Conflicted left right conflicts) = IsLesser left right
 
 -- only conflicts are shown
 abbrev pub AreShown : Outcome → Type 0
@@ -69,32 +63,35 @@ text_of_sides f l left r right t = spelling (revision_stanzas (revision_of_sides
 abbrev pub IsMadeOf : (List ℕ → List ℕ) → List Revision → Id → Id → Merge → Plan → Type 0
 IsMadeOf f h l r m plan = (t : Tree) × IsResult h l r m t × (plan ≡ merged_or (limit_refusal f h l r t) (merge_text f h l r t))
 
--- The tree that is handed on with a text: the one that decisions make in a revision of any id, since none of them is of a reborn node;
--- within the limits, and with this text, whose stanzas are stanzas
-pub record IsKept (f : List ℕ → List ℕ) (h : List Revision) (l r : Id) (m : Merge) (text : List ℕ) (t : Tree) : Type 0 where
-  pub id : Id
-  pub unborn : IsUnborn h l r id
-  pub is : t ≡ result_of m id
-  pub lasting : list_any (λ (d : Decision). d.reborn) m.nodes ≡ false
-  pub within : limit_refusal f h l r (result_of m id) ≡ None
-  pub spelled : text ≡ merge_text f h l r (result_of m id)
-  pub stanzas : AreStanzas (revision_stanzas (merge_revision f h l r (result_of m id)))
+-- the tree that decisions make in a revision of an id; none where the id is the birth of a node that is decided
+abbrev pub IsTreeIn : Merge → Id → Option Tree → Type 0
+IsTreeIn m id (Some t) = t ≡ result_of m id
+IsTreeIn m id None = ¬ NoneBornIn m.nodes id
+
+-- A text with its id and the tree in a revision of that id. The text is that of the tree which the same decisions make in a revision
+-- of an id that is no birth: within the limits, and its stanzas are stanzas
+pub record IsKept (f : List ℕ → List ℕ) (h : List Revision) (l r : Id) (m : Merge) (text : List ℕ) (id : Id) (tree : Option Tree) : Type 0 where
+  pub first : Id
+  pub unborn : IsUnborn h l r first
+  pub within : limit_refusal f h l r (result_of m first) ≡ None
+  pub spelled : text ≡ merge_text f h l r (result_of m first)
+  pub stanzas : AreStanzas (revision_stanzas (merge_revision f h l r (result_of m first)))
+  pub named : id.0 ≡ f text
+  pub made : IsTreeIn m id tree
 
 abbrev pub HasKept : (List ℕ → List ℕ) → List Revision → Id → Id → Merge → Planned → Type 0
-HasKept f h l r m (planned.Merged text (Some t)) = IsKept f h l r m text t
-HasKept f h l r m (planned.Merged text None) = ⊤
+HasKept f h l r m (planned.Merged text id tree) = IsKept f h l r m text id tree
 HasKept f h l r m (planned.Conflicted left right conflicts) = ⊤
 
 -- the same of decisions without conflicts
 abbrev pub HasClear : (List ℕ → List ℕ) → List Revision → Id → Id → Merge → Planned → Type 0
-HasClear f h l r m (planned.Merged text (Some t)) = AreClear m × IsKept f h l r m text t
-HasClear f h l r m (planned.Merged text None) = ⊤
+HasClear f h l r m (planned.Merged text id tree) = AreClear m × IsKept f h l r m text id tree
 HasClear f h l r m (planned.Conflicted left right conflicts) = ⊤
 
--- the tree that is handed on is the one that the text makes
+-- the tree that is handed on is the one that the text makes; there is none only where a revision with the text's id is held
 abbrev pub HasTree : (List ℕ → List ℕ) → Table → List Revision → Planned → Type 0
-HasTree f files h (planned.Merged text (Some t)) = IsPlanned f files h text t
-HasTree f files h (planned.Merged text None) = ⊤
+HasTree f files h (planned.Merged text id (Some t)) = IsPlanned f files h text t
+HasTree f files h (planned.Merged text id None) = IsSome (place_of h id)
 HasTree f files h (planned.Conflicted left right conflicts) = ⊤
 
 -- what a merge comes to with the resolutions of a text, or with none

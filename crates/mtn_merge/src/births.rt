@@ -1,7 +1,9 @@
-// An id that is no birth.
-ghost use Rattle.std.specs.Prelude.{◌≡◌, Contains, IfOk, OnOk, Some};
+// Ids that are no births.
+ghost use Rattle.std.specs.Prelude.{◌≡◌, ◌↔◌, Contains, IfOk, IsTrue, map, OnOk, Some};
 ghost use Rattle.std.specs.List.Sorted.{IsSorted};
 ghost use Rattle.std.specs.Ordering.{nat_cmp};
+ghost use Rattle.mtn_base.specs.Lists.{rises};
+ghost use Rattle.mtn_base.specs.Names.{name_cmp, same_id};
 ghost use Rattle.mtn_base.specs.declared.name.NodeName.{NodeName};
 ghost use Rattle.mtn_changeset_laws.specs.Laws.{NoneBornIn};
 ghost use Rattle.mtn_conflicts.specs.Result.{NoneBornIn as NoneDecidedIn};
@@ -104,4 +106,24 @@ pub fn unborn(
     push_decided(nodes, &mut numbers)?;
     numbers.sort_unstable();
     Ok(id_with(least_missing(&numbers)))
+}
+
+/// Whether a node has this birth.
+fn is_born(node: &Decision, id: Id) -> bool
+    ensures { result ≡ same_id node.now.name.birth id }
+{
+    node.name.birth == id
+}
+
+/// Whether an id is the birth of no node that is decided. It takes no memory.
+pub fn none_is_born(nodes: &[Decision], id: Id) -> bool
+    requires { IsTrue (rises name_cmp (map (λ (d : Decided). d.name) nodes.now)) }
+    ensures { IsTrue result ↔ NoneDecidedIn nodes.now id }
+{
+    for node in nodes {
+        if is_born(node, id) {
+            return false;
+        }
+    }
+    true
 }

@@ -6,11 +6,13 @@
 //! from both sides to it.
 //!
 //! The crate above relies on this: [`plan`], [`plan_with`] and [`look`] answer exactly what the definitions of `mtn_plans` say
-//! over the history that a draft stands on, and leave the draft's state. No body relies on the history: what a
-//! history never has is answered as damage of a record.
+//! over the history that a draft stands on, and leave the draft's state. With a text comes its id, and the tree that it makes:
+//! of each text that is new to the history. No body relies on the history: what a history never has is answered as damage of a
+//! record.
 //!
 //! Cost: each side's roster is read once, and the draft remembers it; one walk between the sides; linear in
-//! both trees. The resulting tree is built once.
+//! both trees. The manifest is printed and hashed once, and so is the text. The resulting tree is built once; where a node is
+//! reborn its births are the text's own id, so that it is built again under that id from the same decisions.
 #![tactic(auto)]
 
 mod answer;

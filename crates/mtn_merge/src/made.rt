@@ -1,24 +1,23 @@
-// The tree of a merge without conflicts, and its text.
-ghost use Rattle.std.specs.List.{list_any};
-ghost use Rattle.std.specs.Prelude.{◌≡◌, ◌≢◌, false, List, None, Err, IfErr, IfOk, IfSome, OnOk};
-ghost use Rattle.mtn_decide.specs.declared.decision.Decision.{Decision as Decided};
+// The tree of a merge without conflicts, its text, and the text's id.
+ghost use Rattle.std.specs.Prelude.{◌≡◌, ◌≢◌, List, None, Err, IfErr, IfOk, OnOk};
+ghost use Rattle.mtn_base.specs.declared.id.Id.{Id as Named};
 ghost use Rattle.mtn_changeset_laws.specs.Changes.{or_else};
 ghost use Rattle.mtn_conflicts.specs.Lists.{AreClear};
-ghost use Rattle.mtn_conflicts.specs.Result.{ParentsAreDirs};
+ghost use Rattle.mtn_conflicts.specs.Result.{ParentsAreDirs, result_of};
 ghost use Rattle.mtn_history.specs.Errors.{IfStoreDamage};
 ghost use Rattle.mtn_history_laws.specs.History.{Revision};
 ghost use Rattle.mtn_put_revision.specs.Finding.{IsRefusal};
 ghost use Rattle.mtn_replay.specs.Making.{too_long, too_many};
-ghost use Rattle.mtn_merge.specs.Plans.{Gives, HasKept, IsMadeOf, IsText, outcomes};
+ghost use Rattle.mtn_merge.specs.Plans.{Gives, HasIds, HasKept, IsMadeOf, IsTreeIn, outcomes};
 ghost use Rattle.mtn_merge.specs.Sides.{IsSideOf};
 
 use crate::answer::Planned;
-use crate::births::unborn;
+use crate::births::{none_is_born, unborn};
 use crate::sides::Side;
 use crate::text::{Parent, revision_text};
-use mtn_base::{Cause, MAX_TEXT};
+use mtn_base::{Cause, Id, MAX_TEXT, NoMemory};
 use mtn_conflicts::{is_some_reborn, result};
-use mtn_decide::{Decision, Decisions};
+use mtn_decide::Decisions;
 use mtn_history::{HistoryError, StoreError};
 use mtn_make_roster::{MakeError, within_limits};
 use mtn_ports::Ident;
@@ -40,18 +39,29 @@ fn limited(alloc: Global, tree: &Roster) -> Result<(), HistoryError>
     }
 }
 
-// The tree, where it is the same in a revision of any id.
-fn lasting(nodes: &[Decision], tree: Roster) -> Option<Roster>
-    ensures { IfSome result (λ t. (t ≡ tree) × (list_any (λ (d : Decided). d.reborn) nodes.now ≡ false)) }
+// The tree that decisions make in a revision of an id, from the one that they make in a revision of another. There is none where
+// the id is the birth of a node already: no new revision has it.
+fn tree_in(
+    alloc: Global,
+    decisions: &Decisions,
+    id: Id,
+    other: Roster,
+) -> Result<Option<Roster>, NoMemory>
+    requires clear { AreClear decisions.now }
+    requires dirs { ParentsAreDirs decisions.now.nodes }
+    ensures { (x : Named) → other ≡ result_of decisions.now x → IfOk result (IsTreeIn decisions.now id) }
 {
-    if is_some_reborn(nodes) {
-        None
-    } else {
-        Some(tree)
+    let nodes = decisions.nodes();
+    if !is_some_reborn(nodes) {
+        return Ok(Some(other));
     }
+    if !none_is_born(nodes, id) {
+        return Ok(None);
+    }
+    Ok(Some(result(alloc, decisions, id)?))
 }
 
-/// The text of the tree that decisions make with that tree, or the first limit that it is not within.
+/// The text of the tree that decisions make, with its id and that tree, or the first limit that it is not within.
 pub fn merged<I: Ident>(
     alloc: Global,
     ident: &I,
@@ -63,15 +73,15 @@ pub fn merged<I: Ident>(
     requires dirs { ParentsAreDirs decisions.now.nodes }
     ensures made { (h : List Revision) → IsSideOf h left.now → IsSideOf h right.now → Gives (IsMadeOf (I.meaning ident.now) h left.now.id right.now.id decisions.now) (outcomes result) }
     ensures kept { (h : List Revision) → IsSideOf h left.now → IsSideOf h right.now → IfOk result (HasKept (I.meaning ident.now) h left.now.id right.now.id decisions.now) }
-    ensures text { IfOk result IsText }
+    ensures ids { IfOk result (HasIds (I.meaning ident.now)) }
     ensures sound { IfErr result (λ e. IfStoreDamage e (λ _. ⊥)) }
     ensures failed { result ≢ Err (HistoryError.Store StoreError.Failed) }
 {
     let old_left = left.roster.marked().roster();
     let old_right = right.roster.marked().roster();
-    let id = unborn(alloc, old_left, old_right, decisions.nodes())?;
-    let tree = result(alloc, decisions, id)?;
-    limited(alloc, &tree)?;
+    let first = unborn(alloc, old_left, old_right, decisions.nodes())?;
+    let made = result(alloc, decisions, first)?;
+    limited(alloc, &made)?;
     let left = Parent {
         id: left.id,
         tree: old_left,
@@ -80,14 +90,13 @@ pub fn merged<I: Ident>(
         id: right.id,
         tree: old_right,
     };
-    let text = revision_text(alloc, ident, &left, &right, &tree)?;
+    let text = revision_text(alloc, ident, &left, &right, &made)?;
     if text.as_slice().len() > MAX_TEXT {
         return Err(HistoryError::Refused(Cause::TextTooLong {
             length: text.as_slice().len() as u64,
         }));
     }
-    Ok(Planned::Merged {
-        text,
-        tree: lasting(decisions.nodes(), tree),
-    })
+    let id = ident.id(text.as_slice());
+    let tree = tree_in(alloc, decisions, id, made)?;
+    Ok(Planned::Merged { text, id, tree })
 }

@@ -16,7 +16,7 @@ ghost use Rattle.mtn_ports.specs.Kept.{Stays, with_all};
 ghost use Rattle.mtn_put_revision.specs.Finding.{IsRefusal};
 ghost use Rattle.mtn_resolve.specs.Texts.{AreResolutions};
 ghost use Rattle.mtn_merge.specs.Given.{GivesResolutions, OverridesAll};
-ghost use Rattle.mtn_merge.specs.Plans.{AreOrdered, AreShown, Gives, HasClear, HasTree, MergesText, outcomes};
+ghost use Rattle.mtn_merge.specs.Plans.{AreShown, Gives, HasClear, HasIds, HasTree, MergesText, outcomes};
 ghost use Rattle.mtn_merge.specs.Sides.{IsSideOf};
 
 use crate::answer::Planned;
@@ -96,7 +96,7 @@ fn ends<I: Ident, K: Keeper>(
     ensures stays { Stays K.contents K.leaves K.faults draft.old.keeper.now draft.new.keeper.now }
     ensures pending { draft.new.pending ≡ draft.old.pending }
     ensures ends { (h : List Revision) → IsSideOf h compared.left → IsSideOf h compared.right → Gives (Ends (I.meaning ident.now) h compared.left.id compared.right.id compared.decisions) (outcomes result) }
-    ensures ordered { IfOk result AreOrdered }
+    ensures ids { IfOk result (HasIds (I.meaning ident.now)) }
     ensures clear { (h : List Revision) → IsSideOf h compared.left → IsSideOf h compared.right → IfOk result (HasClear (I.meaning ident.now) h compared.left.id compared.right.id compared.decisions) }
     ensures damaged { IfSome (K.contents draft.new.keeper.now) (λ c. IsCounted draft.old.pending c → IfErr result (λ e. IfStoreDamage e (IsDamage (with_all c draft.old.pending.batch)))) }
     ensures failed { result ≡ Err (HistoryError.Store StoreError.Failed) → Rose (K.faults draft.old.keeper.now) (K.faults draft.new.keeper.now) }
@@ -155,10 +155,11 @@ fn overridden<K: Keeper>(
     })
 }
 
-/// What a merge of two revisions comes to: the text of the merged revision, or the conflicts that resolutions leave. It is
-/// refused, in this order, for the first revision that is not held; for two that are related; for the first resolution that
-/// does not fit; for the first content that is picked and not held; and where no conflict is left, for a tree of too many
-/// nodes, a path that is too long, and a text of more than 64 MiB. The draft's state stays.
+/// What a merge of two revisions comes to: the text of the merged revision with its id and, where the text is new to the history,
+/// the tree that it makes; or the conflicts that resolutions leave. It is refused, in this order, for the first revision that is
+/// not held; for two that are related; for the first resolution that does not fit; for the first content that is picked and not
+/// held; and where no conflict is left, for a tree of too many nodes, a path that is too long, and a text of more than 64 MiB.
+/// The draft's state stays.
 pub fn plan<I: Ident, K: Keeper>(
     alloc: Global,
     ident: &I,
@@ -172,7 +173,7 @@ pub fn plan<I: Ident, K: Keeper>(
     ensures pending { draft.new.pending ≡ draft.old.pending }
     ensures plans { (s : State) (d : IsFounded (I.meaning ident.now) (K.contents draft.new.keeper.now) draft.old.pending s) →
         Gives (Plans (I.meaning ident.now) s.files d.stands.history a b resolutions.now) (outcomes result) }
-    ensures ordered { IfOk result AreOrdered }
+    ensures ids { IfOk result (HasIds (I.meaning ident.now)) }
     // Only of lawful resolutions: with others the text may be none that is read.
     ensures tree { (s : State) (d : IsFounded (I.meaning ident.now) (K.contents draft.new.keeper.now) draft.old.pending s) → AreResolutions [] resolutions.now →
         IfOk result (HasTree (I.meaning ident.now) s.files d.stands.history) }
@@ -212,7 +213,7 @@ pub fn plan_with<I: Ident, K: Keeper>(
     ensures pending { draft.new.pending ≡ draft.old.pending }
     ensures merges { (s : State) (d : IsFounded (I.meaning ident.now) (K.contents draft.new.keeper.now) draft.old.pending s) →
         Gives (MergesText (I.meaning ident.now) s.files d.stands.history a b (option_copied text.entry)) (outcomes result) }
-    ensures ordered { IfOk result AreOrdered }
+    ensures ids { IfOk result (HasIds (I.meaning ident.now)) }
     ensures tree { (s : State) (d : IsFounded (I.meaning ident.now) (K.contents draft.new.keeper.now) draft.old.pending s) → IfOk result (HasTree (I.meaning ident.now) s.files d.stands.history) }
     ensures damaged { IfSome (K.contents draft.new.keeper.now) (λ c. IsCounted draft.old.pending c → IfErr result (λ e. IfStoreDamage e (IsDamage (with_all c draft.old.pending.batch)))) }
     ensures failed { result ≡ Err (HistoryError.Store StoreError.Failed) → Rose (K.faults draft.old.keeper.now) (K.faults draft.new.keeper.now) }

@@ -32,7 +32,7 @@ use Rattle.mtn_history.specs.declared.errors.StoreError.TheVariants.{Failed, Dam
 use Rattle.mtn_history.specs.declared.pending.Pending.{Pending}
 use Rattle.mtn_history.proofs.Founding.{founded, told_of}
 use Rattle.mtn_history.proofs.MetaLemmas.{opened_by}
-use Rattle.mtn_put_revision.specs.Accepting.{AcceptsRevision, IsCollided, IsHeld}
+use Rattle.mtn_put_revision.specs.Accepting.{IsCollided, IsHeld, KeepsRevision}
 use Rattle.mtn_replay.specs.Accepting.{Decides, refusal_beside, logged_beside}
 use Rattle.mtn_put_revision.specs.Finding.{IsFound, IsRefusal, made_refusal_of}
 use Rattle.mtn_put_revision.specs.Keeping.{Accepts, AcceptsNew, IsSpelled, with_text}
@@ -64,6 +64,11 @@ pub accepted_new : {T : Type 0} (result : Result T HistoryError) (f : List ℕ �
     OnOk result (Accepts f c s h fresh p) → OnOk result (AcceptsNew f c s h fresh p)
 accepted_new (Ok x) f c s h fresh p room known a = record { fine = refused_made f s.files h fresh.id fresh.read.now room known ∙ a.fine; draft = a.draft }
 accepted_new (Err e) f c s h fresh p room known a = tt
+
+pub accepted_parts : {T : Type 0} (result : Result T HistoryError) (f : List ℕ → List ℕ) (c : Contents) (s : State) (h : List Revision) (fresh : NewRevision) (p : Pending) → OnOk result (AcceptsNew f c s h fresh p) →
+    OnOk result ((refusal_of f s.files h fresh.id fresh.read.now ≡ None) × IsDraft f c p (with_text s (record { id = fresh.id.0; text = fresh.text.now })))
+accepted_parts (Ok x) f c s h fresh p a = (a.fine, a.draft)
+accepted_parts (Err e) f c s h fresh p a = tt
 
 -- an id without a text stands nowhere
 find_past : {X : Type 0} (test : X → Bool) (y x : X) (ys : List X) (b : Bool) → test y ≡ b → (k : ℕ) → slice_get (y ∷ ys) k ≡ Some x → ((j : ℕ) → slice_get ys j ≡ Some x → find test ys ≡ None → test x ≡ false) → cond b (Some y) (find test ys) ≡ None → test x ≡ false
@@ -151,7 +156,7 @@ module _ (f : List ℕ → List ℕ) (told : Option Contents) (c : Contents) (p 
   under o e = ap (text_under s.log) (sym named) ∙ e
 
   -- another text is held
-  pub held_other : (e : HistoryError) (q : Pending) → IsHeld s id text (Ok (Some false)) → IsCollided id text e → AcceptsRevision f c s text (Err e) q
+  pub held_other : (e : HistoryError) (q : Pending) → IsHeld s id text (Ok (Some false)) → IsCollided id text e → KeepsRevision f c s text (Err e) q
   held_other (Store Failed) q is why = tt
   held_other (Store NoMemory) q is why = tt
   held_other (Store (Damaged x)) q is why = absurd cc
@@ -163,40 +168,32 @@ module _ (f : List ℕ → List ℕ) (told : Option Contents) (c : Contents) (p 
   )
 
   -- the same text is held
-  pub held_same : (q : Pending) → text_under s.log id.0 ≡ Some text → q ≡ p → AcceptsRevision f c s text (Ok id) q
+  pub held_same : (q : Pending) → text_under s.log id.0 ≡ Some text → q ≡ p → KeepsRevision f c s text (Ok tt) q
   held_same q is same =
       let r = held_spells f s.files s.log d.stands.history id.0 text d.stands.spelled is in (
-        named,
-        (
-          s,
-          decided f s text r.0 d.stands.history (Some text) None short r.1 d.stands.spelled (under (Some text) is)
-              (sym (ap (λ b. cond b None (Some (Collision (id_of (f text))))) ((bytes_eq-Decides text text).1 refl))),
-          subst (λ (x : Pending). IsDraft f c x s) (sym same) draft,
-        ),
+        s,
+        decided f s text r.0 d.stands.history (Some text) None short r.1 d.stands.spelled (under (Some text) is)
+            (sym (ap (λ b. cond b None (Some (Collision (id_of (f text))))) ((bytes_eq-Decides text text).1 refl))),
+        subst (λ (x : Pending). IsDraft f c x s) (sym same) draft,
       )
 
-  -- it is new, and refused
-  pub new_refused : (r : Spelled) → Spells text r → (e : HistoryError) (q : Pending) → text_under s.log id.0 ≡ None → IsRefusal (refusal_of f s.files d.stands.history id r) e → IfSome told (λ x. IfStoreDamage e (IsFound told p (with_all x p.batch))) →
-      AcceptsRevision f c s text (Err e) q
-  new_refused r spells (Store Failed) q unheld refusal found = tt
-  new_refused r spells (Store NoMemory) q unheld refusal found = tt
-  new_refused r spells (Store (Damaged x)) q unheld refusal found = never_found f told p s d x (told_of told c (λ y. IsFound told p (with_all y p.batch) x) tells found)
-  new_refused r spells (Refused cause) q unheld refusal found = (
+  -- it is new: accepted, or refused
+  pub new_kept : (r : Spelled) → Spells text r → (result : Result (Unit {0}) HistoryError) (q : Pending) → text_under s.log id.0 ≡ None → IfErr result (IsRefusal (refusal_of f s.files d.stands.history id r)) →
+      IfSome told (λ x. IfErr result (λ e. IfStoreDamage e (IsFound told p (with_all x p.batch)))) →
+      OnOk result ((refusal_of f s.files d.stands.history id r ≡ None) × IsDraft f c q (with_text s (record { id = id.0; text = text }))) → KeepsRevision f c s text result q
+  new_kept r spells (Ok done) q unheld refusal found kept = (
+    record s { log = s.log ++ record { id = f text; text = text } ∷ [] },
+    decided f s text r d.stands.history None None short spells d.stands.spelled (under None unheld)
+        (sym kept.0 ∙ ap (λ (i : Id). refusal_of f s.files d.stands.history i r) (ap id_of named)),
+    subst (λ (i : List ℕ). IsDraft f c q (with_text s (record { id = i; text = text }))) named kept.1,
+  )
+  new_kept r spells (Err (Store Failed)) q unheld refusal found kept = tt
+  new_kept r spells (Err (Store NoMemory)) q unheld refusal found kept = tt
+  new_kept r spells (Err (Store (Damaged x))) q unheld refusal found kept = never_found f told p s d x (told_of told c (λ y. IsFound told p (with_all y p.batch) x) tells found)
+  new_kept r spells (Err (Refused cause)) q unheld refusal found kept = (
     record s { log = s.log ++ record { id = f text; text = text } ∷ [] },
     decided f s text r d.stands.history None (Some cause) short spells d.stands.spelled (under None unheld)
         (sym refusal ∙ ap (λ (i : Id). refusal_of f s.files d.stands.history i r) (ap id_of named)),
-  )
-
-  -- it is new, and accepted
-  pub new_accepted : (r : Spelled) → Spells text r → (q : Pending) → text_under s.log id.0 ≡ None → refusal_of f s.files d.stands.history id r ≡ None → IsDraft f c q (with_text s (record { id = id.0; text = text })) → AcceptsRevision f c s text (Ok id) q
-  new_accepted r spells q unheld fine kept = (
-    named,
-    (
-      record s { log = s.log ++ record { id = f text; text = text } ∷ [] },
-      decided f s text r d.stands.history None None short spells d.stands.spelled (under None unheld)
-          (sym fine ∙ ap (λ (i : Id). refusal_of f s.files d.stands.history i r) (ap id_of named)),
-      subst (λ (i : List ℕ). IsDraft f c q (with_text s (record { id = i; text = text }))) named kept,
-    ),
   )
 
 -- what was found is damage
@@ -231,9 +228,9 @@ error_damage (Some c) p (Store Failed) h = λ meta. tt
 error_damage (Some c) p (Store NoMemory) h = λ meta. tt
 error_damage (Some c) p (Store (Damaged x)) h = λ meta. found_damage (Some c) c p x refl meta h
 
--- a new text accepted over a draft, under an equal name of what was pending
-abbrev pub NewAccepted : (List ℕ → List ℕ) → Option Contents → Pending → NewRevision → Pending → Type 0
-NewAccepted f told q fresh after = (s : State) → (d : IsFounded f told q s) → IsSpelled f fresh → AcceptsNew f d.records s d.stands.history fresh after
-
-pub moved_new : (f : List ℕ → List ℕ) (told : Option Contents) (p q : Pending) → p ≡ q → (fresh : NewRevision) (after : Pending) → NewAccepted f told p fresh after → NewAccepted f told q fresh after
-moved_new f told p q is fresh after h = subst (λ (x : Pending). NewAccepted f told x fresh after) is h
+-- what a call found that came to an error
+pub result_damage : {T : Type 0} (told : Option Contents) (p : Pending) (result : Result T HistoryError) → IfSome told (λ c. IfErr result (λ e. IfStoreDamage e (IsFound told p (with_all c p.batch)))) →
+    IfSome told (λ c. IsMetaOf (with_all c p.batch) (record { count = p.count; is_new = p.is_new }) → IfErr result (λ e. IfStoreDamage e (IsDamage (with_all c p.batch))))
+result_damage None p result h = tt
+result_damage (Some c) p (Ok x) h = λ meta. tt
+result_damage (Some c) p (Err e) h = error_damage (Some c) p e h

@@ -19,11 +19,16 @@ use Rattle.mtn_replay.specs.Texts.{text_under}
 use Rattle.mtn_model.specs.State.{State}
 use Rattle.mtn_model.specs.Table.{Contents}
 
--- the answer to `put_revision`, and what is pending then
+-- the answer to `put_revision_as`, and what is pending then
+abbrev pub KeepsRevision : (List ℕ → List ℕ) → Contents → State → List ℕ → Result (Unit {0}) HistoryError → Pending → Type 0
+KeepsRevision f c s text (Ok done) p = (t : State) × Decides f s text None t × IsDraft f c p t
+KeepsRevision f c s text (Err (Refused cause)) p = (t : State) × Decides f s text (Some cause) t
+KeepsRevision f c s text (Err (Store e)) p = IfDamage e (λ _. ⊥)
+
+-- the answer to `put_revision`, which is the id besides
 abbrev pub AcceptsRevision : (List ℕ → List ℕ) → Contents → State → List ℕ → Result Id HistoryError → Pending → Type 0
-AcceptsRevision f c s text (Ok id) p = (id.0 ≡ f text) × ((t : State) × Decides f s text None t × IsDraft f c p t)
-AcceptsRevision f c s text (Err (Refused cause)) p = (t : State) × Decides f s text (Some cause) t
-AcceptsRevision f c s text (Err (Store e)) p = IfDamage e (λ _. ⊥)
+AcceptsRevision f c s text (Ok id) p = (id.0 ≡ f text) × KeepsRevision f c s text (Ok tt) p
+AcceptsRevision f c s text (Err e) p = KeepsRevision f c s text (Err e) p
 
 -- the answer where a text spells no revision
 abbrev pub IsUnreadAs : ChangeTextError → HistoryError → Type 0

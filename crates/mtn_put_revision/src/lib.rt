@@ -5,8 +5,8 @@
 //!
 //! The crates above rely on this: [`put_revision`] answers the id of a text that is held already or is accepted, and then the
 //! draft stands for the state with the text at the log's end; or the first refusal, in the order of `specs/Accepting.antt`.
-//! Nothing else changes. A damage is answered only where the draft's records stand for no state. [`put_made`] answers the
-//! same of a text whose tree is known beforehand, and does not make it again.
+//! Nothing else changes. A damage is answered only where the draft's records stand for no state. [`put_revision_as`] answers
+//! the same of a text whose id is known beforehand, and maybe its tree, and makes neither again.
 //!
 //! Cost: linear in the revision's tree and its parents', and in what one of two parents has above it that the other lacks.
 #![tactic(auto)]
@@ -21,5 +21,5 @@ mod tree;
 mod uncommon;
 mod unfit;
 
-pub use put::{MAX_LOG, put_made, put_revision};
+pub use put::{MAX_LOG, put_revision, put_revision_as};
 pub use unfit::roster_held;

@@ -1,4 +1,4 @@
-// The call `put_revision`.
+// The calls `put_revision` and `put_revision_as`.
 ghost use Rattle.std.specs.Prelude.{◌≡◌, ◌≤◌, List, ℕ, length, Some, None, Err, IfErr, IfSome, OnOk, OnErr};
 ghost use Rattle.mtn_changes.specs.RevisionText.{AreEdges};
 ghost use Rattle.mtn_replay.specs.Making.{place_of, refusal_of};
@@ -14,7 +14,7 @@ ghost use Rattle.mtn_history.specs.Stands.{IsDraft, IsFounded};
 ghost use Rattle.mtn_put_revision.specs.Finding.{IsFound, IsRefusal};
 ghost use Rattle.mtn_put_revision.specs.Keeping.{AcceptsNew, IsPlanned, IsSpelled};
 ghost use Rattle.mtn_history.specs.Texts.{TextDamage};
-ghost use Rattle.mtn_put_revision.specs.Accepting.{AcceptsRevision, IsCollided, IsHeld, IsUnreadAs};
+ghost use Rattle.mtn_put_revision.specs.Accepting.{AcceptsRevision, IsCollided, IsHeld, IsUnreadAs, KeepsRevision};
 
 use crate::over::{NewRevision, over_places};
 use crate::places::places_of;
@@ -96,28 +96,38 @@ pub fn put_revision<I: Ident, K: Keeper>(
         IfErr result (λ e. IfStoreDamage e (IsDamage (with_all c draft.old.pending.batch)))) }
     ensures failed { result ≡ Err (HistoryError.Store StoreError.Failed) → Rose (K.faults draft.old.keeper.now) (K.faults draft.new.keeper.now) }
 {
-    put_made(alloc, ident, draft, text, None)
+    if text.len() > MAX_TEXT {
+        return Err(HistoryError::Refused(Cause::TextTooLong {
+            length: text.len() as u64,
+        }));
+    }
+    let id = ident.id(text);
+    put_revision_as(alloc, ident, draft, id, text, None)?;
+    Ok(id)
 }
 
-/// Accepts a revision by its text and answers its id as [`put_revision`] does, with the tree that the text makes where the caller has
-/// it, as who planned the text does. Then it applies no edge, joins no trees, looks for no content, and neither prints nor hashes
-/// the manifest; the text is read, and the marks and records are made, as ever. The tree is trusted by the `requires` alone and
-/// compared with nothing: over every state that the draft may stand for, a new text that the log has room for has to be one of
-/// which nothing is refused and that makes this tree. Other texts are answered whatever the tree. Errors, and what they leave, are
-/// those of `put_revision`. It asks for as many records, without those of the contents.
-pub fn put_made<I: Ident, K: Keeper>(
+/// Accepts a revision by its text as [`put_revision`] does, under an id that the caller has, and with the tree that the text
+/// makes where the caller has it, as who planned the text does. The id is not computed again. With a tree no edge is applied, no
+/// trees are joined, no content is looked for, and no manifest is printed or hashed; the text is read, and the marks and records
+/// are made, as ever. Both are trusted by the `requires` alone and compared with nothing: the id has to be the text's; and over
+/// every state that the draft may stand for, a new text that the log has room for has to be one of which nothing is refused and
+/// that makes this tree. Other texts are answered whatever the tree. Errors, and what they leave, are those of `put_revision`.
+/// It asks for as many records, without those of the contents where there is a tree.
+pub fn put_revision_as<I: Ident, K: Keeper>(
     alloc: Global,
     ident: &I,
     draft: &mut Draft<'_, K>,
+    id: Id,
     text: &[u8],
     tree: Option<Roster>,
-) -> Result<Id, HistoryError>
+) -> Result<(), HistoryError>
+    requires id { id.0 ≡ I.meaning ident.now text.now }
     requires planned { (s : State) → (d : IsFounded (I.meaning ident.now) (K.contents draft.old.keeper.now) draft.old.pending s) →
         IfSome tree (λ t. IsPlanned (I.meaning ident.now) s.files d.stands.history text.now t) }
     ensures same_reference { draft.new.keeper.ghost_name ≡ draft.old.keeper.ghost_name }
     ensures stays { Stays K.contents K.leaves K.faults draft.old.keeper.now draft.new.keeper.now }
     ensures accepts { (c : Contents) (s : State) → K.contents draft.new.keeper.now ≡ Some c → IsDraft (I.meaning ident.now) c draft.old.pending s →
-        AcceptsRevision (I.meaning ident.now) c s text.now result draft.new.pending }
+        KeepsRevision (I.meaning ident.now) c s text.now result draft.new.pending }
     ensures err { OnErr result (draft.new.pending ≡ draft.old.pending) }
     ensures damaged { IfSome (K.contents draft.new.keeper.now) (λ c. IsMetaOf (with_all c draft.old.pending.batch) (record { count = draft.old.pending.count; is_new = draft.old.pending.is_new }) →
         IfErr result (λ e. IfStoreDamage e (IsDamage (with_all c draft.old.pending.batch)))) }
@@ -128,12 +138,11 @@ pub fn put_made<I: Ident, K: Keeper>(
             length: text.len() as u64,
         }));
     }
-    let id = ident.id(text);
     let Some(same) = held_text(alloc, draft, id, text)? else {
         return put_new(alloc, ident, draft, id, text, tree);
     };
     if same {
-        return Ok(id);
+        return Ok(());
     }
     Err(collided(alloc, id, text))
 }
@@ -146,7 +155,7 @@ fn put_new<I: Ident, K: Keeper>(
     id: Id,
     text: &[u8],
     planned: Option<Roster>,
-) -> Result<Id, HistoryError>
+) -> Result<(), HistoryError>
     requires short { length text.now ≤ 67108864 }
     requires id { id.0 ≡ I.meaning ident.now text.now }
     requires new { (f : List ℕ → List ℕ) (c : Contents) (s : State) → K.contents draft.old.keeper.now ≡ Some c → IsDraft f c draft.old.pending s → text_under s.log id.0 ≡ None }
@@ -155,7 +164,7 @@ fn put_new<I: Ident, K: Keeper>(
     ensures same_reference { draft.new.keeper.ghost_name ≡ draft.old.keeper.ghost_name }
     ensures stays { Stays K.contents K.leaves K.faults draft.old.keeper.now draft.new.keeper.now }
     ensures accepts { (c : Contents) (s : State) → K.contents draft.new.keeper.now ≡ Some c → IsDraft (I.meaning ident.now) c draft.old.pending s →
-        AcceptsRevision (I.meaning ident.now) c s text.now result draft.new.pending }
+        KeepsRevision (I.meaning ident.now) c s text.now result draft.new.pending }
     ensures err { OnErr result (draft.new.pending ≡ draft.old.pending) }
     ensures damaged { IfSome (K.contents draft.new.keeper.now) (λ c. IsMetaOf (with_all c draft.old.pending.batch) (record { count = draft.old.pending.count; is_new = draft.old.pending.is_new }) →
         IfErr result (λ e. IfStoreDamage e (IsDamage (with_all c draft.old.pending.batch)))) }
@@ -170,8 +179,7 @@ fn put_new<I: Ident, K: Keeper>(
         read: &read,
         id,
     };
-    accept(alloc, ident, draft, &fresh, planned)?;
-    Ok(id)
+    accept(alloc, ident, draft, &fresh, planned)
 }
 
 // Accepts a text that is new to the log.

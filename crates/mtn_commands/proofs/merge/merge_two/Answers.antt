@@ -1,6 +1,6 @@
 -- The text that is planned is put, or the conflicts are told.
 use Rattle.std.specs.Prelude.{option_copied}
-use Rattle.std.proofs.Common.{Ok, Err, ap, ◌∙◌}
+use Rattle.std.proofs.Common.{Ok, Err, sym, ap, ◌∙◌}
 use Rattle.std.proofs.lemmas.Result.{err_from_is_err_and}
 use Rattle.mtn_plans.specs.declared.outcome.Outcome.TheVariants.{Conflicted, Merged}
 use Rattle.mtn_commands.proofs.MergeLemmas.{found_conflicts, given_over, not_planned, put_replied, put_with}
@@ -40,7 +40,10 @@ returns-in_ok-conflict_text-in-Conflicted-clause-replies g c =
     c.in_ok-text.ensures.stays c.plan_with.new.draft.pending c.in_ok-text.ensures.pending c.in-Conflicted.left c.in-Conflicted.right c.in-Conflicted.conflicts _ c.in_ok-conflict_text-in-Conflicted.ensures
     (given_over f c.args.a c.args.b c.args.resolves said c.args.payload.now told before (Ok (Conflicted c.in-Conflicted.left c.in-Conflicted.right c.in-Conflicted.conflicts)) _ c.resolution_text-text.ensures (rw c.in-Conflicted.is at c.in_ok-text.ensures.merges))
 
+pub put_text-requires-clause-id : goal.put_text-requires-clause-id
+put_text-requires-clause-id g c = λ κs alive. (rw c.in-Merged.is at c.in_ok-text.ensures.ids) ∙ ap (g.I.Ident.meaning c.args.ident.now) (sym c.as_slice.ensures)
+
 pub put_text-requires-clause-planned : goal.put_text-requires-clause-planned
 put_text-requires-clause-planned g c = λ κs alive.
-    put_with (g.I.Ident.meaning c.args.ident.now) (g.K.Keeper.contents c.plan_with.new.draft.keeper.now) c.args.draft.now.pending c.plan_with.new.draft.pending c.in_ok-text.ensures.pending _ c.in-Merged.text c.as_slice.ensures c.in-Merged.tree
+    put_with (g.I.Ident.meaning c.args.ident.now) (g.K.Keeper.contents c.plan_with.new.draft.keeper.now) c.args.draft.now.pending c.plan_with.new.draft.pending c.in_ok-text.ensures.pending _ c.in-Merged.text c.as_slice.ensures c.in-Merged.id c.in-Merged.tree
     (rw c.in-Merged.is at c.in_ok-text.ensures.tree)

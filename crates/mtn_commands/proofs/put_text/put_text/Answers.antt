@@ -14,24 +14,24 @@ returns-in_err-id-clause-drafts g c =
     let said = option_copied c.args.said in
     let e = c.in_err-id.field-0.0 in
     let p = err_from_is_err_and c.from_residual.result c.from_residual.ensures.1 in
-    failed f g.K.Keeper.contents g.K.Keeper.leaves g.K.Keeper.faults c.args.draft.now.keeper.now c.put_made.new.draft.keeper.now c.args.draft.now.pending c.put_made.new.draft.pending
+    failed f g.K.Keeper.contents g.K.Keeper.leaves g.K.Keeper.faults c.args.draft.now.keeper.now c.put.new.draft.keeper.now c.args.draft.now.pending c.put.new.draft.pending
     (ending f said c.args.text.now) c.in_err-id.ensures.stays c.from_residual.result e (p.1 ∙ ap Err p.2)
-    (λ k s told draft. put_errs f c.args.text.now said k s e c.put_made.new.draft.pending (c.in_err-id.ensures.accepts k s told draft)) c.in_err-id.ensures.damaged (λ is. c.in_err-id.ensures.failed (ap Err is))
+    (λ k s told draft. put_errs f c.args.text.now said k s e c.put.new.draft.pending (c.in_err-id.ensures.accepts k s told draft)) c.in_err-id.ensures.damaged (λ is. c.in_err-id.ensures.failed (ap Err is))
 
 pub returns-in_ok-id_text-in-None-clause-drafts : goal.returns-in_ok-id_text-in-None-clause-drafts
 returns-in_ok-id_text-in-None-clause-drafts g c =
     let f = g.I.Ident.meaning c.args.ident.now in
     rw c.in-None.is
-    (answered f g.K.Keeper.contents g.K.Keeper.leaves g.K.Keeper.faults c.args.draft.now.keeper.now c.put_made.new.draft.keeper.now c.args.draft.now.pending c.put_made.new.draft.pending
+    (answered f g.K.Keeper.contents g.K.Keeper.leaves g.K.Keeper.faults c.args.draft.now.keeper.now c.put.new.draft.keeper.now c.args.draft.now.pending c.put.new.draft.pending
     (ending f None c.args.text.now) c.in_ok-id.ensures.stays c.in_ok-id_text-in-None.field-0
-    (λ k s told draft. put_alone f c.args.text.now k s c.in_ok-id.id c.put_made.new.draft.pending c.in_ok-id_text-in-None.field-0 c.in_ok-id_text-in-None.ensures (c.in_ok-id.ensures.accepts k s told draft)))
+    (λ k s told draft. put_alone f c.args.text.now k s c.in_ok-id.id c.put.new.draft.pending c.in_ok-id_text-in-None.field-0 c.in_ok-id_text-in-None.ensures (c.in_ok-id.ensures.accepts k s told draft)))
 
 pub returns-in_err-certify-in-Some-clause-drafts : goal.returns-in_err-certify-in-Some-clause-drafts
 returns-in_err-certify-in-Some-clause-drafts g c =
     let f = g.I.Ident.meaning c.args.ident.now in
     let text = c.args.text.now in
     let said = c.in-Some.said.now in
-    let mid = c.put_made.new.draft in
+    let mid = c.put.new.draft in
     let e = c.in_err-certify-in-Some.field-0.0 in
     let p = err_from_is_err_and c.from_residual-in_err-certify-in-Some.result c.from_residual-in_err-certify-in-Some.ensures.1 in
     rw c.in-Some.is
@@ -57,7 +57,7 @@ returns-in_ok-id_text-in-Some-clause-drafts g c =
     let f = g.I.Ident.meaning c.args.ident.now in
     let text = c.args.text.now in
     let said = c.in-Some.said.now in
-    let mid = c.put_made.new.draft in
+    let mid = c.put.new.draft in
     rw c.in-Some.is
     (answered f g.K.Keeper.contents g.K.Keeper.leaves g.K.Keeper.faults c.args.draft.now.keeper.now c.certify.new.draft.keeper.now c.args.draft.now.pending c.certify.new.draft.pending
     (ending f (Some said) text) (stays_trans g.K.Keeper.contents g.K.Keeper.leaves g.K.Keeper.faults _ _ _ c.in_ok-id.ensures.stays c.in_ok-certify-in-Some.ensures.stays) c.in_ok-id_text-in-Some.field-0

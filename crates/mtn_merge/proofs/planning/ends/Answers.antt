@@ -9,7 +9,7 @@ use Rattle.mtn_put_revision.proofs.Deciding.{error_damage}
 use Rattle.mtn_merge.specs.Plans.{IsMadeOf, outcomes}
 use Rattle.mtn_plans.specs.Plans.{Ends}
 use Rattle.mtn_merge.proofs.Damaging.{sound_result}
-use Rattle.mtn_merge.proofs.Plans.{clear_kept, conflicted, gives_map, made, texts_are_ordered}
+use Rattle.mtn_merge.proofs.Plans.{clear_kept, conflicted, gives_map, made}
 use Rattle.mtn_merge.proofs.planning.ends.Goals as goal
 
 pub returns-then-not-none-clause-ends : goal.returns-then-not-none-clause-ends
@@ -39,9 +39,6 @@ returns-clause-ends g c = λ h sl sr.
     gives_map (IsMadeOf f h x.left.id x.right.id x.decisions) (Ends f h x.left.id x.right.id x.decisions) (outcomes c.merged.result)
     (made f h x.left.id x.right.id x.decisions x.conflicts c.requires.conflicts (c.none.ensures.0 c.if-not-none.false))
     (c.merged.ensures.made h sl sr)
-
-pub returns-clause-ordered : goal.returns-clause-ordered
-returns-clause-ordered g c = texts_are_ordered c.merged.result c.merged.ensures.text
 
 pub returns-clause-damaged : goal.returns-clause-damaged
 returns-clause-damaged g c = sound_result (g.K.Keeper.contents c.args.draft.now.keeper.now) c.args.draft.now.pending c.merged.result c.merged.ensures.sound

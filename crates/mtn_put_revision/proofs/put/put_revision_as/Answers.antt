@@ -10,11 +10,11 @@ use Rattle.mtn_history.specs.Stands.{IsDraft}
 use Rattle.mtn_history.specs.declared.pending.Pending.{Pending}
 use Rattle.mtn_put_revision.proofs.Deciding.{held_other, held_same, none_under, other_under, same_under}
 use Rattle.mtn_put_revision.proofs.Planning.{planned_on}
-use Rattle.mtn_put_revision.proofs.put.put_made.Goals as goal
+use Rattle.mtn_put_revision.proofs.put.put_revision_as.Goals as goal
 
 pub put_new-requires-clause-new : goal.put_new-requires-clause-new
 put_new-requires-clause-new g c κs within = λ f x s tells draft.
-    none_under s c.id-id.result c.args.text.now c.in_ok-same.field-0 (c.in_ok-same.ensures.held f x s tells (subst (λ (q : Pending). IsDraft f x q s) c.in_ok-same.ensures.pending draft)) c.in_default.is
+    none_under s c.args.id c.args.text.now c.in_ok-same.field-0 (c.in_ok-same.ensures.held f x s tells (subst (λ (q : Pending). IsDraft f x q s) c.in_ok-same.ensures.pending draft)) c.in_default.is
 
 pub put_new-requires-clause-planned : goal.put_new-requires-clause-planned
 put_new-requires-clause-planned g c κs within =
@@ -38,10 +38,10 @@ returns-in_default-clause-damaged g c =
 
 pub returns-then-same-clause-accepts : goal.returns-then-same-clause-accepts
 returns-then-same-clause-accepts g c = λ x s tells draft.
-    held_same (g.I.Ident.meaning c.args.ident.now) (g.K.Keeper.contents c.held_text.new.draft.keeper.now) x c.args.draft.now.pending s tells draft c.args.text.now (omega (arith, c.if-text-gt-MAX_TEXT.false)) c.id-id.result c.id-id.ensures c.held_text.new.draft.pending
-    (same_under s c.id-id.result c.args.text.now c.in_ok-same.field-0 c.in-Some.same (c.in_ok-same.ensures.held (g.I.Ident.meaning c.args.ident.now) x s tells draft) c.in-Some.is c.if-same.true) c.in_ok-same.ensures.pending
+    held_same (g.I.Ident.meaning c.args.ident.now) (g.K.Keeper.contents c.held_text.new.draft.keeper.now) x c.args.draft.now.pending s tells draft c.args.text.now (omega (arith, c.if-text-gt-MAX_TEXT.false)) c.args.id c.requires.id c.held_text.new.draft.pending
+    (same_under s c.args.id c.args.text.now c.in_ok-same.field-0 c.in-Some.same (c.in_ok-same.ensures.held (g.I.Ident.meaning c.args.ident.now) x s tells draft) c.in-Some.is c.if-same.true) c.in_ok-same.ensures.pending
 
 pub returns-clause-accepts : goal.returns-clause-accepts
 returns-clause-accepts g c = λ x s tells draft.
-    held_other (g.I.Ident.meaning c.args.ident.now) (g.K.Keeper.contents c.held_text.new.draft.keeper.now) x c.args.draft.now.pending s tells draft c.args.text.now (omega (arith, c.if-text-gt-MAX_TEXT.false)) c.id-id.result c.id-id.ensures c.collided.result c.held_text.new.draft.pending
-    (other_under s c.id-id.result c.args.text.now c.in_ok-same.field-0 c.in-Some.same (c.in_ok-same.ensures.held (g.I.Ident.meaning c.args.ident.now) x s tells draft) c.in-Some.is c.if-same.false) c.collided.ensures
+    held_other (g.I.Ident.meaning c.args.ident.now) (g.K.Keeper.contents c.held_text.new.draft.keeper.now) x c.args.draft.now.pending s tells draft c.args.text.now (omega (arith, c.if-text-gt-MAX_TEXT.false)) c.args.id c.requires.id c.collided.result c.held_text.new.draft.pending
+    (other_under s c.args.id c.args.text.now c.in_ok-same.field-0 c.in-Some.same (c.in_ok-same.ensures.held (g.I.Ident.meaning c.args.ident.now) x s tells draft) c.in-Some.is c.if-same.false) c.collided.ensures
