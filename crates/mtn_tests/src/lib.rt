@@ -1,8 +1,10 @@
-//! What has to be a test: the keeper over SQLite databases in memory, and which values cross threads. All other cases are
-//! lines of data (`mtn_cases_..`).
+//! What has to be a test: the keeper over SQLite databases in memory, which values cross threads, and that pieces of work
+//! run at the same time. All other cases are lines of data (`mtn_cases_..`).
 #![tactic(auto)]
 
 #[cfg(test)]
 mod keeper;
+#[cfg(test)]
+mod meeting;
 #[cfg(test)]
 mod threads;
