@@ -6,12 +6,12 @@ use Rattle.mtn_commands.specs.declared.put_text.Known.{Known}
 use Rattle.mtn_put_revision.specs.Keeping.{IsPlanned}
 use Rattle.mtn_commands.proofs.put_text.put.Goals as goal
 
-pub put_revision_as-requires-in-Some-clause-id : goal.put_revision_as-requires-in-Some-clause-id
-put_revision_as-requires-in-Some-clause-id g c =
+pub put_revision_as-requires-clause-id : goal.put_revision_as-requires-clause-id
+put_revision_as-requires-clause-id g c = λ κs alive.
     subst (λ (o : Option Known). IfSome o (λ k. k.id.0 ≡ g.I.Ident.meaning c.args.ident.now c.args.text.now)) c.in-Some.is c.requires.id
 
-pub put_revision_as-requires-in-Some-clause-planned : goal.put_revision_as-requires-in-Some-clause-planned
-put_revision_as-requires-in-Some-clause-planned g c = λ κs alive s d.
+pub put_revision_as-requires-clause-planned : goal.put_revision_as-requires-clause-planned
+put_revision_as-requires-clause-planned g c = λ κs alive s d.
     let f = g.I.Ident.meaning c.args.ident.now in
     subst (λ (o : Option Known). IfSome o (λ k. IfSome k.tree (λ t. IsPlanned f s.files d.stands.history c.args.text.now t))) c.in-Some.is (c.requires.planned s d)
 
