@@ -63,10 +63,10 @@ def once(given):
         return seconds(['git', 'fast-import', '--quiet'], given, cwd=folder)
 
 one, one_git = history(2000)
-two, _ = history(4000)
+longer, _ = history(4000)
 done = subprocess.run([CASES], input=one, stdout=subprocess.PIPE, check=True).stdout.splitlines()
 assert len(done) == 4199 and all(line.startswith(b'0 ') for line in done), done[:3]
-once_ours, git, twice = ours(one), min(once(one_git) for _ in range(ROUNDS)), ours(two)
+once_ours, git, twice = ours(one), min(once(one_git) for _ in range(ROUNDS)), ours(longer)
 print('2,000 revisions %.3f s, git fast-import %.3f s: %.2f times (at most 8)' % (once_ours, git, once_ours / git))
 print('4,000 revisions %.3f s: %.2f times as long (at most 2.2)' % (twice, twice / once_ours))
 
