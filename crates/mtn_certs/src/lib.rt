@@ -5,7 +5,7 @@
 //! bytes from 0x21 to 0x7e without brackets. Values and signatures are any bytes; signatures are carried and never read.
 //!
 //! The crates above rely on this: a [`Cert`] is lawful, and [`Cert::new`] answers the first rule that its parts break; [`list`] appends
-//! the printed form of exactly the stanzas of a set of certificates, in an order that depends on no order of keeping
+//! the printed form of exactly the stanzas of a set of certificates, in an order that depends on no order of keeping, which [`sorted_of`] gives
 //! (`specs/Certificates.antt`, `specs/Order.antt`, `specs/Listing.antt`).
 //!
 //! Cost: a certificate is one copy of its parts; a list is one sort, one look-up of a key name for each certificate, and one
@@ -22,4 +22,5 @@ pub use cert::{Cert, CertError, KeyName};
 pub use field::{MAX_FIELD, is_field};
 pub use laws::{key_names, lawful, one_order};
 pub use mtn_base::Field;
+pub use order::sorted_of;
 pub use text::list;

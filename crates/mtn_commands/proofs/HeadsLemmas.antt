@@ -36,7 +36,7 @@ use Rattle.mtn_replay.proofs.Histories.{one_history}
 use Rattle.mtn_step.specs.Certifying.{AreBranches, AreHeads}
 use Rattle.mtn_put_certs.specs.Reading.{AreKnown}
 use Rattle.mtn_commands.specs.Drafts.{Drafts}
-use Rattle.mtn_commands.proofs.QueryLemmas.{graph_told}
+use Rattle.mtn_history.proofs.GraphLemmas.{graph_told}
 use Rattle.mtn_commands.proofs.ViewLemmas.{never, reason_of}
 
 module _ (h : List Revision) (log : List LogEntry) (tells : Tells h log) where

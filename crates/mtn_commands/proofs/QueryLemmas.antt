@@ -1,4 +1,4 @@
--- The graph that a draft tells is that of the history which its log spells.
+-- What is answered of the graph that a draft tells.
 use Rattle.std.specs.Prelude.{IfSome, MatchBool}
 use Rattle.std.proofs.Common.{◌≡◌, inl, inr, ℕ, Bool, true, false, List, [], length, Option, Some, None, Result, Ok, Err, refl, sym, ap, ◌∙◌, subst, arith}
 use Rattle.mtn_ancestry.specs.declared.pos.LogEntry.{LogEntry}
@@ -23,7 +23,7 @@ use Rattle.mtn_history.specs.declared.errors.StoreError.TheVariants.{Failed, Dam
 use Rattle.mtn_history.specs.declared.errors.HistoryError.{HistoryError}
 use Rattle.mtn_history.specs.declared.errors.HistoryError.TheVariants.{Store}
 use Rattle.mtn_history.specs.declared.pending.Pending.{Pending}
-use Rattle.mtn_history.proofs.LogLemmas.{read_tells, never_wrong}
+use Rattle.mtn_history.proofs.GraphLemmas.{graph_sound, graph_told}
 use Rattle.mtn_commands.specs.Drafts.{Counts, Drafts, drafted, query_refusal}
 use Rattle.mtn_model.specs.Outcome.{Outcome}
 use Rattle.mtn_step.specs.Step.{Asked, Steps, done, refused}
@@ -35,39 +35,6 @@ use Rattle.mtn_graph_queries.specs.declared.query.QueryError.{QueryError}
 use Rattle.mtn_graph_queries.specs.declared.query.QueryError.TheVariants.{Unknown}
 use Rattle.mtn_graph_queries.specs.declared.query.QueryError.TheVariants as query
 use Rattle.mtn_commands.proofs.ReasonLemmas.{reason_of}
-
-module _ (f : List ℕ → List ℕ) (c : Contents) (p : Pending) (s : State) where
-  no_revision : p.count ≡ length s.log → IsNew (with_all c p.batch) s → p.count ≡ 0
-  no_revision same new = same ∙ ap (λ (t : State). length t.log) new.state
-
-  told_by : (b : Bool) → p.count ≡ length s.log → MatchBool b (IsNew (with_all c p.batch) s) (StandsFor f (with_all c p.batch) s) → (entries : List LogEntry) → IsReadTo (with_all c p.batch) p.count entries →
-      (h : List Revision) × IsHistory f s.files s.log h × Tells h entries
-  told_by true same new entries read = (
-    [],
-    subst (λ l. IsHistory f s.files l []) (sym (ap (λ (t : State). t.log) new.state)) (history_none f s.files),
-    record { long = read.long ∙ no_revision same new; each = λ r e v here at. absurd (let lt = inside {X = Revision} [] r v at in omega (arith, lt)) },
-  )
-  told_by false same stands entries read =
-      let long : p.count ≡ length stands.base.history = same ∙ sym stands.base.spelled.long in (
-        stands.base.history,
-        stands.base.spelled,
-        read_tells (with_all c p.batch) stands.base.history stands.base.kept (history_is_grown f s.files s.log stands.base.history stands.base.spelled) stands.base.revisions.long stands.base.log entries (subst (λ n. IsReadTo (with_all c p.batch) n entries) long read),
-      )
-
-  -- the graph that was read tells the history of the state
-  pub graph_told : IsDraft f c p s → (entries : List LogEntry) → IsReadTo (with_all c p.batch) p.count entries → (h : List Revision) × IsHistory f s.files s.log h × Tells h entries
-  graph_told draft = told_by p.is_new draft.count draft.stands
-
-  sound_by : (b : Bool) → p.count ≡ length s.log → MatchBool b (IsNew (with_all c p.batch) s) (StandsFor f (with_all c p.batch) s) → (d : Damage) → WrongBelow p.count (with_all c p.batch) d → ⊥
-  sound_by true same new d wrong = let none = no_revision same new in omega (arith, none, wrong.below)
-  sound_by false same stands d wrong =
-      never_wrong (with_all c p.batch) stands.base.history stands.base.kept (history_is_grown f s.files s.log stands.base.history stands.base.spelled) stands.base.revisions.long stands.base.log p.count d (same ∙ sym stands.base.spelled.long) wrong
-
-  -- no damage is found in the log of a state
-  pub graph_sound : IsDraft f c p s → (e : StoreError) → IfDamage e (WrongBelow p.count (with_all c p.batch)) → IfDamage e (λ _. ⊥)
-  graph_sound draft Failed wrong = tt
-  graph_sound draft NoMemory wrong = tt
-  graph_sound draft (Damaged d) wrong = sound_by p.is_new draft.count draft.stands d wrong
 
 counted_wrong : (b : Bool) (c : Contents) (n : ℕ) (d : Damage) → MatchBool b ((body_at c 1 count_key ≡ None) × (n ≡ 0)) (Counted c n) → WrongBelow n c d → LogDamage c d
 counted_wrong true c n d counted wrong = absurd (let none = counted.1 in omega (arith, none, wrong.below))

@@ -1,6 +1,6 @@
 -- What is made of the live nodes can be built: names and keys differ, and the tree is sane.
 use Rattle.std.specs.Prelude.{map}
-use Rattle.std.specs.List.{list_all, AllByRecursion, IsDistinct}
+use Rattle.std.specs.List.{list_all, list_any, AllByRecursion, IsDistinct}
 use Rattle.std.specs.declared.cmp.Ordering.{Ordering}
 use Rattle.std.specs.declared.cmp.Ordering.TheVariants.{Less, Equal}
 use Rattle.std.specs.Ordering.{is_lt}
@@ -26,6 +26,7 @@ use Rattle.mtn_conflicts.specs.Result.{tree_before, new_name, new_entry, result_
 use Rattle.mtn_conflicts.proofs.Nodes.{name_of, distinct}
 use Rattle.mtn_conflicts.proofs.Clear.{IsTidy, tidy}
 use Rattle.mtn_conflicts.proofs.Before.{has_rising_keys, before_is_sane}
+use Rattle.mtn_conflicts.proofs.Unborn.{as_before}
 use Rattle.mtn_conflicts.proofs.Renamed.{of_map, one_of, one_name, keyed, merged_is_sane}
 
 module _ {X K : Type 0} (cmp : K → K → Ordering) (key : X → K) where
@@ -102,6 +103,10 @@ module _ (m : Merge) (order : IsInOrder m) (clear : AreClear m) (dirs : ParentsA
 
   pub before_is : tree_of (tree_before m.nodes) ≡ tree_before m.nodes
   before_is = tree_is (tree_before m.nodes) before_keyed ∙ ordered_stays name_cmp (λ (e : Entry). e.name) (tree_before m.nodes) (first_so _ _ before_sane.ordered)
+
+  -- where no node is reborn, the tree has the same names in every revision
+  pub before_is_result : list_any (λ (d : Decision). d.reborn) m.nodes ≡ false → (id : Id) → tree_before m.nodes ≡ result_of m id
+  before_is_result none id = sym before_is ∙ tree_is (tree_before m.nodes) before_keyed ∙ sym (ap in_order (as_before m.nodes none id))
 
   module _ (id : Id) (fresh : NoneBornIn m.nodes id) where
     abbrev after : List Entry

@@ -201,6 +201,34 @@ pub fn is_some_reborn(nodes: &[Decision]) -> bool
     false
 }
 
+/// The tree of a merge without conflicts under the names that its nodes have, which [`renamed`] gives the names of a
+/// revision. Where no node is reborn it has those names in every revision. It asks that what has the root slot or is a
+/// decided parent is a directory.
+pub fn before(alloc: Global, decisions: &Decisions) -> Result<Roster, NoMemory>
+    requires clear { AreClear decisions.now }
+    requires dirs { ParentsAreDirs decisions.now.nodes }
+    ensures { IfOk result (λ roster. roster ≡ tree_before decisions.now.nodes) }
+{
+    tree_made(alloc, entries_of(alloc, decisions.nodes())?)
+}
+
+/// That tree in a revision of that id: a reborn node is named by the id and its path. It asks what [`before`] does, and that
+/// the id is no node's birth.
+pub fn renamed(
+    alloc: Global,
+    decisions: &Decisions,
+    before: &Roster,
+    reborn: Id,
+) -> Result<Roster, NoMemory>
+    requires clear { AreClear decisions.now }
+    requires dirs { ParentsAreDirs decisions.now.nodes }
+    requires tree { before.now ≡ tree_before decisions.now.nodes }
+    requires fresh { NoneBornIn decisions.now.nodes reborn }
+    ensures { IfOk result (λ roster. roster ≡ result_of decisions.now reborn) }
+{
+    tree_made(alloc, entries_after(alloc, decisions.nodes(), before, reborn)?)
+}
+
 /// The tree of a merge without conflicts, in a revision of that id: a reborn node is named by the id and its
 /// path. It asks that what has the root slot or is a decided parent is a directory, and that the id is no
 /// node's birth.
@@ -210,10 +238,9 @@ pub fn result(alloc: Global, decisions: &Decisions, reborn: Id) -> Result<Roster
     requires fresh { NoneBornIn decisions.now.nodes reborn }
     ensures { IfOk result (λ roster. roster ≡ result_of decisions.now reborn) }
 {
-    let nodes = decisions.nodes();
-    let before = tree_made(alloc, entries_of(alloc, nodes)?)?;
-    if !is_some_reborn(nodes) {
-        return Ok(before);
+    let tree = before(alloc, decisions)?;
+    if !is_some_reborn(decisions.nodes()) {
+        return Ok(tree);
     }
-    tree_made(alloc, entries_after(alloc, nodes, &before, reborn)?)
+    renamed(alloc, decisions, &tree, reborn)
 }

@@ -121,7 +121,7 @@ pub below_count : (told : Option Contents) (f : List ℕ → List ℕ) (p : Pend
 below_count told f p s d id r text found = (told_of told d.records (λ c. IsPlaced (with_all c p.batch) p.count id (Some r) text) d.tells found).1
 
 -- records that count some revisions have both records of table 1
-counted_some : (b : Bool) (c : Contents) (n : ℕ) → IsMetaOf c (record { count = n; is_new = b }) → n ≢ 0 → Counted c n
+pub counted_some : (b : Bool) (c : Contents) (n : ℕ) → IsMetaOf c (record { count = n; is_new = b }) → n ≢ 0 → Counted c n
 counted_some true c n meta some = absurd (some meta.1)
 counted_some false c n meta some = meta
 

@@ -17,8 +17,9 @@ abbrev pub IsBad : Damage → Type 0
 IsBad (Bad table key body) = ⊤
 IsBad (Missing table key) = ⊥
 
--- A record of the log or of a roster, at a position of the log, with which no history goes on: its numbers are too great, or a
--- node's birth is known to one side alone or is the new revision. Such records stand for no state
+-- A record of the log or of a roster, at a position of the log, with which no history goes on: its numbers are too great, a node's
+-- birth is known to one side alone or is the new revision, or the log has another id than the text that names the position. Such
+-- records stand for no state
 pub record UnfitDamage (c : Contents) (d : Damage) : Type 0 where
   pub count : ℕ
   pub counted : Counted c count

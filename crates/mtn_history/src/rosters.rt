@@ -162,10 +162,10 @@ impl<'a, K: Keeper> Draft<'a, K> {
 const RECORDS: u8 = DEEPEST + 1;
 
 // What a record stands on; None for a whole one.
-fn base_of(record: &RosterRecord) -> Option<Pos>
-    ensures { result ≡ base_in record.now }
+fn base_of(stored: &RosterRecord) -> Option<Pos>
+    ensures { result ≡ base_in stored.now }
 {
-    match record {
+    match stored {
         RosterRecord::Whole(_) => None,
         RosterRecord::Delta { base, .. } => Some(*base),
     }

@@ -10,6 +10,7 @@ use Rattle.mtn_base.specs.declared.refusal.Cause.TheVariants.{BadPacket, IdMisma
 use Rattle.mtn_base.specs.declared.refusal.Refusal.{Refusal}
 use Rattle.mtn_certs.specs.Certificates.{certificate}
 use Rattle.mtn_changeset_laws.specs.Changes.{or_else}
+use Rattle.mtn_model.specs.Keys.{IsKeyOf}
 use Rattle.mtn_model.specs.State.{State}
 use Rattle.mtn_model.specs.Table.{Table}
 use Rattle.mtn_base.specs.declared.refusal.PacketWhy.{PacketWhy}
@@ -39,16 +40,10 @@ abbrev pub first_mismatch : (List ℕ → List ℕ) → ℕ → List Packet → 
 first_mismatch f number [] = None
 first_mismatch f number (p ∷ ps) = or_else (mismatch f number p) (first_mismatch f (number + 1) ps)
 
--- the id has the name, and no other has it
-pub record IsAlone (keys : Table) (name : List ℕ) (id : Id) : Type 0 where
-  pub has : get keys id.0 ≡ Some name
-  pub alone : (other : List ℕ) → get keys other ≡ Some name → other ≡ id.0
-
 -- the key of a certificate: that of its packet's id, or the one that has its packet's name, if there is one
 abbrev pub IsKeyFor : Table → PacketKey → Option Id → Type 0
 IsKeyFor keys (key.Id id) found = found ≡ Some id
-IsKeyFor keys (key.Name name) (Some id) = IsAlone keys name id
-IsKeyFor keys (key.Name name) None = (id : Id) → IsAlone keys name id → ⊥
+IsKeyFor keys (key.Name name) found = IsKeyOf keys name found
 
 -- a name that no key has, or more than one
 abbrev pub unknown_key : PacketKey → Option Id → Option Cause

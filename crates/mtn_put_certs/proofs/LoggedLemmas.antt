@@ -20,7 +20,7 @@ use Rattle.mtn_history.specs.declared.errors.StoreError.{StoreError}
 use Rattle.mtn_history.specs.declared.errors.StoreError.TheVariants.{Damaged, Failed, NoMemory}
 use Rattle.mtn_history.specs.declared.pending.Pending.{Pending}
 use Rattle.mtn_history.proofs.Founding.{told_of}
-use Rattle.mtn_history.proofs.MarkedLemmas.{founded_stands, log_bad, named_is}
+use Rattle.mtn_history.proofs.MarkedLemmas.{counted_some, founded_stands, log_bad, named_is}
 use Rattle.mtn_model.specs.State.{State}
 use Rattle.mtn_model.specs.Table.{Contents, body_at}
 use Rattle.mtn_ports.specs.Kept.{with_all}
@@ -34,11 +34,6 @@ pub as_damage : (e : StoreError) (P Q : Damage → Type 0) → ((d : Damage) →
 as_damage (Damaged d) P Q leads fact = leads d fact
 as_damage Failed P Q leads fact = tt
 as_damage NoMemory P Q leads fact = tt
-
--- records that count some revisions have both records of table 1
-counted_some : (b : Bool) (c : Contents) (n : ℕ) → IsMetaOf c (record { count = n; is_new = b }) → n ≢ 0 → Counted c n
-counted_some true c n meta some = absurd (some meta.1)
-counted_some false c n meta some = meta
 
 -- the certificate's own record, where its revision has no text
 own_damage : (c : Contents) (x : Certificate) (d : Damage) → IsRecorded c x → body_at c 3 x.revision.0 ≡ None → IsCertHeld c x d → CertDamage c d

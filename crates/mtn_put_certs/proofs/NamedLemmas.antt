@@ -22,7 +22,8 @@ use Rattle.mtn_history.specs.declared.errors.StoreError.{StoreError}
 use Rattle.mtn_history.specs.Stands.{IsDraft, IsNew, StandsFor}
 use Rattle.mtn_history.specs.declared.pending.Pending.{Pending}
 use Rattle.mtn_history.proofs.CertRecords.{no_key_damage}
-use Rattle.mtn_put_certs.specs.Named.{AreHeld, AreNamed, HaveName, IsKeyOf, IsOnly}
+use Rattle.mtn_model.specs.Keys.{IsKeyOf}
+use Rattle.mtn_put_certs.specs.Named.{AreHeld, AreNamed, HaveName, IsOnly}
 use Rattle.mtn_put_certs.specs.Walking.{IsBehind, IsHeldBehind}
 use Rattle.mtn_put_certs.proofs.HeldLemmas.{above_none, damage_is, stands_of, told_if}
 use Rattle.mtn_put_certs.proofs.KeyLemmas.{keys_of}

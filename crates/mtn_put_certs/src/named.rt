@@ -8,7 +8,8 @@ ghost use Rattle.mtn_history.specs.Asking.{OnlyAsks};
 ghost use Rattle.mtn_history.specs.Certificates.{KeyDamage};
 ghost use Rattle.mtn_history.specs.Errors.{IfDamage};
 ghost use Rattle.mtn_history.specs.Stands.{IsDraft};
-ghost use Rattle.mtn_put_certs.specs.Named.{AreHeld, AreNamed, HaveName, IsKeyOf, IsOnly};
+ghost use Rattle.mtn_model.specs.Keys.{IsKeyOf};
+ghost use Rattle.mtn_put_certs.specs.Named.{AreHeld, AreNamed, HaveName, IsOnly};
 
 use crate::damaged::bad;
 use crate::walk::keys_behind;
