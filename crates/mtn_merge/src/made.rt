@@ -1,9 +1,8 @@
 // The tree of a merge without conflicts, its text, and the text's id.
-ghost use Rattle.std.specs.Prelude.{◌≡◌, ◌≢◌, List, None, Err, IfErr, IfOk, OnOk};
-ghost use Rattle.mtn_base.specs.declared.id.Id.{Id as Named};
+ghost use Rattle.std.specs.Prelude.{◌≡◌, ◌≢◌, List, None, Err, IfErr, IfOk, OnOk, unwrap_or};
 ghost use Rattle.mtn_changeset_laws.specs.Changes.{or_else};
 ghost use Rattle.mtn_conflicts.specs.Lists.{AreClear};
-ghost use Rattle.mtn_conflicts.specs.Result.{ParentsAreDirs, result_of};
+ghost use Rattle.mtn_conflicts.specs.Result.{NoneBornIn, ParentsAreDirs, result_of, tree_before};
 ghost use Rattle.mtn_history.specs.Errors.{IfStoreDamage};
 ghost use Rattle.mtn_history_laws.specs.History.{Revision};
 ghost use Rattle.mtn_put_revision.specs.Finding.{IsRefusal};
@@ -16,7 +15,7 @@ use crate::births::{none_is_born, unborn};
 use crate::sides::Side;
 use crate::text::{Parent, revision_text};
 use mtn_base::{Cause, Id, MAX_TEXT, NoMemory};
-use mtn_conflicts::{is_some_reborn, result};
+use mtn_conflicts::{is_some_reborn, under_new_names, under_old_names};
 use mtn_decide::Decisions;
 use mtn_history::{HistoryError, StoreError};
 use mtn_make_roster::{MakeError, within_limits};
@@ -39,26 +38,56 @@ fn limited(alloc: Global, tree: &Roster) -> Result<(), HistoryError>
     }
 }
 
-// The tree that decisions make in a revision of an id, from the one that they make in a revision of another. There is none where
-// the id is the birth of a node already: no new revision has it.
+// The tree in a revision of an id that is no birth, from the one under old names; None where that has no other names there.
+fn named_anew(
+    alloc: Global,
+    decisions: &Decisions,
+    old: &Roster,
+    id: Id,
+) -> Result<Option<Roster>, NoMemory>
+    requires clear { AreClear decisions.now }
+    requires dirs { ParentsAreDirs decisions.now.nodes }
+    requires tree { old.now ≡ tree_before decisions.now.nodes }
+    requires fresh { NoneBornIn decisions.now.nodes id }
+    ensures { IfOk result (λ tree. unwrap_or tree old.now ≡ result_of decisions.now id) }
+{
+    if !is_some_reborn(decisions.nodes()) {
+        return Ok(None);
+    }
+    Ok(Some(under_new_names(alloc, decisions, old, id)?))
+}
+
+// The one that was named anew, or else the one under old names.
+fn either<'a>(anew: &'a Option<Roster>, old: &'a Roster) -> &'a Roster
+    ensures { result.now ≡ unwrap_or anew.now old.now }
+{
+    match anew {
+        Some(tree) => tree,
+        None => old,
+    }
+}
+
+// The tree in a revision of an id, from the one under old names. There is none where the id is the birth of a node already: no
+// new revision has it.
 fn tree_in(
     alloc: Global,
     decisions: &Decisions,
     id: Id,
-    other: Roster,
+    old: Roster,
 ) -> Result<Option<Roster>, NoMemory>
     requires clear { AreClear decisions.now }
     requires dirs { ParentsAreDirs decisions.now.nodes }
-    ensures { (x : Named) → other ≡ result_of decisions.now x → IfOk result (IsTreeIn decisions.now id) }
+    requires tree { old ≡ tree_before decisions.now.nodes }
+    ensures { IfOk result (IsTreeIn decisions.now id) }
 {
     let nodes = decisions.nodes();
     if !is_some_reborn(nodes) {
-        return Ok(Some(other));
+        return Ok(Some(old));
     }
     if !none_is_born(nodes, id) {
         return Ok(None);
     }
-    Ok(Some(result(alloc, decisions, id)?))
+    Ok(Some(under_new_names(alloc, decisions, &old, id)?))
 }
 
 /// The text of the tree that decisions make, with its id and that tree, or the first limit that it is not within.
@@ -80,8 +109,10 @@ pub fn merged<I: Ident>(
     let old_left = left.roster.marked().roster();
     let old_right = right.roster.marked().roster();
     let first = unborn(alloc, old_left, old_right, decisions.nodes())?;
-    let made = result(alloc, decisions, first)?;
-    limited(alloc, &made)?;
+    let old = under_old_names(alloc, decisions)?;
+    let anew = named_anew(alloc, decisions, &old, first)?;
+    let made = either(&anew, &old);
+    limited(alloc, made)?;
     let left = Parent {
         id: left.id,
         tree: old_left,
@@ -90,13 +121,13 @@ pub fn merged<I: Ident>(
         id: right.id,
         tree: old_right,
     };
-    let text = revision_text(alloc, ident, &left, &right, &made)?;
+    let text = revision_text(alloc, ident, &left, &right, made)?;
     if text.as_slice().len() > MAX_TEXT {
         return Err(HistoryError::Refused(Cause::TextTooLong {
             length: text.as_slice().len() as u64,
         }));
     }
     let id = ident.id(text.as_slice());
-    let tree = tree_in(alloc, decisions, id, made)?;
+    let tree = tree_in(alloc, decisions, id, old)?;
     Ok(Planned::Merged { text, id, tree })
 }

@@ -24,7 +24,7 @@ returns-in_err-limited-clause-made g c = λ h sl sr.
     let tr = c.roster-old_right.ensures.tree ∙ ap (λ (y : MarkedTree). y.tree) c.marked-2.ensures in
     let p = err_from_is_err_and c.from_residual-in_err-limited.result c.from_residual-in_err-limited.ensures.1 in
     subst (λ (z : Result Planned HistoryError). Gives (IsMadeOf f h l.id r.id c.args.decisions.now) (outcomes z)) (sym (p.1 ∙ ap Err p.2))
-    (refused_made f h l r c.args.decisions.now sl sr x (subst (λ (u : Tree). NoneBornIn u x) tl c.in_ok-first.ensures.left) (subst (λ (u : Tree). NoneBornIn u x) tr c.in_ok-first.ensures.right) c.in_ok-made.made c.in_ok-made.ensures
+    (refused_made f h l r c.args.decisions.now sl sr x (subst (λ (u : Tree). NoneBornIn u x) tl c.in_ok-first.ensures.left) (subst (λ (u : Tree). NoneBornIn u x) tr c.in_ok-first.ensures.right) c.either-made.result.now (c.either-made.ensures ∙ c.in_ok-anew.ensures)
     c.in_err-limited.field-0.0 c.in_err-limited.ensures.refused)
 
 pub returns-then-as_slice-gt-MAX_TEXT-clause-made : goal.returns-then-as_slice-gt-MAX_TEXT-clause-made
@@ -33,13 +33,13 @@ returns-then-as_slice-gt-MAX_TEXT-clause-made g c = λ h sl sr.
     let l = c.args.left.now in
     let r = c.args.right.now in
     let x = c.in_ok-first.first in
-    let t = c.in_ok-made.made in
+    let t = c.either-made.result.now in
     let tl = c.roster-old_left.ensures.tree ∙ ap (λ (y : MarkedTree). y.tree) c.marked.ensures in
     let tr = c.roster-old_right.ensures.tree ∙ ap (λ (y : MarkedTree). y.tree) c.marked-2.ensures in
     let same = c.in_ok-text.ensures.text ∙ ap (λ (u : Tree). text_of_sides f l.id u r.id c.roster-old_right.result.now t) tl ∙ ap (λ (u : Tree). text_of_sides f l.id l.roster.tree r.id u t) tr in
     let long = long_test (length c.in_ok-text.text) MAX_TEXT (omega (arith, c.if-as_slice-gt-MAX_TEXT.true, ap length c.as_slice.ensures)) in
     subst (λ (n : ℕ). IsMadeOf f h l.id r.id c.args.decisions.now (Err (TextTooLong n))) (sym (ap length c.as_slice-then-as_slice-gt-MAX_TEXT.ensures))
-    (text_too_long f h l r c.args.decisions.now sl sr x (subst (λ (u : Tree). NoneBornIn u x) tl c.in_ok-first.ensures.left) (subst (λ (u : Tree). NoneBornIn u x) tr c.in_ok-first.ensures.right) t c.in_ok-made.ensures
+    (text_too_long f h l r c.args.decisions.now sl sr x (subst (λ (u : Tree). NoneBornIn u x) tl c.in_ok-first.ensures.left) (subst (λ (u : Tree). NoneBornIn u x) tr c.in_ok-first.ensures.right) t (c.either-made.ensures ∙ c.in_ok-anew.ensures)
     c.in_ok-limited.ensures.fine c.in_ok-text.text same long)
 
 pub returns-clause-made : goal.returns-clause-made
@@ -48,12 +48,12 @@ returns-clause-made g c = λ h sl sr.
     let l = c.args.left.now in
     let r = c.args.right.now in
     let x = c.in_ok-first.first in
-    let t = c.in_ok-made.made in
+    let t = c.either-made.result.now in
     let tl = c.roster-old_left.ensures.tree ∙ ap (λ (y : MarkedTree). y.tree) c.marked.ensures in
     let tr = c.roster-old_right.ensures.tree ∙ ap (λ (y : MarkedTree). y.tree) c.marked-2.ensures in
     let same = c.in_ok-text.ensures.text ∙ ap (λ (u : Tree). text_of_sides f l.id u r.id c.roster-old_right.result.now t) tl ∙ ap (λ (u : Tree). text_of_sides f l.id l.roster.tree r.id u t) tr in
     let short = short_test (length c.in_ok-text.text) MAX_TEXT (omega (arith, c.if-as_slice-gt-MAX_TEXT.false, ap length c.as_slice.ensures)) in
-    made f h l r c.args.decisions.now sl sr x (subst (λ (u : Tree). NoneBornIn u x) tl c.in_ok-first.ensures.left) (subst (λ (u : Tree). NoneBornIn u x) tr c.in_ok-first.ensures.right) t c.in_ok-made.ensures
+    made f h l r c.args.decisions.now sl sr x (subst (λ (u : Tree). NoneBornIn u x) tl c.in_ok-first.ensures.left) (subst (λ (u : Tree). NoneBornIn u x) tr c.in_ok-first.ensures.right) t (c.either-made.ensures ∙ c.in_ok-anew.ensures)
     c.in_ok-limited.ensures.fine c.in_ok-text.text same short
 
 pub returns-clause-ids : goal.returns-clause-ids
@@ -65,11 +65,11 @@ returns-clause-kept g c = λ h sl sr.
     let l = c.args.left.now in
     let r = c.args.right.now in
     let x = c.in_ok-first.first in
-    let t = c.in_ok-made.made in
+    let t = c.either-made.result.now in
     let tl = c.roster-old_left.ensures.tree ∙ ap (λ (y : MarkedTree). y.tree) c.marked.ensures in
     let tr = c.roster-old_right.ensures.tree ∙ ap (λ (y : MarkedTree). y.tree) c.marked-2.ensures in
     let same = c.in_ok-text.ensures.text ∙ ap (λ (u : Tree). text_of_sides f l.id u r.id c.roster-old_right.result.now t) tl ∙ ap (λ (u : Tree). text_of_sides f l.id l.roster.tree r.id u t) tr in
     let short = short_test (length c.in_ok-text.text) MAX_TEXT (omega (arith, c.if-as_slice-gt-MAX_TEXT.false, ap length c.as_slice.ensures)) in
     let stanzas = subst (λ (u : Tree). AreStanzas (revision_stanzas (revision_of_sides f l.id u r.id r.roster.tree t))) tl (subst (λ (u : Tree). AreStanzas (revision_stanzas (revision_of_sides f l.id c.roster-old_left.result.now r.id u t))) tr c.in_ok-text.ensures.stanzas) in
-    kept f h l r c.args.decisions.now sl sr x (subst (λ (u : Tree). NoneBornIn u x) tl c.in_ok-first.ensures.left) (subst (λ (u : Tree). NoneBornIn u x) tr c.in_ok-first.ensures.right) t c.in_ok-made.ensures
-    c.in_ok-limited.ensures.fine c.in_ok-text.text same short stanzas c.id-id.result (c.id-id.ensures ∙ ap f c.as_slice-2.ensures) c.in_ok-tree.tree (c.in_ok-tree.ensures x c.in_ok-made.ensures)
+    kept f h l r c.args.decisions.now sl sr x (subst (λ (u : Tree). NoneBornIn u x) tl c.in_ok-first.ensures.left) (subst (λ (u : Tree). NoneBornIn u x) tr c.in_ok-first.ensures.right) t (c.either-made.ensures ∙ c.in_ok-anew.ensures)
+    c.in_ok-limited.ensures.fine c.in_ok-text.text same short stanzas c.id-id.result (c.id-id.ensures ∙ ap f c.as_slice-2.ensures) c.in_ok-tree.tree c.in_ok-tree.ensures
