@@ -11,6 +11,7 @@ use Rattle.mtn_base.specs.declared.id.Id.{Id}
 use Rattle.mtn_certs.specs.Certificates.{IsIdBytes}
 use Rattle.mtn_order.specs.Free.{KeepsIds, MakesIds, NamesIds, asks_ids}
 use Rattle.mtn_step.specs.declared.call.Call.{Call}
+use Rattle.mtn_step_laws.proofs.Ids.{If, read_is}
 use Rattle.mtn_step.specs.declared.call.Call.TheVariants.{PutFile, PutRevision, GetFile, GetRevision, GetManifestOf, GetRoster, GetContentChanged, GetCorrespondingPath, Ask, Graph, Merge, ShowConflicts, Cert, Certs, Key, Heads, Branches, Commit}
 use Rattle.mtn_step.specs.declared.call.Said.{Said}
 use Rattle.mtn_words.specs.Calls.{ask_named, call_named, call_of, call_with, cert, cert_by, commit, content_changed, corresponding_path, key_named, merge, merge_heads, query_named, said, view_named}
@@ -19,26 +20,6 @@ use Rattle.mtn_words.specs.Positionals.{no_words, one_id, one_word, read_path, t
 use Rattle.mtn_words.specs.Words.{command_of}
 use Rattle.mtn_words.specs.declared.words.Command.{Command}
 use Rattle.mtn_words.specs.declared.words.OptionWord.{OptionWord}
-
--- ---- ids
-
--- it is there, and has the property
-abbrev pub If : {A : Type 0} → (A → Type 0) → Option A → Type 0
-If P None = Unit {0}
-If P (Some a) = P a
-
-decoded : (text : List ℕ) (r : Result (List ℕ) FromHexError) → decode_sized text 20 ≡ r → If (λ (id : Id). IsIdBytes id.0) (id_from r)
-decoded text (Err e) is = tt
-decoded text (Ok bytes) is =
-    let long = decode_sized-ok text 20 bytes is in
-    let good = decode_of-ok text bytes (sym (decode_sized-twice text 20 long) ∙ is) in
-    record { twenty = omega (arith, long, good.2); bytes = good.3 }
-
-pub read_is : (text : List ℕ) → If (λ (id : Id). IsIdBytes id.0) (read_id text)
-read_is text = elim (list_all is_lower_digit text) as (λ b. If (λ (id : Id). IsIdBytes id.0) (cond b (id_from (decode_sized text 20)) None)) [
-  | true ↦ decoded text (decode_sized text 20) refl
-  | false ↦ tt
-]
 
 -- ---- calls
 
