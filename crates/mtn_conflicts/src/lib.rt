@@ -7,7 +7,7 @@
 //!
 //! The crates above rely on this: `conflicts` gives exactly these lists. Where none has an item, the live nodes
 //! with their decided scalars are a sane tree, in which a reborn node is named by the new revision and its
-//! path, and `result` gives it, or `before` under the old names and `renamed` under those of a revision. `laws` says so over the definitions alone, and that what is decided of a grown
+//! path, and `result` gives it, or `under_old_names` and `under_new_names` one after the other. `laws` says so over the definitions alone, and that what is decided of a grown
 //! history meets what `result` asks.
 //!
 //! Cost: a search by halves for each parent, one sort by slot, and as many rounds over all nodes as the
@@ -32,5 +32,5 @@ mod twins;
 pub use all::conflicts;
 pub use item::{Item, Side};
 pub use lists::Conflicts;
-pub use merged::{before, is_some_reborn, renamed, result};
+pub use merged::{is_some_reborn, result, under_new_names, under_old_names};
 pub use text::write;

@@ -201,10 +201,10 @@ pub fn is_some_reborn(nodes: &[Decision]) -> bool
     false
 }
 
-/// The tree of a merge without conflicts under the names that its nodes have, which [`renamed`] gives the names of a
+/// The tree of a merge without conflicts under the names that its nodes have, which [`under_new_names`] gives the names of a
 /// revision. Where no node is reborn it has those names in every revision. It asks that what has the root slot or is a
 /// decided parent is a directory.
-pub fn before(alloc: Global, decisions: &Decisions) -> Result<Roster, NoMemory>
+pub fn under_old_names(alloc: Global, decisions: &Decisions) -> Result<Roster, NoMemory>
     requires clear { AreClear decisions.now }
     requires dirs { ParentsAreDirs decisions.now.nodes }
     ensures { IfOk result (λ roster. roster ≡ tree_before decisions.now.nodes) }
@@ -212,9 +212,9 @@ pub fn before(alloc: Global, decisions: &Decisions) -> Result<Roster, NoMemory>
     tree_made(alloc, entries_of(alloc, decisions.nodes())?)
 }
 
-/// That tree in a revision of that id: a reborn node is named by the id and its path. It asks what [`before`] does, and that
+/// That tree in a revision of that id: a reborn node is named by the id and its path. It asks what [`under_old_names`] does, and that
 /// the id is no node's birth.
-pub fn renamed(
+pub fn under_new_names(
     alloc: Global,
     decisions: &Decisions,
     before: &Roster,
@@ -226,7 +226,10 @@ pub fn renamed(
     requires fresh { NoneBornIn decisions.now.nodes reborn }
     ensures { IfOk result (λ roster. roster ≡ result_of decisions.now reborn) }
 {
-    tree_made(alloc, entries_after(alloc, decisions.nodes(), before, reborn)?)
+    tree_made(
+        alloc,
+        entries_after(alloc, decisions.nodes(), before, reborn)?,
+    )
 }
 
 /// The tree of a merge without conflicts, in a revision of that id: a reborn node is named by the id and its
@@ -238,9 +241,9 @@ pub fn result(alloc: Global, decisions: &Decisions, reborn: Id) -> Result<Roster
     requires fresh { NoneBornIn decisions.now.nodes reborn }
     ensures { IfOk result (λ roster. roster ≡ result_of decisions.now reborn) }
 {
-    let tree = before(alloc, decisions)?;
+    let old = under_old_names(alloc, decisions)?;
     if !is_some_reborn(decisions.nodes()) {
-        return Ok(tree);
+        return Ok(old);
     }
-    renamed(alloc, decisions, &tree, reborn)
+    under_new_names(alloc, decisions, &old, reborn)
 }

@@ -6,7 +6,7 @@ use Rattle.mtn_roster.specs.Tree.{Tree}
 use Rattle.mtn_decide.specs.declared.decision.Decision.{Decision}
 use Rattle.mtn_conflicts.specs.Result.{tree_before, new_entry}
 use Rattle.mtn_conflicts.proofs.Buildable.{after_buildable, after_is}
-use Rattle.mtn_conflicts.proofs.merged.renamed.Goals as goal
+use Rattle.mtn_conflicts.proofs.merged.under_new_names.Goals as goal
 
 pub entries_after-requires-clause-tree : goal.entries_after-requires-clause-tree
 entries_after-requires-clause-tree c = c.requires.tree ∙ sym (ap tree_before c.nodes.ensures.nodes)

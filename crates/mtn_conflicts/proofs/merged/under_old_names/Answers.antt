@@ -5,7 +5,7 @@ use Rattle.mtn_roster.specs.Building.{IsBuildable, tree_of}
 use Rattle.mtn_roster.specs.Tree.{Tree}
 use Rattle.mtn_conflicts.specs.Result.{tree_before}
 use Rattle.mtn_conflicts.proofs.Buildable.{before_buildable, before_is}
-use Rattle.mtn_conflicts.proofs.merged.before.Goals as goal
+use Rattle.mtn_conflicts.proofs.merged.under_old_names.Goals as goal
 
 pub tree_made-requires : goal.tree_made-requires
 tree_made-requires c =
