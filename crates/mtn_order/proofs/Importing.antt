@@ -73,17 +73,15 @@ module _ (f : List ℕ → List ℕ) where
   from_there : (number : ℕ) (s t : State) (same : IsSameUpToOrder f s t) (ps : List Packet) (refusal : Option Refusal) (after : State) (new : Kept) → ArePacketsFit ps → ReadsFrom f number s ps refusal after new →
       AllOnward (λ v. ReadsFrom f number t ps refusal v new) refusal after
   from_there number s t same [] refusal after new fit is = (t, (is.0, refl, is.2), λ none. subst (λ (u : State). IsSameUpToOrder f u t) (sym is.1) same)
-  from_there number s t same (p ∷ ps) refusal after new fit is = let first = packet_there s t same p is.0 is.1 is.2 fit.0 is.3 in by is.0 refl is.4 first.0 first.1 first.2
+  from_there number s t same (p ∷ ps) refusal after new fit is = let first = packet_there s t same p is.0 is.1 is.2 fit.0 is.3 in
+      by (λ mid onward more x. from_there (number + 1) is.1 mid onward ps refusal after more fit.1 x) is.0 refl is.4 first.0 first.1 first.2
     where
-      abbrev Rest : State → Option Refusal → State → Kept → Type 0
-      Rest mid r v more = ReadsFrom f (number + 1) mid ps r v more
-
-      by : (own : Option Cause) → is.0 ≡ own → Before number own is.2 (Rest is.1) refusal after new → (mid : State) → Reads f t p is.0 mid is.2 → (is.0 ≡ None → IsSameUpToOrder f is.1 mid) → AllOnward (λ v. ReadsFrom f number t (p ∷ ps) refusal v new) refusal after
-      by (Some cause) e x mid there onward =
-          (t, (is.0, mid, is.2, there, subst (λ o. Before number o is.2 (Rest mid) refusal t new) (sym e) x), λ none. absurd (let z = sym x ∙ none in cc))
-      by None e x mid there onward =
-          let rest = from_there (number + 1) is.1 mid (onward e) ps refusal after x.0 fit.1 x.1 in
-          (rest.0, (is.0, mid, is.2, there, subst (λ o. Before number o is.2 (Rest mid) refusal rest.0 new) (sym e) (x.0, rest.1, x.2)), rest.2)
+      by : ((mid : State) → IsSameUpToOrder f is.1 mid → (more : Kept) → ReadsFrom f (number + 1) is.1 ps refusal after more → AllOnward (λ v. ReadsFrom f (number + 1) mid ps refusal v more) refusal after) → (own : Option Cause) → is.0 ≡ own → Before number own is.2 (λ r v more. ReadsFrom f (number + 1) is.1 ps r v more) refusal after new → (mid : State) → Reads f t p is.0 mid is.2 → (is.0 ≡ None → IsSameUpToOrder f is.1 mid) → AllOnward (λ v. ReadsFrom f number t (p ∷ ps) refusal v new) refusal after
+      by again (Some cause) e x mid there onward =
+          (t, (is.0, mid, is.2, there, subst (λ o. Before number o is.2 (λ r v more. ReadsFrom f (number + 1) mid ps r v more) refusal t new) (sym e) x), λ none. absurd (let z = sym x ∙ none in cc))
+      by again None e x mid there onward =
+          let rest = again mid (onward e) x.0 x.1 in
+          (rest.0, (is.0, mid, is.2, there, subst (λ o. Before number o is.2 (λ r v more. ReadsFrom f (number + 1) mid ps r v more) refusal rest.0 new) (sym e) (x.0, rest.1, x.2)), rest.2)
 
   imported_there : (s t : State) (same : IsSameUpToOrder f s t) (packets : List Packet) (refusal : Option Refusal) (after : State) (new : Kept) → ArePacketsFit packets → Imports f s packets refusal after new →
       AllOnward (λ v. Imports f t packets refusal v new) refusal after

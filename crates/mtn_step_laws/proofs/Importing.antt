@@ -1,5 +1,6 @@
 -- The packets of an input keep a state lawful.
-use Rattle.std.specs.Prelude.{IsSome, is_none, is_some, nat_le}
+use Rattle.std.specs.Prelude.{IsSome, ◌==◌, ◌&&◌, is_none, is_some, nat_le, not}
+use Rattle.std.specs.List.{list_all}
 use Rattle.std.proofs.Common.{◌≡◌, ◌≤◌, ◌<◌, ℕ, Bool, true, false, cond, List, [], ◌∷◌, length, Option, Some, None, refl, sym, ap, ◌∙◌, subst, arith}
 use Rattle.std.proofs.lemmas.Bool.Decides.{nat_tests}
 use Rattle.mtn_base.specs.Hex.{read_id}
@@ -42,7 +43,8 @@ field_is : (field : List ℕ) → IsField field → is_field field ≡ true
 field_is field is =
     let some = is.some in
     let most = is.most in
-    both_true _ _ (both_true _ _ (grind (arith, nat_tests)) (grind (arith, nat_tests))) is.bytes
+    both_true (not (length field == 0) && nat_le (length field) 255) (list_all is_field_byte field)
+    (both_true (not (length field == 0)) (nat_le (length field) 255) (grind (arith, nat_tests, some)) (grind (arith, nat_tests, most))) is.bytes
 
 id_is : (text rest : List ℕ) (id : Id) → SpacedId text id rest → IsIdBytes id.0
 id_is text rest id is = subst (If (λ (i : Id). IsIdBytes i.0)) is.is_id (read_is is.digits)

@@ -48,19 +48,16 @@ module _ (f : List ℕ → List ℕ) where
   one_from number s [] a b t u m n is also = (is.0 ∙ sym also.0, λ none. (is.1 ∙ sym also.1, is.2 ∙ sym also.2))
   one_from number s (p ∷ ps) a b t u m n is also =
       let first = one_packet s p is.0 also.0 is.1 also.1 is.2 also.2 is.3 also.3 in
-      rest is.0 also.0 first.0 first.1 is.4 also.4
+      rest (λ r q x y. one_from (number + 1) is.1 ps a b t u r q x y) is.0 also.0 first.0 first.1 is.4 also.4
     where
-      abbrev Rest : State → Option Refusal → State → Kept → Type 0
-      Rest mid r v more = ReadsFrom f (number + 1) mid ps r v more
-
-      rest : (own other : Option Cause) → own ≡ other → (own ≡ None → (is.1 ≡ also.1) × (is.2 ≡ also.2)) → Before number own is.2 (Rest is.1) a t m → Before number other also.2 (Rest also.1) b u n → IsOne a b t u m n
-      rest None None same after x y =
+      rest : ((r q : Kept) → ReadsFrom f (number + 1) is.1 ps a t r → ReadsFrom f (number + 1) is.1 ps b u q → IsOne a b t u r q) → (own other : Option Cause) → own ≡ other → (own ≡ None → (is.1 ≡ also.1) × (is.2 ≡ also.2)) → Before number own is.2 (λ r v more. ReadsFrom f (number + 1) is.1 ps r v more) a t m → Before number other also.2 (λ r v more. ReadsFrom f (number + 1) also.1 ps r v more) b u n → IsOne a b t u m n
+      rest again None None same after x y =
           let both = after refl in
-          let z = one_from (number + 1) is.1 ps a b t u x.0 y.0 x.1 (subst (λ mid. Rest mid b u y.0) (sym both.0) y.1) in
+          let z = again x.0 y.0 x.1 (subst (λ mid. ReadsFrom f (number + 1) mid ps b u y.0) (sym both.0) y.1) in
           (z.0, λ none. let last = z.1 none in (last.0, x.2 ∙ (λ i. with_more (both.1 i) (last.1 i)) ∙ sym y.2))
-      rest None (Some cause) same after x y = absurd (let e = same in cc)
-      rest (Some cause) None same after x y = absurd (let e = same in cc)
-      rest (Some cause) (Some other) same after x y =
+      rest again None (Some cause) same after x y = absurd (let e = same in cc)
+      rest again (Some cause) None same after x y = absurd (let e = same in cc)
+      rest again (Some cause) (Some other) same after x y =
           let e : cause ≡ other = let both = same in cc in
           (x ∙ ap (λ c. Some (record { packet = number; cause = c })) e ∙ sym y, λ none. absurd (let t = sym x ∙ none in cc))
 

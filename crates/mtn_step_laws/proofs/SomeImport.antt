@@ -14,7 +14,7 @@ use Rattle.mtn_base.specs.declared.refusal.Cause.{Cause}
 use Rattle.mtn_base.specs.declared.refusal.Refusal.{Refusal}
 use Rattle.mtn_base.proofs.IdOrder.{contains_cases, contains_head, contains_later, contains_nil}
 use Rattle.mtn_base.proofs.Orders.{bytes_total, exact_bytes}
-use Rattle.mtn_imports.specs.Imports.{Before, Imports, IsKeyFor, Kept, Matched, Reads, ReadsFrom, ReadsInput, cert_refusal, first_mismatch, kept, refusal_of_all}
+use Rattle.mtn_imports.specs.Imports.{Before, Imports, IsKeyFor, Kept, Matched, Reads, ReadsFrom, ReadsInput, cert_refusal, first_mismatch, kept, refusal_of_all, with_more}
 use Rattle.mtn_imports.proofs.SomePackets.{packets_or_fault}
 use Rattle.mtn_model.specs.Keys.{IsAlone}
 use Rattle.mtn_model.specs.Outcome.{Outcome}
@@ -79,20 +79,20 @@ some_key table (key.Name name) = key_of_name table name
 
 module _ (f : List ℕ → List ℕ) where
   some_packet : (s : State) (p : Packet) → IsLawful f s → (own : Option Cause) × (t : State) × (new : Kept) × Reads f s p own t new
-  some_packet s (packet.File id bytes) law = (_, _, _, refl, refl, refl)
-  some_packet s (packet.Revision id text) law = let d = some_decision f s law text in (d.0, d.1, _, d.2, refl)
-  some_packet s (packet.Cert revision name k value signature) law = let found = some_key s.keys k in (_, _, _, found.0, found.1, refl, refl, refl)
-  some_packet s packet.Passed law = (_, _, _, refl, refl, refl)
+  some_packet s (packet.File id bytes) law = (_, _, _, (refl, refl, refl))
+  some_packet s (packet.Revision id text) law = let d = some_decision f s law text in (d.0, d.1, _, (d.2, refl))
+  some_packet s (packet.Cert revision name k value signature) law = let found = some_key s.keys k in (_, _, _, (found.0, found.1, refl, refl, refl))
+  some_packet s packet.Passed law = (_, _, _, (refl, refl, refl))
 
   some_from : (number : ℕ) (s : State) (ps : List Packet) → IsLawful f s → ArePacketsFit ps → (refusal : Option Refusal) × (t : State) × (new : Kept) × ReadsFrom f number s ps refusal t new
-  some_from number s [] law fit = (_, _, _, refl, refl, refl)
-  some_from number s (p ∷ ps) law fit = let first = some_packet s p law in by first.0 first.1 first.2 first.3 refl
+  some_from number s [] law fit = (_, _, _, (refl, refl, refl))
+  some_from number s (p ∷ ps) law fit = let first = some_packet s p law in by (λ mid lawful. some_from (number + 1) mid ps lawful fit.1) first.0 first.1 first.2 first.3 refl
     where
-      by : (own : Option Cause) (mid : State) (one : Kept) → Reads f s p own mid one → (o : Option Cause) → own ≡ o → (refusal : Option Refusal) × (t : State) × (new : Kept) × ReadsFrom f number s (p ∷ ps) refusal t new
-      by own mid one is (Some cause) e = (_, s, kept 0 0 0, own, mid, one, is, subst (λ o. Before number o one (λ r u more. ReadsFrom f (number + 1) mid ps r u more) _ s (kept 0 0 0)) (sym e) refl)
-      by own mid one is None e =
-          let rest = some_from (number + 1) mid ps (lawful_packet f s p own mid one law fit.0 is e) fit.1 in
-          (rest.0, rest.1, _, own, mid, one, is, subst (λ o. Before number o one (λ r u more. ReadsFrom f (number + 1) mid ps r u more) rest.0 rest.1 _) (sym e) (rest.2, rest.3, refl))
+      by : ((mid : State) → IsLawful f mid → (refusal : Option Refusal) × (t : State) × (new : Kept) × ReadsFrom f (number + 1) mid ps refusal t new) → (own : Option Cause) (mid : State) (one : Kept) → Reads f s p own mid one → (o : Option Cause) → own ≡ o → (refusal : Option Refusal) × (t : State) × (new : Kept) × ReadsFrom f number s (p ∷ ps) refusal t new
+      by again own mid one is (Some cause) e = (Some (record { packet = number; cause = cause }), s, kept 0 0 0, (own, mid, one, is, subst (λ o. Before number o one (λ r u more. ReadsFrom f (number + 1) mid ps r u more) (Some (record { packet = number; cause = cause })) s (kept 0 0 0)) (sym e) refl))
+      by again own mid one is None e =
+          let rest = again mid (lawful_packet f s p own mid one law fit.0 is e) in
+          (rest.0, rest.1, with_more one rest.2, (own, mid, one, is, subst (λ o. Before number o one (λ r u more. ReadsFrom f (number + 1) mid ps r u more) rest.0 rest.1 (with_more one rest.2)) (sym e) (rest.2, rest.3, refl)))
 
   some_import : (s : State) (packets : List Packet) → IsLawful f s → ArePacketsFit packets → (refusal : Option Refusal) × (t : State) × (new : Kept) × Imports f s packets refusal t new
   some_import s packets law fit = by (first_mismatch f 1 packets)
