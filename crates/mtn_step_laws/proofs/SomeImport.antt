@@ -86,7 +86,7 @@ module _ (f : List ℕ → List ℕ) where
 
   some_from : (number : ℕ) (s : State) (ps : List Packet) → IsLawful f s → ArePacketsFit ps → (refusal : Option Refusal) × (t : State) × (new : Kept) × ReadsFrom f number s ps refusal t new
   some_from number s [] law fit = (_, _, _, (refl, refl, refl))
-  some_from number s (p ∷ ps) law fit = let first = some_packet s p law in by (λ mid lawful. some_from (number + 1) mid ps lawful fit.1) first.0 first.1 first.2 first.3 refl
+  some_from number s (p ∷ ps) law fit = let first = some_packet s p law in by (λ mid lawful. some_from (number + 1) mid ps lawful fit.1) first.0 first.1 first.2 first.3 first.0 refl
     where
       by : ((mid : State) → IsLawful f mid → (refusal : Option Refusal) × (t : State) × (new : Kept) × ReadsFrom f (number + 1) mid ps refusal t new) → (own : Option Cause) (mid : State) (one : Kept) → Reads f s p own mid one → (o : Option Cause) → own ≡ o → (refusal : Option Refusal) × (t : State) × (new : Kept) × ReadsFrom f number s (p ∷ ps) refusal t new
       by again own mid one is (Some cause) e = (Some (record { packet = number; cause = cause }), s, kept 0 0 0, (own, mid, one, is, subst (λ o. Before number o one (λ r u more. ReadsFrom f (number + 1) mid ps r u more) (Some (record { packet = number; cause = cause })) s (kept 0 0 0)) (sym e) refl))
