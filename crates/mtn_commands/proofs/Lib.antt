@@ -10,3 +10,4 @@ pub mod MergeLemmas
 pub mod QueryLemmas
 pub mod ViewLemmas
 pub mod PacketsLemmas
+pub mod ReadingLemmas
