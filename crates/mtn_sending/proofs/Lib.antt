@@ -1,0 +1,6 @@
+pub mod Adding
+pub mod Certs
+pub mod Erring
+pub mod Packets
+pub mod One
+pub mod Exported
