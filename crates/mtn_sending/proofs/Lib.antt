@@ -3,4 +3,5 @@ pub mod Certs
 pub mod Erring
 pub mod Packets
 pub mod One
+pub mod Placed
 pub mod Exported

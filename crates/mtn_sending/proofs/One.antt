@@ -3,7 +3,7 @@ use Rattle.std.specs.BTreeSet.{BTreeSet}
 use Rattle.std.specs.Prelude.{Contains}
 use Rattle.std.specs.FinMap.{get}
 use Rattle.std.specs.List.{flat_map}
-use Rattle.std.proofs.Common.{◌≡◌, ◌+◌, ◌<◌, ◌≤◌, ℕ, List, [], ◌∷◌, ◌++◌, Option, Some, get_or, length, map, take, refl, sym, ap, ◌∙◌, subst}
+use Rattle.std.proofs.Common.{◌≡◌, ◌+◌, ◌<◌, ◌≤◌, ℕ, List, [], ◌∷◌, ◌++◌, Option, Some, Result, get_or, length, map, take, refl, sym, ap, ◌∙◌, subst}
 use Rattle.std.proofs.lemmas.List.{append-nil, append_assoc, map-append, take_all, take_more}
 use Rattle.std.proofs.lemmas.List.Concat.{flat_map-append}
 use Rattle.mtn_base.specs.declared.id.Id.{Id}
@@ -15,6 +15,7 @@ use Rattle.mtn_exports.proofs.Sending.{sent_more}
 use Rattle.mtn_exports.proofs.Writing.{new_contained}
 use Rattle.mtn_answers.specs.Queries.{IsHeld}
 use Rattle.mtn_history.specs.Stands.{IsFounded}
+use Rattle.mtn_history.specs.declared.errors.StoreError.{StoreError}
 use Rattle.mtn_history.specs.declared.pending.Pending.{Pending}
 use Rattle.mtn_history_laws.specs.History.{Revision}
 use Rattle.mtn_model.specs.Table.{Contents}
@@ -25,7 +26,7 @@ use Rattle.mtn_packets.specs.declared.packet.Packet.TheVariants as packet
 use Rattle.mtn_replay.specs.Lawful.{IsHistory, Spells}
 use Rattle.mtn_replay.specs.Making.{new_contents}
 use Rattle.mtn_replay.specs.Texts.{text_under}
-use Rattle.mtn_sending.specs.Sending.{Adds, AreHeld, IsSetOf, WritesCerts, WritesOne, WritesSoFar}
+use Rattle.mtn_sending.specs.Sending.{Adds, AreHeld, Gives, IsSetOf, WritesAll, WritesCerts, WritesOne, WritesSoFar}
 
 -- the new files of a revision are held
 pub files_held : (f : List ℕ → List ℕ) (s : State) (h : List Revision) → IsHistory f s.files s.log h → (id : Id) (text : List ℕ) (r : Spelled) → text_under s.log id.0 ≡ Some text → Spells text r → (before files : List Id) →
@@ -75,3 +76,20 @@ read_under f told p s d id held bytes same = let t = has_text f s.files s.log d.
 -- the new files, by what was added
 pub new_of : (sent now : BTreeSet Id) (before files contents : List Id) → IsSetOf sent before → Adds sent now [] files contents → files ≡ new_to before contents
 new_of sent now before files contents set adds = (adds before (subst (IsSetOf sent) (sym (append-nil before)) set)).1 ∙ ap (λ l. new_to l contents) (append-nil before)
+
+-- what is known of one revision, over the records that are told
+abbrev pub FindsOne : {X : Type 0} → Option Contents → Pending → Id → BTreeSet Id → BTreeSet Id → List ℕ → List ℕ → Result X StoreError → Type 0
+FindsOne told p id sent now old new r =
+    (f : List ℕ → List ℕ) (s : State) (d : IsFounded f told p s) → IsHeld d.stands.history id → (before : List Id) → IsSetOf sent before → Gives r (λ _. WritesOne s before id now old new)
+
+-- all of them
+pub all_written : (s : State) (ids : List Id) (i : ℕ) (now : BTreeSet Id) (old new : List ℕ) → length ids ≤ i → WritesSoFar s (take i ids) now old new → WritesAll s ids old new
+all_written s ids i now old new le so_far = let all = subst (λ l. WritesSoFar s l now old new) (take_all i ids le) so_far in (all.0, all.1, all.2, all.4)
+
+-- before any nothing was written
+pub none_written : (s : State) (now : BTreeSet Id) (old : List ℕ) → IsSetOf now [] → WritesSoFar s [] now old old
+none_written s now old set = ([], [], (refl, refl), set, sym (append-nil old))
+
+-- the same of all
+abbrev pub FindsAll : {X : Type 0} → Option Contents → Pending → List Id → List ℕ → List ℕ → Result X StoreError → Type 0
+FindsAll told p ids old new r = (f : List ℕ → List ℕ) (s : State) (d : IsFounded f told p s) → ((x : Id) → Contains ids x → IsHeld d.stands.history x) → Gives r (λ _. WritesAll s ids old new)

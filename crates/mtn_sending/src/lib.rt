@@ -11,7 +11,6 @@
 mod brought;
 mod exporting;
 mod files;
-mod order;
 mod said;
 mod sending;
 mod texts;

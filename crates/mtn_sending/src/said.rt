@@ -10,9 +10,8 @@ ghost use Rattle.mtn_ports.specs.Causes.{Rose};
 ghost use Rattle.mtn_ports.specs.Kept.{Stays, with_all};
 ghost use Rattle.mtn_sending.specs.Sending.{Gives, WritesCerts};
 
-use crate::order::sorted_of;
 use mtn_base::{Id, NoMemory};
-use mtn_certs::Cert;
+use mtn_certs::{Cert, sorted_of};
 use mtn_history::{Draft, StoreError};
 use mtn_packets::{Packet, PacketKey, write};
 use mtn_ports::Keeper;

@@ -1,5 +1,5 @@
 // Revisions one after the other.
-ghost use Rattle.std.specs.Prelude.{◌≡◌, List, ℕ, Err, Contains, IfErr, IfSome, length};
+ghost use Rattle.std.specs.Prelude.{◌≡◌, ◌<◌, List, ℕ, Err, Contains, IfErr, IfSome, length};
 ghost use Rattle.mtn_answers.specs.Queries.{IsHeld};
 ghost use Rattle.mtn_branches.specs.Graphs.{IsHeldBy};
 ghost use Rattle.mtn_base.specs.declared.id.Id.{Id as Named};
@@ -50,6 +50,14 @@ fn send_one<K: Keeper>(
     write_certs(draft, id, out)
 }
 
+// Where a revision of the graph stands.
+fn place(graph: &Graph, id: Id) -> Pos
+    requires { IsHeldBy graph.now id }
+    ensures { result < length graph.now }
+{
+    graph.find(id).unwrap()
+}
+
 /// Appends the packets of revisions that the graph has.
 pub fn send_all<K: Keeper>(
     draft: &mut Draft<'_, K>,
@@ -68,8 +76,7 @@ pub fn send_all<K: Keeper>(
 {
     let mut sent = BTreeSet::new(draft.alloc());
     for id in ids {
-        let at = graph.find(*id).unwrap();
-        send_one(draft, at, *id, &mut sent, out)?;
+        send_one(draft, place(graph, *id), *id, &mut sent, out)?;
     }
     Ok(())
 }
