@@ -1,4 +1,5 @@
 -- What was sent, as a set, and what is added to it.
+use Rattle.std.specs.BTreeMap.{is_at}
 use Rattle.std.specs.BTreeSet.{BTreeSet, contains, Updates}
 use Rattle.std.specs.Cmp.{tied_itself}
 use Rattle.std.specs.List.{list_any}
@@ -130,3 +131,7 @@ pub adds_edge : (sent mid now : BTreeSet Id) (some more : List Id) (edges : List
 adds_edge sent mid now some more edges i x changes lt is own first later =
     subst (Adds sent now [] more) (ap (λ cs. new_contents (take i edges) ++ filter_map new_content cs) own ∙ sym (contents_more edges i x lt is))
     (adds_on sent mid now [] some more (new_contents (take i edges)) (filter_map new_content changes) first later)
+
+-- nothing was sent yet
+pub set_none : (sent : BTreeSet Id) → sent.keys ≡ [] → IsSetOf sent []
+set_none sent empty i = ap (λ (ks : List Id). list_any (is_at (by_id i)) ks) empty

@@ -1,6 +1,6 @@
 -- Where the revisions of a graph stand.
 use Rattle.std.specs.Prelude.{Contains, is_some, option_map, slice_get}
-use Rattle.std.proofs.Common.{◌≡◌, ◌<◌, ℕ, true, List, Option, Some, None, length, map, refl, sym, ap, ◌∙◌}
+use Rattle.std.proofs.Common.{◌≡◌, ◌<◌, ℕ, true, List, [], Option, Some, None, length, map, refl, sym, ap, ◌∙◌}
 use Rattle.std.proofs.lemmas.List.{length-map}
 use Rattle.std.proofs.lemmas.Option.{slice_get-map}
 use Rattle.mtn_ancestry.specs.Log.{id_at, list_of}
@@ -27,7 +27,7 @@ id_within log id at is = by (slice_get log at) refl is
     by (Some entry) here e = inside log at entry here
 
 -- a graph tells a history, whatever its trees are
-bare : LogEntry → Revision
+pub bare : LogEntry → Revision
 bare e = record { id = e.id; parents = list_of e.parents; tree = [] }
 
 abbrev pub bare_history : List LogEntry → List Revision

@@ -1,6 +1,6 @@
 use Rattle.std.specs.BTreeSet.{BTreeSet}
 use Rattle.std.specs.Prelude.{Contains}
-use Rattle.std.proofs.Common.{Err, [], List, ℕ, length, get_or, refl, sym, ap, ◌∙◌, subst, arith}
+use Rattle.std.proofs.Common.{Ok, Err, [], List, ℕ, length, get_or, refl, sym, ap, ◌∙◌, subst, arith}
 use Rattle.std.proofs.lemmas.List.{get_or_default}
 use Rattle.std.proofs.lemmas.Result.{err_from_is_err_and}
 use Rattle.mtn_base.specs.declared.id.Id.{Id}
@@ -13,7 +13,7 @@ use Rattle.mtn_sending.proofs.One.{FindsOne, all_written, one_more}
 use Rattle.mtn_sending.proofs.sending.send_all.Goals as goal
 
 pub place-requires : goal.place-requires
-place-requires g c = c.args.requires (get_or c.args.ids.now c.loop-id.id-index (record { 0 = [] })) (c.loop-id.id-index, c.loop-id-test.true, sym (get_or_default c.args.ids.now c.loop-id.id-index _ _ c.loop-id-test.true))
+place-requires g c = c.requires (get_or c.args.ids.now c.loop-id.id-index (record { 0 = [] })) (c.loop-id.id-index, c.loop-id-test.true, sym (get_or_default c.args.ids.now c.loop-id.id-index _ _ c.loop-id-test.true))
 
 pub returns-in_err-send_one-clause-stays : goal.returns-in_err-send_one-clause-stays
 returns-in_err-send_one-clause-stays g c = stays_trans g.K.Keeper.contents g.K.Keeper.leaves g.K.Keeper.faults _ _ _ c.loop-id.invariant.stays c.send_one.ensures.stays
@@ -26,7 +26,7 @@ returns-in_err-send_one-clause-found g c = λ f s d held.
     let x = get_or c.args.ids.now c.loop-id.id-index (record { 0 = [] }) in
     let own = held x (c.loop-id.id-index, c.loop-id-test.true, sym (get_or_default c.args.ids.now c.loop-id.id-index _ _ c.loop-id-test.true)) in
     let so_far = c.loop-id.invariant.found f s (back f before told c.args.draft.now.pending s c.send_one.ensures.stays.same d) held in
-    let finds = subst (λ (z : Pending). FindsOne told z x c.loop-id.sent c.send_one.new.sent c.loop-id.out.items c.send_one.new.out.items c.send_one.result) c.loop-id.invariant.pending c.send_one.ensures.found in
+    let finds = subst (λ (z : Pending). FindsOne {X = Unit {0}} told z x c.loop-id.sent c.send_one.new.sent c.loop-id.out.items c.send_one.new.out.items (Err c.in_err-send_one.field-0.0)) c.loop-id.invariant.pending c.in_err-send_one.ensures.found in
     gives_err c.from_residual.result c.in_err-send_one.field-0.0 _ (p.1 ∙ ap Err p.2) (finds f s d own so_far.1 so_far.3)
 
 pub returns-in_err-send_one-clause-shown : goal.returns-in_err-send_one-clause-shown
@@ -47,7 +47,7 @@ loop-id-preserved g c = record {
       let at = get_or_default c.args.ids.now c.loop-id.id-index _ _ c.loop-id-test.true in
       let own = held x (c.loop-id.id-index, c.loop-id-test.true, sym at) in
       let so_far = c.loop-id.invariant.found f s (back f before told c.args.draft.now.pending s c.send_one.ensures.stays.same d) held in
-      let finds = subst (λ (z : Pending). FindsOne told z x c.loop-id.sent c.send_one.new.sent c.loop-id.out.items c.send_one.new.out.items c.send_one.result) c.loop-id.invariant.pending c.send_one.ensures.found in
+      let finds = subst (λ (z : Pending). FindsOne {X = Unit {0}} told z x c.loop-id.sent c.send_one.new.sent c.loop-id.out.items c.send_one.new.out.items (Ok tt)) c.loop-id.invariant.pending c.in_ok-send_one.ensures.found in
       one_more s c.args.ids.now c.loop-id.id-index x c.loop-id.sent c.send_one.new.sent c.args.out.now.items c.loop-id.out.items c.send_one.new.out.items c.loop-id-test.true at so_far (λ earlier set. finds f s d own earlier set);
 }
 
