@@ -16,7 +16,7 @@ use Rattle.mtn_history_laws.specs.History.{Revision}
 use Rattle.mtn_model.specs.State.{Logged, State}
 use Rattle.mtn_model.specs.Table.{Table}
 use Rattle.mtn_renaming.proofs.Elements.{contains_at, none_passes}
-use Rattle.mtn_replay.specs.Accepting.{Decides, IsDecided, logged_beside, refusal_beside}
+use Rattle.mtn_replay.specs.Accepting.{Decides, logged_beside, refusal_beside}
 use Rattle.mtn_replay.specs.Files.{collision, file_refusal, with_file}
 use Rattle.mtn_replay.specs.Lawful.{IsHistory, IsLawful, IsNext, Spells}
 use Rattle.mtn_replay.specs.Making.{made, place_of, refusal_of}

@@ -1,6 +1,5 @@
 -- A command has an outcome.
-use Rattle.std.proofs.Common.{◌≡◌, ◌≢◌, ℕ, Bool, List, [], ◌∷◌, length, Option, Some, None, Ok, Err, refl, inl, inr}
-use Rattle.std.proofs.lemmas.Bool.{cases_lt}
+use Rattle.std.proofs.Common.{◌≡◌, ℕ, Bool, List, [], ◌∷◌, Option, Some, None, Ok, Err, refl}
 use Rattle.mtn_answers.specs.Queries.{first_unknown, ids_of}
 use Rattle.mtn_answers.specs.Views.{TextAnswer, IsContentChanged, IsRoster, corresponding_at, manifest_at}
 use Rattle.mtn_answers.specs.declared.query.Query.{Query}
@@ -8,13 +7,9 @@ use Rattle.mtn_answers.proofs.Existing.{some_answer, some_graph}
 use Rattle.mtn_answers.proofs.MarksExist.{some_content, some_roster}
 use Rattle.mtn_base.specs.declared.id.Id.{Id}
 use Rattle.mtn_base.specs.declared.refusal.Cause.{Cause}
-use Rattle.mtn_base.specs.declared.refusal.Cause.TheVariants.{TextTooLong}
-use Rattle.mtn_changes.specs.declared.error.ChangeTextError.{ChangeTextError}
-use Rattle.mtn_changes.specs.declared.error.ChangeTextError.TheVariants as error
 use Rattle.mtn_history_laws.specs.History.{Revision, IsGrown}
 use Rattle.mtn_model.specs.Outcome.{Outcome}
 use Rattle.mtn_model.specs.State.{State}
-use Rattle.mtn_replay.specs.Accepting.{Decides, fault_cause, logged_beside, refusal_beside}
 use Rattle.mtn_replay.specs.Lawful.{IsLawful}
 use Rattle.mtn_replay.specs.Texts.{text_under}
 use Rattle.mtn_replay.proofs.Histories.{history_is_grown}

@@ -1,18 +1,17 @@
 -- The packets of an input keep a state lawful.
-use Rattle.std.specs.Prelude.{IsSome, ◌==◌, ◌&&◌, is_none, is_some, nat_le, not}
+use Rattle.std.specs.Prelude.{IsSome, ◌==◌, ◌&&◌, is_none, nat_le, not}
 use Rattle.std.specs.List.{list_all}
-use Rattle.std.proofs.Common.{◌≡◌, ◌≤◌, ◌<◌, ℕ, Bool, true, false, cond, List, [], ◌∷◌, length, Option, Some, None, refl, sym, ap, ◌∙◌, subst, arith}
+use Rattle.std.proofs.Common.{◌≡◌, ◌≤◌, ℕ, Bool, true, false, cond, List, [], ◌∷◌, length, Option, Some, None, refl, sym, ◌∙◌, subst, arith}
 use Rattle.std.proofs.lemmas.Bool.Decides.{nat_tests}
 use Rattle.mtn_base.specs.Hex.{read_id}
 use Rattle.mtn_base.specs.declared.id.Id.{Id}
 use Rattle.mtn_base.specs.declared.refusal.Cause.{Cause}
-use Rattle.mtn_base.specs.declared.refusal.Cause.TheVariants.{TextTooLong, UnknownKey, UnknownRevision}
+use Rattle.mtn_base.specs.declared.refusal.Cause.TheVariants.{TextTooLong, UnknownRevision}
 use Rattle.mtn_base.proofs.Tests.{both_true}
 use Rattle.mtn_certs.specs.Certificates.{IsIdBytes, certificate, is_field, is_field_byte}
-use Rattle.mtn_changeset_laws.specs.Changes.{or_else}
-use Rattle.mtn_imports.specs.Imports.{IsKeyFor, Kept, Reads, cert_refusal, too_long, unknown_key, unknown_revision, with_cert_of}
+use Rattle.mtn_imports.specs.Imports.{IsKeyFor, Kept, Reads, cert_refusal, too_long, unknown_revision, with_cert_of}
 use Rattle.mtn_model.specs.State.{State}
-use Rattle.mtn_packets.specs.Packets.{ArePackets, IsField, IsPacket, SpacedId, key_from, key_of}
+use Rattle.mtn_packets.specs.Packets.{ArePackets, IsField, IsPacket, SpacedId, key_from}
 use Rattle.mtn_packets.specs.declared.packet.Packet.{Packet}
 use Rattle.mtn_packets.specs.declared.packet.Packet.TheVariants as packet
 use Rattle.mtn_packets.specs.declared.packet.PacketKey.{PacketKey}

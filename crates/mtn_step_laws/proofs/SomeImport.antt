@@ -1,9 +1,6 @@
 -- The packets of an input come to something.
 use Rattle.std.specs.Prelude.{Contains, is_some}
 use Rattle.std.specs.FinMap.{contains_key-keys, get, keys}
-use Rattle.std.specs.Ordering.{is_eq}
-use Rattle.std.specs.declared.cmp.Ordering.{Ordering}
-use Rattle.std.specs.declared.cmp.Ordering.TheVariants.{Less, Equal, Greater}
 use Rattle.std.proofs.Common.{◌≡◌, ◌+◌, ℕ, List, [], ◌∷◌, Option, Some, None, refl, sym, ap, ◌∙◌, subst, ⊎_elim, inl, inr}
 use Rattle.std.specs.Ordering.{eq_by_cmp}
 use Rattle.std.proofs.lemmas.Map.Views.{Contains-from_any}
@@ -14,7 +11,7 @@ use Rattle.mtn_base.specs.declared.refusal.Cause.{Cause}
 use Rattle.mtn_base.specs.declared.refusal.Refusal.{Refusal}
 use Rattle.mtn_base.proofs.IdOrder.{contains_cases, contains_head, contains_later, contains_nil}
 use Rattle.mtn_base.proofs.Orders.{bytes_total, exact_bytes}
-use Rattle.mtn_imports.specs.Imports.{Before, Imports, IsKeyFor, Kept, Matched, Reads, ReadsFrom, ReadsInput, cert_refusal, first_mismatch, kept, refusal_of_all, with_more}
+use Rattle.mtn_imports.specs.Imports.{Before, Imports, IsKeyFor, Kept, Matched, Reads, ReadsFrom, first_mismatch, kept, refusal_of_all, with_more}
 use Rattle.mtn_imports.proofs.SomePackets.{packets_or_fault}
 use Rattle.mtn_model.specs.Keys.{IsAlone}
 use Rattle.mtn_model.specs.Outcome.{Outcome}
@@ -28,7 +25,7 @@ use Rattle.mtn_replay.specs.Lawful.{IsLawful}
 use Rattle.mtn_step.specs.Step.{ReadsPackets}
 use Rattle.mtn_step_laws.proofs.CertLists.{some_list, tell_bytes, tied}
 use Rattle.mtn_step_laws.proofs.SomeDecision.{some_decision}
-use Rattle.mtn_step_laws.proofs.Importing.{ArePacketsFit, IsPacketFit, lawful_packet, packets_fit}
+use Rattle.mtn_step_laws.proofs.Importing.{ArePacketsFit, lawful_packet, packets_fit}
 
 -- ---- the key of a name
 
@@ -67,7 +64,7 @@ module _ (table : Table) (name : List ℕ) where
       by (k ∷ l ∷ ks) of to = elim (tell_bytes l k) [
         | yes same ↦ by (k ∷ ks) (λ x c. of x (⊎_elim (λ e. subst (Contains (k ∷ l ∷ ks)) e (contains_head k (l ∷ ks))) (λ d. contains_later k (l ∷ ks) (contains_later l ks d)) (contains_cases k ks x c)))
             (λ x held. ⊎_elim (λ e. subst (Contains (k ∷ ks)) e (contains_head k ks))
-                (λ d. ⊎_elim (λ e. subst (Contains (k ∷ ks)) (sym same ∙ e) (contains_head k ks)) (λ c. contains_later k ks c) (contains_cases l ks x d)) (contains_cases k (l ∷ ks) x (to x held)))
+            (λ d. ⊎_elim (λ e. subst (Contains (k ∷ ks)) (sym same ∙ e) (contains_head k ks)) (λ c. contains_later k ks c) (contains_cases l ks x d)) (contains_cases k (l ∷ ks) x (to x held)))
         | no n ↦ none_alone (λ id is. n (is.alone l (of l (contains_later k (l ∷ ks) (contains_head l ks))) ∙ sym (is.alone k (of k (contains_head k (l ∷ ks))))))
       ]
 
