@@ -1,5 +1,5 @@
 -- The packets of an input come to the same over states that are the same up to order.
-use Rattle.std.specs.Prelude.{is_none}
+use Rattle.std.specs.Prelude.{if◌then◌else◌, is_none}
 use Rattle.std.specs.FinMap.{get}
 use Rattle.std.proofs.Common.{◌≡◌, ◌+◌, ℕ, List, [], ◌∷◌, Option, Some, None, refl, sym, ap, ◌∙◌, subst, inl, inr}
 use Rattle.mtn_base.specs.declared.id.Id.{Id}
