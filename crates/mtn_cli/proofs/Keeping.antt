@@ -11,34 +11,15 @@ use Rattle.mtn_base.specs.declared.id.Id.{Id}
 use Rattle.mtn_certs.specs.Certificates.{IsIdBytes}
 use Rattle.mtn_order.specs.Free.{KeepsIds, MakesIds, NamesIds, asks_ids}
 use Rattle.mtn_step.specs.declared.call.Call.{Call}
-use Rattle.mtn_step.specs.declared.call.Call.TheVariants.{PutFile, PutRevision, GetFile, GetRevision, GetManifestOf, GetRoster, GetContentChanged, GetCorrespondingPath, Ask, Graph, Merge, ShowConflicts, Cert, Certs, Key, Heads, Branches, Commit}
+use Rattle.mtn_step_laws.proofs.Ids.{If, read_is}
+use Rattle.mtn_step.specs.declared.call.Call.TheVariants.{PutFile, PutRevision, GetFile, GetRevision, GetManifestOf, GetRoster, GetContentChanged, GetCorrespondingPath, Ask, Graph, Merge, ShowConflicts, Cert, Certs, Key, Heads, Branches, Commit, Packets, Read}
 use Rattle.mtn_step.specs.declared.call.Said.{Said}
 use Rattle.mtn_words.specs.Calls.{ask_named, call_named, call_of, call_with, cert, cert_by, commit, content_changed, corresponding_path, key_named, merge, merge_heads, query_named, said, view_named}
 use Rattle.mtn_words.specs.Options.{has_flag, key_of, option_value, takes}
-use Rattle.mtn_words.specs.Positionals.{no_words, one_id, one_word, read_path, two_ids}
+use Rattle.mtn_words.specs.Positionals.{id_and_ids, ids, no_words, one_id, one_word, read_path, two_ids}
 use Rattle.mtn_words.specs.Words.{command_of}
 use Rattle.mtn_words.specs.declared.words.Command.{Command}
 use Rattle.mtn_words.specs.declared.words.OptionWord.{OptionWord}
-
--- ---- ids
-
--- it is there, and has the property
-abbrev pub If : {A : Type 0} → (A → Type 0) → Option A → Type 0
-If P None = Unit {0}
-If P (Some a) = P a
-
-decoded : (text : List ℕ) (r : Result (List ℕ) FromHexError) → decode_sized text 20 ≡ r → If (λ (id : Id). IsIdBytes id.0) (id_from r)
-decoded text (Err e) is = tt
-decoded text (Ok bytes) is =
-    let long = decode_sized-ok text 20 bytes is in
-    let good = decode_of-ok text bytes (sym (decode_sized-twice text 20 long) ∙ is) in
-    record { twenty = omega (arith, long, good.2); bytes = good.3 }
-
-pub read_is : (text : List ℕ) → If (λ (id : Id). IsIdBytes id.0) (read_id text)
-read_is text = elim (list_all is_lower_digit text) as (λ b. If (λ (id : Id). IsIdBytes id.0) (cond b (id_from (decode_sized text 20)) None)) [
-  | true ↦ decoded text (decode_sized text 20) refl
-  | false ↦ tt
-]
 
 -- ---- calls
 
@@ -96,11 +77,16 @@ key_fits (a ∷ []) = tt
 key_fits (a ∷ name ∷ []) = of (λ (id : Id). IsIdBytes id.0) NamesIds (λ id. Key id name) (λ id is. is) (read_id a) (read_is a)
 key_fits (_ ∷ _ ∷ _ ∷ _) = tt
 
+with_ids : (make : Id → List Id → Call) → ((a : Id) (rest : List Id) → NamesIds (make a rest)) → (words : List (List ℕ)) → Fits (id_and_ids make words)
+with_ids make each [] = tt
+with_ids make each (word ∷ rest) = next (λ id. option_map (make id) (ids rest)) (λ id. plain (make id) (each id) (ids rest)) (read_id word)
+
 ask_fits : (name : List ℕ) (words : List (List ℕ)) → Fits (ask_named name words)
 ask_fits name words =
     either (bytes_eq name (codes "heads")) _ _ (plain Heads (λ _. tt) (one_word words))
     (either (bytes_eq name (codes "branches")) _ _ (plain (λ _. Branches) (λ _. tt) (no_words words))
-    (either (bytes_eq name (codes "graph")) _ _ (plain (λ _. Graph) (λ _. tt) (no_words words)) (plain Ask (λ _. tt) (query_named name words))))
+    (either (bytes_eq name (codes "graph")) _ _ (plain (λ _. Graph) (λ _. tt) (no_words words))
+    (either (bytes_eq name (codes "packets")) _ _ (with_ids Packets (λ _ _. tt) words) (plain Ask (λ _. tt) (query_named name words)))))
 
 view_fits : (name : List ℕ) (words : List (List ℕ)) → Fits (view_named name words)
 view_fits name words =
@@ -117,7 +103,8 @@ named_fits name words =
     (either (bytes_eq name (codes "put_revision")) _ _ (plain (λ _. PutRevision) (λ _. tt) (no_words words))
     (either (bytes_eq name (codes "get_file")) _ _ (plain GetFile (λ _. tt) (one_id words))
     (either (bytes_eq name (codes "get_revision")) _ _ (plain GetRevision (λ _. tt) (one_id words))
-    (either (bytes_eq name (codes "key")) _ _ (key_fits words) (view_fits name words)))))
+    (either (bytes_eq name (codes "key")) _ _ (key_fits words)
+    (either (bytes_eq name (codes "read")) _ _ (plain (λ _. Read) (λ _. tt) (no_words words)) (view_fits name words))))))
 
 -- ---- those with options
 

@@ -15,8 +15,9 @@ use Rattle.mtn_frame.specs.declared.works.WorkError.{WorkError}
 use Rattle.mtn_frame.specs.declared.works.WorkError.TheVariants as work
 use Rattle.mtn_history.specs.declared.errors.StoreError.{StoreError}
 use Rattle.mtn_history.specs.declared.errors.StoreError.TheVariants.{Failed, Damaged, NoMemory}
-use Rattle.mtn_history.specs.declared.errors.HistoryError.{HistoryError}
-use Rattle.mtn_history.specs.declared.errors.HistoryError.TheVariants.{Refused, Store}
+use Rattle.mtn_commands.specs.declared.error.CommandError.{CommandError}
+use Rattle.mtn_commands.specs.declared.error.CommandError.TheVariants.{Refused, Store}
+use Rattle.mtn_frame.specs.Script.{refused}
 use Rattle.mtn_history.specs.declared.pending.Pending.{Pending}
 use Rattle.mtn_history.specs.Damage.{IsDamage}
 use Rattle.mtn_history.specs.Errors.{IfDamage}
@@ -24,9 +25,8 @@ use Rattle.mtn_history.specs.Meta.{IsMetaOf}
 use Rattle.mtn_history.specs.Stands.{Stands, IsDraft}
 use Rattle.mtn_history.proofs.FileLemmas.{draft_stands}
 use Rattle.mtn_history.proofs.MetaLemmas.{no_damage, shown}
-use Rattle.mtn_step.specs.Step.{refused}
-use Rattle.mtn_commands.proofs.ReasonLemmas.{reason_of, wider_reason}
-use Rattle.mtn_commands.specs.Drafts.{Counts, drafted, Drafted, HasReason, HasReplyReason, IsQuiet, Replied, Replies}
+use Rattle.mtn_commands.proofs.ReasonLemmas.{reason_of, wider_command_reason}
+use Rattle.mtn_commands.specs.Drafts.{Counts, HasCommandReason, IsCommandQuiet, Performed, Performs, drafted}
 use Rattle.mtn_cli.specs.Store.{IsLine, IsTold, ShowsDamage}
 
 -- a fact of told records
@@ -69,11 +69,11 @@ no_puts [] none = refl
 no_puts (p ∷ ps) none = absurd (omega (arith, none))
 
 -- conflicts put nothing
-abbrev PutsNone : Bool → Pending → Result Reply HistoryError → Type 0
+abbrev PutsNone : Bool → Pending → Result Reply CommandError → Type 0
 PutsNone merges after (Ok reply) = reply.conflicts ≡ true → (merges ≡ true) × (after.batch ≡ [])
 PutsNone merges after (Err e) = ⊤
 
-none_put : (merges : Bool) (pending before after : Pending) (r : Result Reply HistoryError) → pending.batch ≡ [] → before ≡ pending → IsQuiet merges before after r → PutsNone merges after r
+none_put : (merges : Bool) (pending before after : Pending) (r : Result Reply CommandError) → pending.batch ≡ [] → before ≡ pending → IsCommandQuiet merges before after r → PutsNone merges after r
 none_put merges pending before after (Ok reply) none is quiet = λ on. let q = quiet on in (q.0, ap (λ (p : Pending). p.batch) (q.1 ∙ is) ∙ none)
 none_put merges pending before after (Err e) none is quiet = tt
 
@@ -82,28 +82,28 @@ module _ (f : List ℕ → List ℕ) {M : Type 0} (Knows : M → Contents → Ty
   Target old new m r = Works (Stands f) (ShowsDamage f) IsLine Knows contents leaves faults asked old new m true merges Outcomes (λ s n. ⊥) r
 
   -- what an error means over records that stand for a state
-  abbrev Erred : State → HistoryError → Type 0
-  Erred s (Refused cause) = Outcomes s (refused cause s)
+  abbrev Erred : State → CommandError → Type 0
+  Erred s (Refused refusal) = Outcomes s (refused refusal s)
   Erred s (Store e) = IfDamage e (λ _. ⊥)
 
   -- what is known where a draft was opened and the command worked on it
-  pub record Over (old new : K) (after : Pending) (r : Result Reply HistoryError) : Type 0 where
+  pub record Over (old new : K) (after : Pending) (r : Result Reply CommandError) : Type 0 where
     pub stays : Stays contents leaves faults old new
-    pub done : (c : Contents) (s : State) → contents new ≡ Some c → Stands f c s → Replied f c s (Outcomes s) r after
-    pub reason : HasReplyReason (contents new) (faults old) (faults new) r
+    pub done : (c : Contents) (s : State) → contents new ≡ Some c → Stands f c s → Performed f c s (Outcomes s) r after
+    pub reason : HasCommandReason (contents new) (faults old) (faults new) r
     pub quiet : PutsNone merges after r
 
-  pub over : (old opened begun new : K) (pending before after : Pending) (r : Result Reply HistoryError) → Stays contents leaves faults old opened →
+  pub over : (old opened begun new : K) (pending before after : Pending) (r : Result Reply CommandError) → Stays contents leaves faults old opened →
       ((c : Contents) (s : State) → contents opened ≡ Some c → Stands f c s → IsDraft f c pending s) → pending.batch ≡ [] →
       IfSome (contents opened) (λ c. IsMetaOf c (record { count = pending.count; is_new = pending.is_new })) → begun ≡ opened → before ≡ pending →
-      Replies f contents leaves faults begun new before after merges Outcomes r → Over old new after r
+      Performs f contents leaves faults begun new before after merges Outcomes r → Over old new after r
   over old opened begun new pending before after r stays opens none counted same is drafts =
       let to_begun : Stays contents leaves faults old begun = subst (Stays contents leaves faults old) (sym same) stays in
       record {
         stays = stays_trans contents leaves faults old begun new to_begun drafts.stays;
         done = λ c s now stands. drafts.done c s now (subst (λ (p : Pending). IsDraft f c p s) (sym is) (opens c s (ap contents (sym same) ∙ drafts.stays.same c now) stands));
-        reason = wider_reason (contents new) (faults old) (faults begun) (faults new) (faults new) r to_begun.later (omega arith)
-            (subst (λ told. HasReplyReason told (faults begun) (faults new) r) (nothing_over before (contents new) (ap (λ (p : Pending). p.batch) is ∙ none))
+        reason = wider_command_reason (contents new) (faults old) (faults begun) (faults new) (faults new) r to_begun.later (omega arith)
+            (subst (λ told. HasCommandReason told (faults begun) (faults new) r) (nothing_over before (contents new) (ap (λ (p : Pending). p.batch) is ∙ none))
             (drafts.reason (counts_of (contents opened) (contents new) pending before none is (λ c now. ap contents (sym same) ∙ drafts.stays.same c now) counted)));
         quiet = none_put merges pending before after r none is drafts.quiet;
       }
@@ -129,14 +129,14 @@ module _ (f : List ℕ → List ℕ) {M : Type 0} (Knows : M → Contents → Ty
     few_reads = λ c s n now stands none. absurd none;
   }
 
-  pub erred_over : (s : State) (c : Contents) (e : HistoryError) (p : Pending) → Drafted f c s (Outcomes s) (Err e) p → Erred s e
-  erred_over s c (Refused cause) p drafted = drafted
+  pub erred_over : (s : State) (c : Contents) (e : CommandError) (p : Pending) → Performed f c s (Outcomes s) (Err e) p → Erred s e
+  erred_over s c (Refused refusal) p drafted = drafted
   erred_over s c (Store e) p drafted = drafted
 
   -- an error with nothing put
-  pub erred : (old new : K) (m : M) (e : HistoryError) (out : WorkError) → IsTold e out → Stays contents leaves faults old new →
-      ((c : Contents) (s : State) → contents new ≡ Some c → Stands f c s → Erred s e) → HasReason (contents new) (faults old) (faults new) (Err e) → IfSome (contents new) (Knows m) → Target old new m (Err out)
-  erred old new m (Refused cause) out is stays done reason known = subst (λ o. Target old new m (Err o)) (sym is) record {
+  pub erred : (old new : K) (m : M) (e : CommandError) (out : WorkError) → IsTold e out → Stays contents leaves faults old new →
+      ((c : Contents) (s : State) → contents new ≡ Some c → Stands f c s → Erred s e) → HasCommandReason (contents new) (faults old) (faults new) (Err e) → IfSome (contents new) (Knows m) → Target old new m (Err out)
+  erred old new m (Refused refusal) out is stays done reason known = subst (λ o. Target old new m (Err o)) (sym is) record {
     stays = stays;
     done = done;
     knows = λ c now. at_told (contents new) (Knows m) c now known;
@@ -174,7 +174,7 @@ module _ (f : List ℕ → List ℕ) {M : Type 0} (Knows : M → Contents → Ty
       erred old new m (Store e) out is stays sound (reason_of (contents new) (faults old) (faults new) e failed damaged) known
 
   -- the command gave an error
-  pub failed : (old new : K) (m : M) (after : Pending) (e : HistoryError) (out : WorkError) → IsTold e out → Over old new after (Err e) → IfSome (contents new) (Knows m) → Target old new m (Err out)
+  pub failed : (old new : K) (m : M) (after : Pending) (e : CommandError) (out : WorkError) → IsTold e out → Over old new after (Err e) → IfSome (contents new) (Knows m) → Target old new m (Err out)
   failed old new m after e out is work known =
       erred old new m e out is work.stays (λ c s now stands. erred_over s c e after (work.done c s now stands)) work.reason known
 
@@ -183,5 +183,5 @@ module _ (f : List ℕ → List ℕ) {M : Type 0} (Knows : M → Contents → Ty
       IfSome (contents new) (λ c. Knows m (with_all c after.batch)) → Target old final m (Ok (record { reply = reply; batch = batch }))
   answered_at old new final m after reply batch ends is work known = subst (λ k. Target old k m (Ok (record { reply = reply; batch = batch }))) (sym ends) (answered old new m after reply batch is work known)
 
-  pub failed_at : (old new final : K) (m : M) (after : Pending) (e : HistoryError) (out : WorkError) → final ≡ new → IsTold e out → Over old new after (Err e) → IfSome (contents new) (Knows m) → Target old final m (Err out)
+  pub failed_at : (old new final : K) (m : M) (after : Pending) (e : CommandError) (out : WorkError) → final ≡ new → IsTold e out → Over old new after (Err e) → IfSome (contents new) (Knows m) → Target old final m (Err out)
   failed_at old new final m after e out ends is work known = subst (λ k. Target old k m (Err out)) (sym ends) (failed old new m after e out is work known)

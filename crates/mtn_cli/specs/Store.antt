@@ -11,8 +11,8 @@ use Rattle.mtn_history.specs.Damage.{IsDamage, IsShown}
 use Rattle.mtn_history.specs.Stands.{Stands}
 use Rattle.mtn_commands.specs.Drafts.{may_conflict}
 use Rattle.mtn_history.specs.declared.errors.Damage.{Damage}
-use Rattle.mtn_history.specs.declared.errors.HistoryError.{HistoryError}
-use Rattle.mtn_history.specs.declared.errors.HistoryError.TheVariants.{Refused, Store}
+use Rattle.mtn_commands.specs.declared.error.CommandError.{CommandError}
+use Rattle.mtn_commands.specs.declared.error.CommandError.TheVariants.{Refused, Store}
 use Rattle.mtn_history.specs.declared.errors.StoreError.TheVariants.{Failed, Damaged, NoMemory}
 
 -- words are in the grammar
@@ -39,9 +39,9 @@ pub record ShowsDamage (f : List ℕ → List ℕ) (c : Contents) (line : List �
   pub no_state : (s : State) → Stands f c s → ⊥
   pub is : line ≡ damage_line damage
 
--- how an error of the history is told: a damage by its line, where there is memory for that
-abbrev pub IsTold : HistoryError → WorkError → Type 0
-IsTold (Refused cause) out = out ≡ work.Refused (record { packet = 0; cause = cause })
+-- how an error of a command is told: a refusal whole, a damage by its line, where there is memory for that
+abbrev pub IsTold : CommandError → WorkError → Type 0
+IsTold (Refused refusal) out = out ≡ work.Refused refusal
 IsTold (Store Failed) out = out ≡ work.Failed
 IsTold (Store NoMemory) out = out ≡ work.NoMemory
 IsTold (Store (Damaged damage)) out = (out ≡ work.Damaged (damage_line damage)) ⊎ (out ≡ work.NoMemory)

@@ -1,25 +1,24 @@
-// What an error of the history is told as.
+// What an error of a command is told as.
 ghost use Rattle.std.specs.Prelude.{◌≡◌, ◌++◌, IfOk, OnOk};
 ghost use Rattle.hex.specs.Hex.{encode_lower};
 ghost use Rattle.mtn_cli.specs.Store.{IsTold};
 ghost use Rattle.mtn_cli.specs.Texts.{damage_line as line_of, record_text};
 
-use mtn_base::{Bytes, List, NoMemory, Refusal};
+use mtn_base::{Bytes, List, NoMemory};
+use mtn_commands::error::CommandError;
 use mtn_frame::WorkError;
-use mtn_history::{Damage, HistoryError, StoreError};
+use mtn_history::{Damage, StoreError};
 use std::alloc::Global;
 
 /// The same error for the frame: a refusal whole, a damage by its line.
-pub fn tell(alloc: Global, error: HistoryError) -> WorkError
+pub fn tell(alloc: Global, error: CommandError) -> WorkError
     ensures { IsTold error result }
 {
     match error {
-        HistoryError::Refused(cause) => WorkError::Refused {
-            refusal: Refusal { packet: 0, cause },
-        },
-        HistoryError::Store(StoreError::Failed) => WorkError::Failed,
-        HistoryError::Store(StoreError::NoMemory) => WorkError::NoMemory,
-        HistoryError::Store(StoreError::Damaged(damage)) => match damage_line(alloc, &damage) {
+        CommandError::Refused(refusal) => WorkError::Refused { refusal },
+        CommandError::Store(StoreError::Failed) => WorkError::Failed,
+        CommandError::Store(StoreError::NoMemory) => WorkError::NoMemory,
+        CommandError::Store(StoreError::Damaged(damage)) => match damage_line(alloc, &damage) {
             Ok(line) => WorkError::Damaged { line },
             Err(NoMemory) => WorkError::NoMemory,
         },

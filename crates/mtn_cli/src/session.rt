@@ -17,9 +17,11 @@ use mtn_history::Memory;
 use mtn_model::Status;
 use mtn_ports::{Ident, KeepError, Keeper, Sink};
 use std::alloc::Global;
+use std::thread::Threads;
 
 // Does one job, puts its records and writes its answer. Nothing takes memory after the keeper's call.
-fn one<I: Ident, O: Sink, K: Keeper>(
+fn one<R: Threads + Sync, I: Ident, O: Sink, K: Keeper>(
+    rt: &R,
     alloc: Global,
     ident: &I,
     form: Form,
@@ -32,7 +34,7 @@ fn one<I: Ident, O: Sink, K: Keeper>(
     ensures { One (Stands (I.meaning ident.now)) (ShowsDamage (I.meaning ident.now)) IsLine Knows K.contents K.leaves K.faults K.reads keeper.old keeper.new memory.new
         (O.written sink.old) (O.written sink.new) (O.faults sink.old) (O.faults sink.new) form (job_spelled is_spelled job.now) (job_merging is_merging job.now) (Does (Step (I.meaning ident.now)) job.now) (BoundsJob unbounded job.now) result }
 {
-    let worked = work_job(alloc, ident, job, memory, keeper);
+    let worked = work_job(rt, alloc, ident, job, memory, keeper);
     let settled = settle(alloc, form, worked);
     match put_all(keeper, &settled.batch) {
         Ok(()) => deliver(sink, settled.status, settled.text.as_slice()),
@@ -43,7 +45,8 @@ fn one<I: Ident, O: Sink, K: Keeper>(
 
 // Does the jobs in order: each is done, put and answered before the next begins. A fault of the sink or of the keeper, want of
 // memory and a damage end the session.
-fn run_jobs<I: Ident, O: Sink, K: Keeper>(
+fn run_jobs<R: Threads + Sync, I: Ident, O: Sink, K: Keeper>(
+    rt: &R,
     alloc: Global,
     ident: &I,
     jobs: &List<Job>,
@@ -59,7 +62,7 @@ fn run_jobs<I: Ident, O: Sink, K: Keeper>(
         let form = Form::Numbered {
             number: number as u64,
         };
-        let status = one(alloc, ident, form, job, memory, sink, keeper);
+        let status = one(rt, alloc, ident, form, job, memory, sink, keeper);
         if !goes_on(status) {
             return status;
         }
@@ -68,7 +71,8 @@ fn run_jobs<I: Ident, O: Sink, K: Keeper>(
 }
 
 /// Does what the words and the input are to do.
-pub fn run_script<I: Ident, O: Sink, K: Keeper>(
+pub fn run_script<R: Threads + Sync, I: Ident, O: Sink, K: Keeper>(
+    rt: &R,
     alloc: Global,
     ident: &I,
     script: &Script,
@@ -80,7 +84,7 @@ pub fn run_script<I: Ident, O: Sink, K: Keeper>(
 {
     let mut memory = Memory::new(alloc);
     match script {
-        Script::Bare { job } => one(alloc, ident, Form::Plain, job, &mut memory, sink, keeper),
-        Script::Framed { jobs } => run_jobs(alloc, ident, jobs, &mut memory, sink, keeper),
+        Script::Bare { job } => one(rt, alloc, ident, Form::Plain, job, &mut memory, sink, keeper),
+        Script::Framed { jobs } => run_jobs(rt, alloc, ident, jobs, &mut memory, sink, keeper),
     }
 }

@@ -41,7 +41,8 @@ fn reads_source(alloc: Global, words: &[Bytes]) -> Result<bool, NoMemory>
 }
 
 // The top call under one clause.
-fn run_words<I: Ident, S: Source, O: Sink, K: Keeper>(
+fn run_words<R: Threads + Sync, I: Ident, S: Source, O: Sink, K: Keeper>(
+    rt: &R,
     alloc: Global,
     words: &[Bytes],
     ident: &I,
@@ -67,7 +68,7 @@ fn run_words<I: Ident, S: Source, O: Sink, K: Keeper>(
         Err(ReadStop::NoMemory) => return Status::NoMemory,
     };
     match script_of(alloc, words, input) {
-        Ok(script) => run_script(alloc, ident, &script, sink, keeper),
+        Ok(script) => run_script(rt, alloc, ident, &script, sink, keeper),
         Err(NoMemory) => Status::NoMemory,
     }
 }
@@ -81,7 +82,7 @@ fn run_words<I: Ident, S: Source, O: Sink, K: Keeper>(
 /// answer was being written. The input is read up to 268,435,456 bytes, in pieces of 64 KiB into one buffer. Nothing takes memory
 /// behind a call that puts records. `rt` is for commands that work on several threads.
 pub fn run<R: Threads + Sync, I: Ident, S: Source, O: Sink, K: Keeper>(
-    _rt: &R,
+    rt: &R,
     alloc: Global,
     words: &[Bytes],
     ident: &I,
@@ -120,5 +121,5 @@ pub fn run<R: Threads + Sync, I: Ident, S: Source, O: Sink, K: Keeper>(
         (record { contents = K.contents keeper.old; left = S.left source.old; written = O.written sink.old })
         (record { contents = K.contents keeper.new; left = S.left source.new; written = O.written sink.new }) result }
 {
-    run_words(alloc, words, ident, source, sink, keeper)
+    run_words(rt, alloc, words, ident, source, sink, keeper)
 }

@@ -13,14 +13,16 @@ ghost use Rattle.mtn_step.specs.Step.{Steps};
 
 use crate::damage::tell;
 use mtn_base::{Bytes, Cause, Refusal};
-use mtn_commands::on_draft::on_draft;
+use mtn_commands::error::CommandError;
+use mtn_commands::perform::perform;
 use mtn_frame::{Job, Reply, WorkError, Worked};
-use mtn_history::{Draft, HistoryError, Memory, Pending};
+use mtn_history::{Draft, Memory, Pending};
 use mtn_ports::{Batch, Ident, Keeper};
 use mtn_step::Call;
 use mtn_words::{WordsError, read_words};
 use std::alloc::Global;
 use std::mem;
+use std::thread::Threads;
 
 // What is remembered where nothing is put: all of it if nothing was pending, else nothing.
 fn kept(alloc: Global, batch: &Batch, remembered: Memory) -> Memory
@@ -35,7 +37,8 @@ fn kept(alloc: Global, batch: &Batch, remembered: Memory) -> Memory
 
 // The command's work over the keeper, which it only reads. What was remembered goes to the draft and comes back; where an
 // error leaves something pending it is forgotten.
-fn work_on<I: Ident, K: Keeper>(
+fn work_on<R: Threads + Sync, I: Ident, K: Keeper>(
+    rt: &R,
     alloc: Global,
     call: &Call,
     ident: &I,
@@ -49,11 +52,11 @@ fn work_on<I: Ident, K: Keeper>(
 {
     let pending = match Pending::open(alloc, memory, keeper) {
         Ok(pending) => pending,
-        Err(error) => return Err(tell(alloc, HistoryError::Store(error))),
+        Err(error) => return Err(tell(alloc, CommandError::Store(error))),
     };
     let remembered = mem::replace(memory, Memory::new(alloc));
     let mut draft = Draft::new(keeper, pending, remembered);
-    let worked = on_draft(alloc, call, ident, payload, &mut draft);
+    let worked = perform(rt, alloc, call, ident, payload, &mut draft);
     let (keeper, pending, remembered) = draft.into_parts();
     let _ = keeper;
     match worked {
@@ -72,7 +75,8 @@ fn work_on<I: Ident, K: Keeper>(
 }
 
 // What words with a payload come to.
-fn work_words<I: Ident, K: Keeper>(
+fn work_words<R: Threads + Sync, I: Ident, K: Keeper>(
+    rt: &R,
     alloc: Global,
     ident: &I,
     words: &[Bytes],
@@ -85,14 +89,15 @@ fn work_words<I: Ident, K: Keeper>(
         (is_spelled words.now) (is_merging words.now) (Step (I.meaning ident.now) words.now payload.now) (unbounded words.now payload.now) result }
 {
     match read_words(alloc, words) {
-        Ok(call) => work_on(alloc, &call, ident, payload, memory, keeper),
+        Ok(call) => work_on(rt, alloc, &call, ident, payload, memory, keeper),
         Err(WordsError::Usage) => Err(WorkError::Usage),
         Err(WordsError::NoMemory) => Err(WorkError::NoMemory),
     }
 }
 
 /// What a job comes to.
-pub fn work_job<I: Ident, K: Keeper>(
+pub fn work_job<R: Threads + Sync, I: Ident, K: Keeper>(
+    rt: &R,
     alloc: Global,
     ident: &I,
     job: &Job,
@@ -106,6 +111,7 @@ pub fn work_job<I: Ident, K: Keeper>(
     match job {
         Job::Call { words, payload } => {
             work_words(
+                rt,
                 alloc,
                 ident,
                 words.as_slice(),

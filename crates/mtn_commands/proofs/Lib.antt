@@ -9,3 +9,5 @@ pub mod CertsLemmas
 pub mod MergeLemmas
 pub mod QueryLemmas
 pub mod ViewLemmas
+pub mod PacketsLemmas
+pub mod ReadingLemmas

@@ -12,8 +12,10 @@ use Rattle.mtn_ports.specs.Causes.{Rose}
 use Rattle.mtn_ports.specs.Kept.{with_all}
 use Rattle.mtn_history.specs.declared.errors.StoreError.{StoreError}
 use Rattle.mtn_frame.specs.declared.works.Reply.{Reply}
+use Rattle.mtn_commands.specs.declared.error.CommandError.{CommandError}
+use Rattle.mtn_commands.specs.declared.error.CommandError.TheVariants as command
 use Rattle.mtn_history.specs.Errors.{IfDamage, IfStoreDamage}
-use Rattle.mtn_commands.specs.Drafts.{Counts, HasReason, HasReplyReason, Reason, drafted}
+use Rattle.mtn_commands.specs.Drafts.{Counts, HasCommandReason, HasReason, HasReplyReason, Reason, drafted}
 
 -- an error comes from its cause
 pub reason_told : (told : Option Contents) (p : Pending) (before now : ℕ) (e : HistoryError) → (e ≡ Store Failed → Rose before now) →
@@ -38,3 +40,8 @@ pub wider_reason : (told : Option Contents) (a b c d : ℕ) (r : Result Reply Hi
 wider_reason told a b c d (Ok reply) lo hi reason = tt
 wider_reason told a b c d (Err (Refused cause)) lo hi reason = tt
 wider_reason told a b c d (Err (Store e)) lo hi reason = wider told a b c d e lo hi reason
+
+pub wider_command_reason : (told : Option Contents) (a b c d : ℕ) (r : Result Reply CommandError) → a ≤ b → c ≤ d → HasCommandReason told b c r → HasCommandReason told a d r
+wider_command_reason told a b c d (Ok reply) lo hi reason = tt
+wider_command_reason told a b c d (Err (command.Refused refusal)) lo hi reason = tt
+wider_command_reason told a b c d (Err (command.Store e)) lo hi reason = wider told a b c d e lo hi reason

@@ -1,5 +1,8 @@
 -- What the function behind a command ensures, the same words for each.
 use Rattle.std.specs.Prelude.{◌≡◌, List, Option, Some, Result, Ok, Err, ℕ, Bool, true, false, ⊤, IfSome, option_map}
+use Rattle.mtn_commands.specs.declared.error.CommandError.{CommandError}
+use Rattle.mtn_commands.specs.declared.error.CommandError.TheVariants as command
+use Rattle.mtn_frame.specs.Script.{refused as refused_with}
 use Rattle.mtn_frame.specs.Works.{replied}
 use Rattle.mtn_frame.specs.declared.works.Reply.{Reply}
 use Rattle.mtn_model.specs.Outcome.{Outcome}
@@ -94,3 +97,35 @@ abbrev pub may_conflict : Option Call → Bool
 may_conflict (Some (Merge a b resolves)) = true
 may_conflict (Some (MergeHeads branch author date key resolves)) = true
 may_conflict _ = false
+
+-- an error of a command that refuses by its cause alone
+abbrev pub whole_error : HistoryError → CommandError
+whole_error (Refused cause) = command.Refused (record { packet = 0; cause = cause })
+whole_error (Store e) = command.Store e
+
+abbrev pub whole : Result Reply HistoryError → Result Reply CommandError
+whole (Ok reply) = Ok reply
+whole (Err e) = Err (whole_error e)
+
+-- the reply of any command, or its refusal with a packet's number where it has one
+abbrev pub Performed : (List ℕ → List ℕ) → Contents → State → (Outcome → Type 0) → Result Reply CommandError → Pending → Type 0
+Performed f c s Is (Ok reply) p = (t : State) × Is (replied reply t) × IsDraft f c p t
+Performed f c s Is (Err (command.Refused refusal)) p = Is (refused_with refusal s)
+Performed f c s Is (Err (command.Store e)) p = IfDamage e (λ _. ⊥)
+
+abbrev pub HasCommandReason : Option Contents → ℕ → ℕ → Result Reply CommandError → Type 0
+HasCommandReason told before now (Ok reply) = ⊤
+HasCommandReason told before now (Err (command.Refused refusal)) = ⊤
+HasCommandReason told before now (Err (command.Store e)) = Reason told before now e
+
+abbrev pub IsCommandQuiet : Bool → Pending → Pending → Result Reply CommandError → Type 0
+IsCommandQuiet merges before after (Ok reply) = reply.conflicts ≡ true → (merges ≡ true) × (after ≡ before)
+IsCommandQuiet merges before after (Err e) = ⊤
+
+-- what any command does over a draft
+pub record Performs (f : List ℕ → List ℕ) {K : Type 0} (contents : K → Option Contents) (leaves : K → Contents → Type 0) (faults : K → ℕ) (old new : K)
+    (before after : Pending) (merges : Bool) (Outcomes : State → Outcome → Type 0) (result : Result Reply CommandError) : Type 0 where
+  pub stays : Stays contents leaves faults old new
+  pub done : (c : Contents) (s : State) → contents new ≡ Some c → IsDraft f c before s → Performed f c s (Outcomes s) result after
+  pub reason : Counts before (contents new) → HasCommandReason (drafted before (contents new)) (faults old) (faults new) result
+  pub quiet : IsCommandQuiet merges before after result

@@ -5,12 +5,13 @@
 //! outcome that its line of `Steps` (`mtn_step`) has there, and what is pending then stands for the state after it; an error comes
 //! from its cause. Nothing reaches the keeper here.
 //!
-//! The crate above relies on this: [`on_draft::on_draft`] does any command. One joins by its function and its arm.
+//! The crate above relies on this: [`perform::perform`] does any command. One joins by its function and its arm.
 #![tactic(auto)]
 
 pub mod ask;
 pub mod cert;
 pub mod certs;
+pub mod error;
 pub mod get_content_changed;
 pub mod get_corresponding_path;
 pub mod get_file;
@@ -21,9 +22,12 @@ pub mod heads;
 pub mod key;
 pub mod merge;
 pub mod merge_heads;
-pub mod on_draft;
+mod on_draft;
+pub mod packets;
+pub mod perform;
 pub mod put_file;
 pub mod put_revision;
 mod put_text;
+pub mod read;
 mod said;
 pub mod show_conflicts;

@@ -1,5 +1,5 @@
-// Any command over a draft.
-ghost use Rattle.std.specs.Prelude.{◌≡◌, Some};
+// A command over a draft that refuses by its cause alone.
+ghost use Rattle.std.specs.Prelude.{◌≡◌, ◌≢◌, Some};
 ghost use Rattle.mtn_commands.specs.Drafts.{Replies, may_conflict};
 ghost use Rattle.mtn_step.specs.Step.{Steps};
 
@@ -16,6 +16,7 @@ use crate::heads::{branches, heads};
 use crate::key::key;
 use crate::merge::{merge, told};
 use crate::merge_heads::merge_heads;
+use crate::packets::packets;
 use crate::put_file::put_file;
 use crate::put_revision::{commit, put_revision};
 use crate::show_conflicts::show_conflicts;
@@ -25,7 +26,7 @@ use mtn_ports::{Ident, Keeper};
 use mtn_step::Call;
 use std::alloc::Global;
 
-/// What a command does over a draft, and replies: its line of the step. One arm a command.
+/// What a command other than `read` does over a draft, and replies: its line of the step. One arm a command.
 pub fn on_draft<I: Ident, K: Keeper>(
     alloc: Global,
     call: &Call,
@@ -33,6 +34,7 @@ pub fn on_draft<I: Ident, K: Keeper>(
     payload: &[u8],
     draft: &mut Draft<'_, K>,
 ) -> Result<Reply, HistoryError>
+    requires { call.now ≢ Call.Read }
     ensures same_reference { draft.new.keeper.ghost_name ≡ draft.old.keeper.ghost_name }
     ensures replies { Replies (I.meaning ident.now) K.contents K.leaves K.faults draft.old.keeper.now draft.new.keeper.now draft.old.pending draft.new.pending
         (may_conflict (Some call.now)) (Steps (I.meaning ident.now) call.now payload.now) result }
@@ -77,5 +79,7 @@ pub fn on_draft<I: Ident, K: Keeper>(
         } => merge_heads(
             alloc, ident, branch, author, date, *key, *resolves, payload, draft,
         ),
+        Call::Packets { id, have } => told(packets(alloc, ident, *id, have, payload, draft)),
+        Call::Read => unreachable!(),
     }
 }

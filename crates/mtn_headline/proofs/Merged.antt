@@ -27,7 +27,7 @@ use Rattle.mtn_manifest.specs.Manifest.{manifest_of}
 use Rattle.mtn_merging.specs.MergeEdges.{merge_edges}
 use Rattle.mtn_model.specs.Outcome.{Outcome}
 use Rattle.mtn_model.specs.State.{Logged, State}
-use Rattle.mtn_order.proofs.Texts.{text_none}
+use Rattle.mtn_step_laws.proofs.Accepting.{text_none}
 use Rattle.mtn_plans.specs.Given.{IsGiven}
 use Rattle.mtn_plans.specs.Plans.{Ends, IsUnborn, Merges, Plan, PlansPayload, Unless, limit_refusal, merge_revision, merge_text, merged_or, text_refusal}
 use Rattle.mtn_plans.specs.Sides.{left_of, right_of}

@@ -39,7 +39,7 @@ use Rattle.mtn_order.proofs.Texts.{same_text}
 
 -- ---- one more certificate in two states
 
-same_with_cert : (f : List ℕ → List ℕ) (s t : State) (c : Certificate) → IsSameUpToOrder f s t → IsFit s.log c → IsFit t.log c → IsSameUpToOrder f (with_cert s c) (with_cert t c)
+pub same_with_cert : (f : List ℕ → List ℕ) (s t : State) (c : Certificate) → IsSameUpToOrder f s t → IsFit s.log c → IsFit t.log c → IsSameUpToOrder f (with_cert s c) (with_cert t c)
 same_with_cert f s t c same fit also = record {
   one = lawful_fit f s c same.one fit;
   other = lawful_fit f t c same.other also;
@@ -66,7 +66,7 @@ same_with_key f s t id name same twenty fine also = record {
 -- ---- the commands
 
 module _ (f : List ℕ → List ℕ) (s t : State) (same : IsSameUpToOrder f s t) where
-  text_there : (id : List ℕ) → text_under t.log id ≡ text_under s.log id
+  pub text_there : (id : List ℕ) → text_under t.log id ≡ text_under s.log id
   text_there id = same_text f t.files t.log same.other.history same.other.log s.log id same.texts
 
   same_held : (c : Certificate) → held_refusal t c ≡ held_refusal s c

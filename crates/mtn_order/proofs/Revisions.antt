@@ -15,30 +15,11 @@ use Rattle.mtn_order.specs.Free.{IsOrderFree}
 use Rattle.mtn_order.proofs.Framing.{is_outcome, other_history, same_unless}
 use Rattle.mtn_replay.proofs.CertLemmas.{lawful_text}
 use Rattle.mtn_order.proofs.States.{same_with_text}
-use Rattle.mtn_order.proofs.Texts.{same_text, text_none}
+use Rattle.mtn_order.proofs.Texts.{same_text}
+use Rattle.mtn_step_laws.proofs.Accepting.{logged, next_of, refused_already}
 use Rattle.mtn_renaming.specs.Order.{IsSameUpToOrder}
 use Rattle.mtn_renaming.specs.Renaming.{elsewhere}
 use Rattle.mtn_renaming.proofs.Refusing.{same_refusal}
-
--- the text as it is logged
-abbrev logged : (List ℕ → List ℕ) → List ℕ → Logged
-logged f text = record { id = f text; text = text }
-
--- a new text that is not refused is the next of the log
-next_of : (f : List ℕ → List ℕ) (s : State) (h : List Revision) (text : List ℕ) (r : Spelled) → IsHistory f s.files s.log h → length text ≤ 67108864 → Spells text r →
-    text_under s.log (f text) ≡ None → refusal_of f s.files h (id_of (f text)) r ≡ None → IsNext f s.files h (logged f text) (made h (id_of (f text)) r.edges)
-next_of f s h text r is short spells none fine = record {
-  short = short;
-  id = refl;
-  fresh = text_none f s.files s.log h (id_of (f text)) is none;
-  read = r;
-  spells = spells;
-  accepted = fine;
-  made = refl;
-}
-
-refused_already : (r : Option Cause) (c : Cause) → r ≡ Some c → r ≡ None → ⊥
-refused_already r c some none = let both : Some c ≡ None = sym some ∙ none in cc
 
 module _ (f : List ℕ → List ℕ) (s t : State) (same : IsSameUpToOrder f s t) (text : List ℕ) (h g : List Revision) (r : Spelled) (ih : IsHistory f s.files s.log h) (ig : IsHistory f t.files t.log g) (short : length text ≤ 67108864) (spells : Spells text r)
     (refusals : refusal_of f t.files g (id_of (f text)) r ≡ refusal_of f s.files h (id_of (f text)) r) where

@@ -15,27 +15,7 @@ use Rattle.mtn_replay.proofs.CertLemmas.{with_text}
 use Rattle.mtn_model.specs.State.{Logged, State}
 use Rattle.mtn_model.specs.Table.{Table}
 use Rattle.mtn_renaming.specs.Order.{IsSameUpToOrder}
-
-equal_bytes : (held bytes : List ℕ) (cause : Cause) (t : Bool) → bytes_eq held bytes ≡ t → cond t None (Some cause) ≡ None → held ≡ bytes
-equal_bytes held bytes cause true same e = (bytes_eq-Decides held bytes).0 same
-equal_bytes held bytes cause false same e = absurd cc
-
-lawful_held : (f : List ℕ → List ℕ) (s : State) (bytes : List ℕ) → IsLawful f s → (o : Option (List ℕ)) → get s.files (f bytes) ≡ o → collision o (f bytes) bytes ≡ None → length bytes ≤ 67108864 → IsLawful f (with_file f s bytes)
-lawful_held f s bytes law None none fine small = lawful_more f s bytes law none small
-lawful_held f s bytes law (Some held) some fine small =
-    let same = insert_held s.files (f bytes) bytes (some ∙ ap Some (equal_bytes held bytes (Collision (id_of (f bytes))) (bytes_eq held bytes) refl fine)) in
-    let back : s.files ≡ insert s.files (f bytes) bytes = sym same in
-    subst (IsLawful f) (λ i. record s { files = back i }) law
-
--- a file that is not refused leads to a lawful state
-pub lawful_file : (f : List ℕ → List ℕ) (s : State) (bytes : List ℕ) → IsLawful f s → file_refusal f s bytes ≡ None → IsLawful f (with_file f s bytes)
-lawful_file f s bytes law fine = by (nat_lt 67108864 (length bytes)) refl fine
-  where
-    by : (t : Bool) → nat_lt 67108864 (length bytes) ≡ t → cond t (Some (TextTooLong (length bytes))) (collision (get s.files (f bytes)) (f bytes) bytes) ≡ None → IsLawful f (with_file f s bytes)
-    by true long e = absurd cc
-    by false short e =
-        let small : length bytes ≤ 67108864 = grind (arith, nat_tests) in
-        lawful_held f s bytes law (get s.files (f bytes)) refl e small
+use Rattle.mtn_step_laws.proofs.Accepting.{lawful_file}
 
 texts_more : (a b : List Logged) (l m : Logged) → ((k : Logged) → Contains a k → Contains b k) → Contains (a ++ l ∷ []) m → Contains (b ++ l ∷ []) m
 texts_more a b l m to c =

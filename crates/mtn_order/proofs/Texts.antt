@@ -15,33 +15,7 @@ use Rattle.mtn_replay.proofs.Places.{place_has, place_within, within}
 use Rattle.mtn_replay.specs.Making.{place_of}
 use Rattle.mtn_renaming.proofs.Elements.{at_contains, contains_at, found_at, none_passes}
 use Rattle.mtn_renaming.proofs.Spelling.{ids_differ, named, revision_at}
-use Rattle.mtn_base.proofs.Tests.{same_id-is}
-
-abbrev is_under : List ℕ → Logged → Bool
-is_under id l = same_bytes l.id id
-
-under : (id : List ℕ) (l : Logged) → is_under id l ≡ true → l.id ≡ id
-under id l t = ap (λ (i : Id). i.0) (same_id-is (id_of l.id) (id_of id) t)
-
-unmapped : {A B : Type 0} (g : A → B) (x : Option A) → option_map g x ≡ None → x ≡ None
-unmapped g None h = refl
-unmapped g (Some a) h = absurd cc
-
-same_self : (a : List ℕ) → same_bytes a a ≡ true
-same_self a = (bytes_decides a a).1 refl
-
--- an id without a text has no place
-pub text_none : (f : List ℕ → List ℕ) (files : Table) (log : List Logged) (h : List Revision) (id : Id) → IsHistory f files log h → text_under log id.0 ≡ None → place_of h id ≡ None
-text_none f files log h id is none = by (place_of h id) refl
-  where
-    by : (o : Option ℕ) → place_of h id ≡ o → o ≡ None
-    by None e = refl
-    by (Some p) e =
-        let v = place_has h id p e in
-        let l = within log p (subst (λ n. p < n) is.long (place_within h id p e)) in
-        let named : id_of l.0.id ≡ id = sym (ap (λ (x : Revision). x.id) (is.each p l.0 v.0 l.1 v.1).made) ∙ v.2 in
-        let test : same_bytes l.0.id id.0 ≡ false = none_passes (is_under id.0) log l.0 (unmapped (λ (x : Logged). x.text) (find (is_under id.0) log) none) (contains_at log p l.0 l.1) in
-        absurd (let t : true ≡ false = sym (same_self l.0.id) ∙ ap (λ (i : Id). same_bytes l.0.id i.0) named ∙ test in cc)
+use Rattle.mtn_step_laws.proofs.Accepting.{is_under, under}
 
 module _ (f : List ℕ → List ℕ) (files : Table) (b : List Logged) (g : List Revision) (is : IsHistory f files b g) where
   -- two texts of a log under one id are one

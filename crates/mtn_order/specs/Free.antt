@@ -3,7 +3,7 @@ use Rattle.std.specs.Prelude.{◌≡◌, ℕ, List, Bool, true, false, Option, N
 use Rattle.mtn_certs.specs.Certificates.{IsIdBytes}
 use Rattle.mtn_model.specs.Outcome.{Outcome}
 use Rattle.mtn_step.specs.declared.call.Call.{Call}
-use Rattle.mtn_step.specs.declared.call.Call.TheVariants.{Ask, Cert, Key, Commit, MergeHeads}
+use Rattle.mtn_step.specs.declared.call.Call.TheVariants.{Ask, Cert, Key, Commit, MergeHeads, Packets}
 use Rattle.mtn_model.specs.State.{State}
 use Rattle.mtn_answers.specs.declared.query.Query.TheVariants.{Toposort, AncestryDifference}
 use Rattle.mtn_renaming.specs.Order.{IsSameUpToOrder}
@@ -12,6 +12,7 @@ use Rattle.mtn_renaming.specs.Order.{IsSameUpToOrder}
 abbrev pub in_log_order : Call → Bool
 in_log_order (Ask (Toposort of)) = true
 in_log_order (Ask (AncestryDifference r without)) = true
+in_log_order (Packets id have) = true
 in_log_order _ = false
 
 abbrev pub asks_log_order : Option Call → Bool

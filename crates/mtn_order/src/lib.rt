@@ -2,7 +2,7 @@
 //!
 //! Two lawful states are *the same up to order* if they have the same files, the same revisions and the same
 //! certificates; only the order in which the revisions were accepted may differ (`mtn_renaming`). Every command but
-//! the two that answer in the order of the log gives the same output and status over both, and leaves states that
+//! the three that answer in the order of the log gives the same output and status over both, and leaves states that
 //! are again the same up to order. So replicas that exchanged the same texts answer alike.
 //!
 //! A command joins by one line of `proofs/Free.antt`: where its line of `Steps` is said of a history by ids, the lemma

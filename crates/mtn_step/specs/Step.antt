@@ -16,10 +16,13 @@ use Rattle.mtn_base.specs.declared.refusal.Cause.TheVariants.{BadField, NoBranch
 use Rattle.mtn_base.specs.declared.refusal.Field.TheVariants.{Signature}
 use Rattle.mtn_basic_io.specs.Spelling.{spelling}
 use Rattle.mtn_certs.specs.Certificates.{Certificate, certificate}
+use Rattle.mtn_base.specs.declared.refusal.Refusal.{Refusal}
 use Rattle.mtn_changeset_laws.specs.Changes.{or_else}
 use Rattle.mtn_conflicts.specs.ConflictText.{conflict_stanzas}
 use Rattle.mtn_conflicts.specs.declared.lists.Conflicts.{Conflicts}
 use Rattle.mtn_history_laws.specs.History.{Revision}
+use Rattle.mtn_exports.specs.Exports.{IsExported}
+use Rattle.mtn_imports.specs.Imports.{Kept, ReadsInput, kept_text}
 use Rattle.mtn_model.specs.Outcome.{Outcome}
 use Rattle.mtn_model.specs.State.{State}
 use Rattle.mtn_model.specs.declared.status.Status.TheVariants as status
@@ -31,7 +34,7 @@ use Rattle.mtn_replay.specs.Files.{file_refusal, with_file}
 use Rattle.mtn_replay.specs.Lawful.{IsHistory}
 use Rattle.mtn_replay.specs.Texts.{text_under}
 use Rattle.mtn_step.specs.declared.call.Call.{Call}
-use Rattle.mtn_step.specs.declared.call.Call.TheVariants.{PutFile, PutRevision, GetFile, GetRevision, GetManifestOf, GetRoster, GetContentChanged, GetCorrespondingPath, Ask, Graph, Merge, ShowConflicts, Cert, Certs, Key, Heads, Branches, Commit, MergeHeads}
+use Rattle.mtn_step.specs.declared.call.Call.TheVariants.{PutFile, PutRevision, GetFile, GetRevision, GetManifestOf, GetRoster, GetContentChanged, GetCorrespondingPath, Ask, Graph, Merge, ShowConflicts, Cert, Certs, Key, Heads, Branches, Commit, MergeHeads, Packets, Read}
 use Rattle.mtn_step.specs.declared.call.Said.{Said}
 use Rattle.mtn_step.specs.Certifying.{AreBranches, AreCertsOf, AreHeads, certs_text, held_refusal, key_refusal, merge_said, said_certs, said_refusal, signature_of, value_lines, with_certs}
 
@@ -148,6 +151,18 @@ HeadsMerged Is ends s o [] = o ≡ refused NoBranch s
 HeadsMerged Is ends s o (head ∷ []) = o ≡ refused (OneHead head) s
 HeadsMerged Is ends s o (left ∷ right ∷ rest) = Planned (Is left right) (Ended (ends left right) s o)
 
+-- what the packets of an input come to: their refusal, if there is one, and else the state with all of them
+abbrev pub read_outcome : Option Refusal → State → State → Kept → Outcome
+read_outcome None old after new = done after (kept_text new)
+read_outcome (Some refusal) old after new = record { state = old; output = refusal_text refusal; status = status.Refused }
+
+pub record ReadsPackets (f : List ℕ → List ℕ) (input : List ℕ) (s : State) (o : Outcome) : Type 0 where
+  pub refusal : Option Refusal
+  pub after : State
+  pub new : Kept
+  pub reads : ReadsInput f s input refusal after new
+  pub is : o ≡ read_outcome refusal s after new
+
 -- The outcome of a command over a state, one line a command; f is what the ident makes of a text.
 abbrev pub Steps : (List ℕ → List ℕ) → Call → List ℕ → State → Outcome → Type 0
 Steps f PutFile payload s o = o ≡ unless (file_refusal f s payload) s (with_file f s payload) (id_line (f payload))
@@ -170,6 +185,8 @@ Steps f Branches payload s o = (branches : List (List ℕ)) × AreBranches s bra
 Steps f (Commit said) payload s o = Commits f said payload s o
 Steps f (MergeHeads branch author date key resolves) payload s o = OfHistory f s (λ h. (ids : List Id) × AreHeads s h branch ids ×
     HeadsMerged (λ left right. Merges f s.files h left right resolves payload) (λ left right. Commits f (merge_said key author branch date left right)) s o ids)
+Steps f (Packets id have) payload s o = OfHistory f s (λ h. Viewed (IsExported s h id have) s o)
+Steps f Read payload s o = ReadsPackets f payload s o
 
 -- whether a command takes a payload, one line a command
 abbrev pub takes_payload : Call → Bool
@@ -192,3 +209,5 @@ takes_payload (Heads branch) = false
 takes_payload Branches = false
 takes_payload (Commit said) = true
 takes_payload (MergeHeads branch author date key resolves) = resolves
+takes_payload (Packets id have) = false
+takes_payload Read = true

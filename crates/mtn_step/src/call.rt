@@ -2,7 +2,7 @@
 ghost use Rattle.std.specs.Prelude.{◌≡◌};
 
 use mtn_answers::Query;
-use mtn_base::{Bytes, Id, Path};
+use mtn_base::{Bytes, Id, List, Path};
 
 /// What is said of a revision that is committed, each as the value of a certificate, with the id of the key that says it.
 #[derive(Drop)]
@@ -104,6 +104,13 @@ pub enum Call {
         key: Id,
         resolves: bool,
     },
+    /// `packets ID HAVE..`: answers the packets of a revision and its ancestors, without those that others are or have as ancestors.
+    Packets {
+        id: Id,
+        have: List<Id>,
+    },
+    /// `read`: accepts the payload's packets, all or none, and answers how many files, revisions and certificates are new.
+    Read,
 }
 
 impl Call {
@@ -126,6 +133,8 @@ impl Call {
             Call::Heads { .. } | Call::Branches => false,
             Call::Commit { .. } => true,
             Call::MergeHeads { resolves, .. } => *resolves,
+            Call::Packets { .. } => false,
+            Call::Read => true,
         }
     }
 }

@@ -25,7 +25,7 @@ use Rattle.mtn_certs.proofs.Ordered.{ordered_ascends, ordered_same}
 use Rattle.mtn_history_laws.proofs.Telling.{tell_id}
 use Rattle.mtn_model.specs.State.{Certificates, Holds}
 
-tied : (r : Ordering) → is_eq r ≡ true → r ≡ Equal
+pub tied : (r : Ordering) → is_eq r ≡ true → r ≡ Equal
 tied Less e = absurd cc
 tied Equal e = refl
 tied Greater e = absurd cc
@@ -70,7 +70,7 @@ module _ {X : Type 0} (cmp : X → X → Ordering) (total : IsTotalOrder cmp) (e
         },
       )
 
-tell_bytes : (a b : List ℕ) → Dec (a ≡ b)
+pub tell_bytes : (a b : List ℕ) → Dec (a ≡ b)
 tell_bytes = List-discrete ℕ_discrete
 
 tell_both : {A B : Type 0} → Dec A → Dec B → Dec (A × B)

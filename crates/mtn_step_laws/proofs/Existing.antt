@@ -1,6 +1,5 @@
 -- A command has an outcome.
-use Rattle.std.proofs.Common.{◌≡◌, ◌≢◌, ℕ, Bool, List, [], ◌∷◌, length, Option, Some, None, Ok, Err, refl, inl, inr}
-use Rattle.std.proofs.lemmas.Bool.{cases_lt}
+use Rattle.std.proofs.Common.{◌≡◌, ℕ, Bool, List, [], ◌∷◌, Option, Some, None, Ok, Err, refl}
 use Rattle.mtn_answers.specs.Queries.{first_unknown, ids_of}
 use Rattle.mtn_answers.specs.Views.{TextAnswer, IsContentChanged, IsRoster, corresponding_at, manifest_at}
 use Rattle.mtn_answers.specs.declared.query.Query.{Query}
@@ -8,13 +7,9 @@ use Rattle.mtn_answers.proofs.Existing.{some_answer, some_graph}
 use Rattle.mtn_answers.proofs.MarksExist.{some_content, some_roster}
 use Rattle.mtn_base.specs.declared.id.Id.{Id}
 use Rattle.mtn_base.specs.declared.refusal.Cause.{Cause}
-use Rattle.mtn_base.specs.declared.refusal.Cause.TheVariants.{TextTooLong}
-use Rattle.mtn_changes.specs.declared.error.ChangeTextError.{ChangeTextError}
-use Rattle.mtn_changes.specs.declared.error.ChangeTextError.TheVariants as error
 use Rattle.mtn_history_laws.specs.History.{Revision, IsGrown}
 use Rattle.mtn_model.specs.Outcome.{Outcome}
 use Rattle.mtn_model.specs.State.{State}
-use Rattle.mtn_replay.specs.Accepting.{Decides, fault_cause, logged_beside, refusal_beside}
 use Rattle.mtn_replay.specs.Lawful.{IsLawful}
 use Rattle.mtn_replay.specs.Texts.{text_under}
 use Rattle.mtn_replay.proofs.Histories.{history_is_grown}
@@ -27,30 +22,15 @@ use Rattle.mtn_step.specs.Certifying.{AreHeads, merge_said}
 use Rattle.mtn_step.specs.Step.{Asked, Commits, Ended, Ending, HeadsMerged, Listed, OfHistory, PutsRevision, Shown, Steps, Viewed, told}
 use Rattle.mtn_step.specs.declared.call.Said.{Said}
 use Rattle.mtn_step.specs.declared.call.Call.{Call}
-use Rattle.mtn_step.specs.declared.call.Call.TheVariants.{PutFile, PutRevision, GetFile, GetRevision, GetManifestOf, GetRoster, GetContentChanged, GetCorrespondingPath, Ask, Graph, Merge, ShowConflicts, Cert, Certs, Key, Heads, Branches, Commit, MergeHeads}
+use Rattle.mtn_step.specs.declared.call.Call.TheVariants.{PutFile, PutRevision, GetFile, GetRevision, GetManifestOf, GetRoster, GetContentChanged, GetCorrespondingPath, Ask, Graph, Merge, ShowConflicts, Cert, Certs, Key, Heads, Branches, Commit, MergeHeads, Packets, Read}
 use Rattle.mtn_step_laws.proofs.CertLists.{some_branches, some_certs, some_heads}
-use Rattle.mtn_step_laws.proofs.Revisions.{spells_or_fault}
+use Rattle.mtn_exports.specs.Exports.{IsExported}
+use Rattle.mtn_exports.proofs.Sending.{some_export}
+use Rattle.mtn_step_laws.proofs.SomeDecision.{some_decision}
+use Rattle.mtn_step_laws.proofs.SomeImport.{some_reading}
 use Rattle.mtn_step_laws.proofs.SomePlan.{some_looked, some_plan}
 
--- a fault that is none of memory has a cause
-cause_of : (e : ChangeTextError) → e ≢ error.NoMemory → (c : Cause) × (fault_cause e ≡ Some c)
-cause_of (error.NotText place) some = (_, refl)
-cause_of (error.BadStanza number) some = (_, refl)
-cause_of (error.BadOrder number) some = (_, refl)
-cause_of (error.Repeated number) some = (_, refl)
-cause_of (error.BadEdge number) some = (_, refl)
-cause_of error.NoMemory some = absurd (some refl)
-
 module _ (f : List ℕ → List ℕ) (s : State) (lawful : IsLawful f s) where
-  some_decision : (text : List ℕ) → (refusal : Option Cause) × (after : State) × Decides f s text refusal after
-  some_decision text = elim (cases_lt 67108864 (length text)) [
-    | inl long ↦ (Some (TextTooLong (length text)), s, inl (record { long = long; is = refl }))
-    | inr short ↦ elim (spells_or_fault text) [
-      | inl read ↦ (refusal_beside (text_under s.log (f text)) f s.files lawful.history text read.0, logged_beside (text_under s.log (f text)) f s text, inr (inr (record { short = short; read = read.0; spells = read.1; history = lawful.history; spelled = lawful.log; is = refl; after = refl })))
-      | inr fault ↦ let cause = cause_of fault.0 fault.1 in (Some cause.0, s, inr (inl (record { short = short; fault = fault.0; faulty = fault.2; cause = cause.0; named = cause.1; is = refl })))
-    ]
-  ]
-
   grown : IsGrown lawful.history
   grown = history_is_grown f s.files s.log lawful.history lawful.log
 
@@ -62,10 +42,10 @@ module _ (f : List ℕ → List ℕ) (s : State) (lawful : IsLawful f s) where
   asked query None e = let answer = some_answer lawful.history grown query e in (_, (answer.0, answer.1, refl))
 
   some_put : (text : List ℕ) → (o : Outcome) × PutsRevision f text s o
-  some_put text = let d = some_decision text in (_, record { refusal = d.0; after = d.1; decides = d.2; is = refl })
+  some_put text = let d = some_decision f s lawful text in (_, record { refusal = d.0; after = d.1; decides = d.2; is = refl })
 
   some_commit : (said : Said) (text : List ℕ) → (o : Outcome) × Commits f said text s o
-  some_commit said text = let d = some_decision text in (_, record { refusal = d.0; after = d.1; decides = d.2; is = refl })
+  some_commit said text = let d = some_decision f s lawful text in (_, record { refusal = d.0; after = d.1; decides = d.2; is = refl })
 
   some_ended : (ends : Ending) → ((text : List ℕ) → (o : Outcome) × ends text s o) → (plan : Plan) → (o : Outcome) × Ended ends s o plan
   some_ended ends some (Err cause) = (_, refl)
@@ -126,3 +106,5 @@ module _ (f : List ℕ → List ℕ) (s : State) (lawful : IsLawful f s) where
       let ids = heads branch in
       let o = some_merged resolves payload (merge_said key author branch date) ids.0 in
       (o.0, (lawful.history, lawful.log, (ids.0, ids.1, o.1)))
+  some_of_step (Packets id have) payload = viewed (λ h answer. IsExported s h id have answer) (some_export f s lawful.history lawful.log (λ x. some_certs s.certs x) id have)
+  some_of_step Read payload = some_reading f s payload lawful

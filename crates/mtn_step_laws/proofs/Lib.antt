@@ -8,4 +8,10 @@ pub mod Outcomes
 pub mod Decoding
 pub mod Telling
 pub mod Revisions
+pub mod SomeDecision
+pub mod Ids
+pub mod Accepting
+pub mod Importing
+pub mod OneImport
+pub mod SomeImport
 pub mod Existing

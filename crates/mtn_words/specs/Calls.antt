@@ -4,7 +4,7 @@ use Rattle.std.specs.Option.{option_and_then}
 use Rattle.mtn_base.specs.Hex.{read_id}
 use Rattle.mtn_base.specs.declared.id.Id.{Id}
 use Rattle.mtn_step.specs.declared.call.Call.{Call}
-use Rattle.mtn_step.specs.declared.call.Call.TheVariants.{PutFile, PutRevision, GetFile, GetRevision, GetManifestOf, GetRoster, GetContentChanged, GetCorrespondingPath, Ask, Graph, Merge, ShowConflicts, Cert, Certs, Key, Heads, Branches, Commit, MergeHeads}
+use Rattle.mtn_step.specs.declared.call.Call.TheVariants.{PutFile, PutRevision, GetFile, GetRevision, GetManifestOf, GetRoster, GetContentChanged, GetCorrespondingPath, Ask, Graph, Merge, ShowConflicts, Cert, Certs, Key, Heads, Branches, Commit, MergeHeads, Packets, Read}
 use Rattle.mtn_step.specs.declared.call.Said.{Said}
 use Rattle.mtn_answers.specs.declared.query.Query.{Query}
 use Rattle.mtn_answers.specs.declared.query.Query.TheVariants.{Parents, Children, Ancestors, Descendents, CommonAncestors, EraseAncestors, Toposort, AncestryDifference, Leaves, Roots}
@@ -56,12 +56,13 @@ query_named name words =
     else if bytes_eq name (codes "ancestry_difference") then id_and_ids AncestryDifference words
     else pick_named name words
 
--- a question about the graph and the branches, one line each
+-- a question about the graph, the branches and packets, one line each
 abbrev pub ask_named : List ℕ → List (List ℕ) → Option Call
 ask_named name words =
     if bytes_eq name (codes "heads") then option_map Heads (one_word words)
     else if bytes_eq name (codes "branches") then option_map (λ _. Branches) (no_words words)
     else if bytes_eq name (codes "graph") then option_map (λ _. Graph) (no_words words)
+    else if bytes_eq name (codes "packets") then id_and_ids Packets words
     else option_map Ask (query_named name words)
 
 -- a question about given revisions, one line each, or another one
@@ -83,6 +84,7 @@ call_named name words =
     else if bytes_eq name (codes "get_file") then option_map GetFile (one_id words)
     else if bytes_eq name (codes "get_revision") then option_map GetRevision (one_id words)
     else if bytes_eq name (codes "key") then key_named words
+    else if bytes_eq name (codes "read") then option_map (λ _. Read) (no_words words)
     else view_named name words
 
 -- a command that takes no option

@@ -86,6 +86,7 @@ fn call_named(alloc: Global, name: &str, words: &[Bytes]) -> Result<Call, WordsE
         "get_file" => one_id(words).map(|id| Call::GetFile { id }),
         "get_revision" => one_id(words).map(|id| Call::GetRevision { id }),
         "key" => key_named(alloc, words),
+        "read" => no_words(words).map(|()| Call::Read),
         _ => view_named(alloc, name, words),
     }
 }
@@ -105,7 +106,7 @@ fn view_named(alloc: Global, name: &str, words: &[Bytes]) -> Result<Call, WordsE
     }
 }
 
-// A question about the graph and the branches.
+// A question about the graph, the branches and packets.
 fn ask_named(alloc: Global, name: &str, words: &[Bytes]) -> Result<Call, WordsError>
     ensures { Reads (ask_by_name name.now words.now) result }
 {
@@ -113,6 +114,7 @@ fn ask_named(alloc: Global, name: &str, words: &[Bytes]) -> Result<Call, WordsEr
         "heads" => one_word(alloc, words).map(|branch| Call::Heads { branch }),
         "branches" => no_words(words).map(|()| Call::Branches),
         "graph" => no_words(words).map(|()| Call::Graph),
+        "packets" => packets(alloc, words),
         _ => query_named(alloc, name, words).map(|query| Call::Ask { query }),
     }
 }
@@ -190,6 +192,17 @@ fn key_named(alloc: Global, words: &[Bytes]) -> Result<Call, WordsError>
         }
         _ => Err(WordsError::Usage),
     }
+}
+
+fn packets(alloc: Global, words: &[Bytes]) -> Result<Call, WordsError>
+    ensures { Reads (id_and_ids Call.Packets words.now) result }
+{
+    let [word, rest @ ..] = words else {
+        return Err(WordsError::Usage);
+    };
+    let id = id_of_word(word)?;
+    let have = ids(alloc, rest)?;
+    Ok(Call::Packets { id, have })
 }
 
 fn common_ancestors(alloc: Global, words: &[Bytes]) -> Result<Query, WordsError>

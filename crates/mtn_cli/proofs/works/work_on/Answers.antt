@@ -27,19 +27,19 @@ returns-in-Err g c =
 pub returns-in-Ok-worked : goal.returns-in-Ok-worked
 returns-in-Ok-worked g c =
     answered_at (g.I.Ident.meaning c.args.ident.now) Knows g.K.Keeper.contents g.K.Keeper.leaves g.K.Keeper.faults g.K.Keeper.reads (may_conflict (Some c.args.call.now)) (Steps (g.I.Ident.meaning c.args.ident.now) c.args.call.now c.args.payload.now)
-    c.args.keeper.now c.on_draft-worked.new.draft.keeper.now _ c.into_parts-keeper.result.2 c.on_draft-worked.new.draft.pending c.in-Ok-worked.reply c.into_parts-keeper.result.1.batch (search rules)
+    c.args.keeper.now c.perform-worked.new.draft.keeper.now _ c.into_parts-keeper.result.2 c.perform-worked.new.draft.pending c.in-Ok-worked.reply c.into_parts-keeper.result.1.batch (search rules)
     (ap (λ (p : Pending). p.batch) c.into_parts-keeper.ensures.pending)
     (over (g.I.Ident.meaning c.args.ident.now) Knows g.K.Keeper.contents g.K.Keeper.leaves g.K.Keeper.faults g.K.Keeper.reads (may_conflict (Some c.args.call.now)) (Steps (g.I.Ident.meaning c.args.ident.now) c.args.call.now c.args.payload.now)
-    c.args.keeper.now c.open.new.keeper c.new-draft.result.keeper.now c.on_draft-worked.new.draft.keeper.now c.in-Ok.pending c.new-draft.result.pending c.on_draft-worked.new.draft.pending (Ok c.in-Ok-worked.reply)
-    c.in-Ok.ensures.stays (λ d s told stands. c.in-Ok.ensures.stands (g.I.Ident.meaning c.args.ident.now) d s told stands) c.in-Ok.ensures.bare c.in-Ok.ensures.counted c.new-draft.ensures.keeper c.new-draft.ensures.pending c.in-Ok-worked.ensures.replies)
+    c.args.keeper.now c.open.new.keeper c.new-draft.result.keeper.now c.perform-worked.new.draft.keeper.now c.in-Ok.pending c.new-draft.result.pending c.perform-worked.new.draft.pending (Ok c.in-Ok-worked.reply)
+    c.in-Ok.ensures.stays (λ d s told stands. c.in-Ok.ensures.stands (g.I.Ident.meaning c.args.ident.now) d s told stands) c.in-Ok.ensures.bare c.in-Ok.ensures.counted c.new-draft.ensures.keeper c.new-draft.ensures.pending c.in-Ok-worked.ensures.performs)
     c.into_parts-keeper.ensures.knows
 
 pub returns-in-Err-worked : goal.returns-in-Err-worked
 returns-in-Err-worked g c =
     failed_at (g.I.Ident.meaning c.args.ident.now) Knows g.K.Keeper.contents g.K.Keeper.leaves g.K.Keeper.faults g.K.Keeper.reads (may_conflict (Some c.args.call.now)) (Steps (g.I.Ident.meaning c.args.ident.now) c.args.call.now c.args.payload.now)
-    c.args.keeper.now c.on_draft-worked.new.draft.keeper.now _ c.kept.result c.on_draft-worked.new.draft.pending c.in-Err-worked.error c.tell-in-Err-worked.result (search rules) c.tell-in-Err-worked.ensures
+    c.args.keeper.now c.perform-worked.new.draft.keeper.now _ c.kept.result c.perform-worked.new.draft.pending c.in-Err-worked.error c.tell-in-Err-worked.result (search rules) c.tell-in-Err-worked.ensures
     (over (g.I.Ident.meaning c.args.ident.now) Knows g.K.Keeper.contents g.K.Keeper.leaves g.K.Keeper.faults g.K.Keeper.reads (may_conflict (Some c.args.call.now)) (Steps (g.I.Ident.meaning c.args.ident.now) c.args.call.now c.args.payload.now)
-    c.args.keeper.now c.open.new.keeper c.new-draft.result.keeper.now c.on_draft-worked.new.draft.keeper.now c.in-Ok.pending c.new-draft.result.pending c.on_draft-worked.new.draft.pending (Err c.in-Err-worked.error)
-    c.in-Ok.ensures.stays (λ d s told stands. c.in-Ok.ensures.stands (g.I.Ident.meaning c.args.ident.now) d s told stands) c.in-Ok.ensures.bare c.in-Ok.ensures.counted c.new-draft.ensures.keeper c.new-draft.ensures.pending c.in-Err-worked.ensures.replies)
-    (map_known (λ k. Knows c.into_parts-keeper.result.2 (with_all k c.on_draft-worked.new.draft.pending.batch)) (Knows c.kept.result) (g.K.Keeper.contents c.on_draft-worked.new.draft.keeper.now)
+    c.args.keeper.now c.open.new.keeper c.new-draft.result.keeper.now c.perform-worked.new.draft.keeper.now c.in-Ok.pending c.new-draft.result.pending c.perform-worked.new.draft.pending (Err c.in-Err-worked.error)
+    c.in-Ok.ensures.stays (λ d s told stands. c.in-Ok.ensures.stands (g.I.Ident.meaning c.args.ident.now) d s told stands) c.in-Ok.ensures.bare c.in-Ok.ensures.counted c.new-draft.ensures.keeper c.new-draft.ensures.pending c.in-Err-worked.ensures.performs)
+    (map_known (λ k. Knows c.into_parts-keeper.result.2 (with_all k c.perform-worked.new.draft.pending.batch)) (Knows c.kept.result) (g.K.Keeper.contents c.perform-worked.new.draft.keeper.now)
     (λ k known. c.kept.ensures k (subst (λ (p : Pending). Knows c.into_parts-keeper.result.2 (with_all k p.batch)) (sym c.into_parts-keeper.ensures.pending) known)) c.into_parts-keeper.ensures.knows)

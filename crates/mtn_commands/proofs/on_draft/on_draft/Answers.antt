@@ -58,3 +58,9 @@ returns-in-Commit-clause-replies g c = rw c.in-Commit.is (replies_as _ _ _ _ _ _
 
 pub returns-in-MergeHeads-clause-replies : goal.returns-in-MergeHeads-clause-replies
 returns-in-MergeHeads-clause-replies g c = rw c.in-MergeHeads.is c.merge_heads.ensures.replies
+
+pub returns-in-Packets-clause-replies : goal.returns-in-Packets-clause-replies
+returns-in-Packets-clause-replies g c = rw c.in-Packets.is (replies_as _ _ _ _ _ _ _ _ _ _ c.packets.result c.told-in-Packets.result c.told-in-Packets.ensures c.packets.ensures.drafts)
+
+pub unreachable-requires : goal.unreachable-requires
+unreachable-requires g c = c.requires c.in-Read.is

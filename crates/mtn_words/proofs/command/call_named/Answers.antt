@@ -11,4 +11,5 @@ returns-in_default c =
       not_named name (codes "get_file") c.in_default.not-get_file,
       not_named name (codes "get_revision") c.in_default.not-get_revision,
       not_named name (codes "key") c.in_default.not-key,
+      not_named name (codes "read") c.in_default.not-read,
     ) c.view_named.ensures

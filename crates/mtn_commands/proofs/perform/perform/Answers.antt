@@ -1,0 +1,8 @@
+use Rattle.mtn_commands.proofs.ReplyLemmas.{performs_as}
+use Rattle.mtn_commands.proofs.perform.perform.Goals as goal
+
+pub on_draft-requires : goal.on_draft-requires
+on_draft-requires g c = c.in_default.not-Read
+
+pub returns-in_default-clause-performs : goal.returns-in_default-clause-performs
+returns-in_default-clause-performs g c = performs_as _ _ _ _ _ _ _ _ _ _ c.on_draft.result c.whole.result c.whole.ensures c.on_draft.ensures.replies

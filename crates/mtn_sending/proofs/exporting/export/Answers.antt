@@ -1,0 +1,55 @@
+use Rattle.std.proofs.Common.{Err, [], List, ℕ, sym, ap, ◌∙◌, subst}
+use Rattle.std.proofs.lemmas.Result.{err_from_is_err_and}
+use Rattle.mtn_base.specs.declared.id.Id.{Id}
+use Rattle.mtn_history.specs.Errors.{IfDamage}
+use Rattle.mtn_history.specs.Logs.{WrongBelow}
+use Rattle.mtn_history.proofs.Founding.{back, founded, told_of}
+use Rattle.mtn_history.proofs.GraphLemmas.{graph_sound}
+use Rattle.mtn_ports.specs.Kept.{with_all}
+use Rattle.mtn_ports.proofs.KeptLemmas.{rose_before, stays_trans}
+use Rattle.mtn_sending.specs.Sending.{WritesAll}
+use Rattle.mtn_sending.proofs.Exported.{asking_damages, asking_ends, exported, log_damages, sending_damages, sent_of, store_ends}
+use Rattle.mtn_sending.proofs.exporting.export.Goals as goal
+
+pub returns-in_err-graph-clause-found : goal.returns-in_err-graph-clause-found
+returns-in_err-graph-clause-found g c = λ f k s at draft.
+    let p = err_from_is_err_and c.from_residual.result c.from_residual.ensures.1 in
+    let told = g.K.Keeper.contents c.graph.new.self.keeper.now in
+    let before = c.args.draft.now.pending in
+    let e = c.in_err-graph.field-0.0 in
+    let d = founded f told k before s at draft in
+    (d.stands.history, d.stands.spelled,
+     store_ends s d.stands.history c.args.id c.args.have.now c.from_residual.result e (p.1 ∙ ap Err p.2)
+     (graph_sound f k before s draft e (told_of told k (λ x. IfDamage e (WrongBelow before.count (with_all x before.batch))) at c.in_err-graph.ensures.damaged)))
+
+pub returns-in_err-graph-clause-damaged : goal.returns-in_err-graph-clause-damaged
+returns-in_err-graph-clause-damaged g c =
+    let p = err_from_is_err_and c.from_residual.result c.from_residual.ensures.1 in
+    log_damages (g.K.Keeper.contents c.graph.new.self.keeper.now) c.args.draft.now.pending c.from_residual.result c.in_err-graph.field-0.0 (p.1 ∙ ap Err p.2) c.in_err-graph.ensures.damaged
+
+pub returns-in_err-ids-clause-found : goal.returns-in_err-ids-clause-found
+returns-in_err-ids-clause-found g c = λ f k s at draft.
+    let p = err_from_is_err_and c.from_residual-in_err-ids.result c.from_residual-in_err-ids.ensures.1 in
+    let d = founded f (g.K.Keeper.contents c.graph.new.self.keeper.now) k c.args.draft.now.pending s at draft in
+    (d.stands.history, d.stands.spelled,
+     asking_ends s d.stands.history c.args.id c.args.have.now c.from_residual-in_err-ids.result c.in_err-ids.field-0.0 (p.1 ∙ ap Err p.2) (c.in_err-ids.ensures.found d.stands.history (c.in_ok-graph.ensures.found f s d)))
+
+pub returns-in_err-ids-clause-damaged : goal.returns-in_err-ids-clause-damaged
+returns-in_err-ids-clause-damaged g c =
+    let p = err_from_is_err_and c.from_residual-in_err-ids.result c.from_residual-in_err-ids.ensures.1 in
+    asking_damages (g.K.Keeper.contents c.graph.new.self.keeper.now) c.args.draft.now.pending c.from_residual-in_err-ids.result c.in_err-ids.field-0.0 (p.1 ∙ ap Err p.2) c.in_err-ids.ensures.sound
+
+pub returns-in_err-send_all-clause-stays : goal.returns-in_err-send_all-clause-stays
+returns-in_err-send_all-clause-stays g c = stays_trans g.K.Keeper.contents g.K.Keeper.leaves g.K.Keeper.faults _ _ _ c.graph.ensures.stays c.send_all.ensures.stays
+
+pub returns-in_err-send_all-clause-found : goal.returns-in_err-send_all-clause-found
+returns-in_err-send_all-clause-found g c = λ f k s at draft.
+    let p = err_from_is_err_and c.from_residual-in_err-send_all.result c.from_residual-in_err-send_all.ensures.1 in
+    let told = g.K.Keeper.contents c.graph.new.self.keeper.now in
+    let now = g.K.Keeper.contents c.send_all.new.draft.keeper.now in
+    let before = c.args.draft.now.pending in
+    let d = founded f now k before s at draft in
+    (d.stands.history, d.stands.spelled,
+     store_ends s d.stands.history c.args.id c.args.have.now c.from_residual-in_err-send_all.result c.in_err-send_all.field-0.0 (p.1 ∙ ap Err p.2)
+     (sent_of told now before c.graph.new.self.pending c.in_ok-graph.graph c.args.id c.args.have.now c.as_slice.result.now c.send_all.ensures.stays.same c.in_ok-graph.ensures.pending c.in_ok-graph.ensures.found
+      _ (Err c.in_err-send_all.field-0.0) c.new.result.items c.send_all.new.out.items c.in_err-send_all.ensures.found f s d))
