@@ -161,9 +161,13 @@ module _ (f : List ℕ → List ℕ) (s t : State) (h : List Revision) (ls : IsL
   abbrev Way : ℕ → List Id → State → Type 0
   Way = IsOnTheWay f s t Known Asked
 
+  -- all that is wanted is there
+  abbrev Ends : State → Type 0
+  Ends v = IsLawful f v × ((l : Logged) → Contains s.log l → Wanted (id_of l.id) → Contains v.log l)
+
   -- the packets are read, where the log has room for them
   abbrev Goes : State → List Packet → Type 0
-  Goes u ps = length (fold after u ps).log ≤ 2147483648 → IsLawful f (fold after u ps) × ReadsTo f u ps (fold after u ps)
+  Goes u ps = length (fold after u ps).log ≤ 2147483648 → Ends (fold after u ps) × ReadsTo f u ps (fold after u ps)
 
   -- ---- files and certificates
 
@@ -277,8 +281,20 @@ module _ (f : List ℕ → List ℕ) (s t : State) (h : List Revision) (ls : IsL
   known_then : (u : State) (low : ℕ) (before : List Id) → Way low before u → (id : Id) (text : List ℕ) → Contains (take low s.log) (logged id.0 text) → Asked id → IsSome (text_under u.log id.0)
   known_then u low before way id text c asked = ap is_some (text_of f u.files u.log way.law.history way.law.log (logged id.0 text) (way.sent (logged id.0 text) c asked))
 
+  -- once no more is to come all that is wanted is there
+  all_there : (low : ℕ) (before : List Id) (u : State) → Way low before u → AreLeft h Asked low [] → (l : Logged) → Contains s.log l → Wanted (id_of l.id) → Contains u.log l
+  all_there low before u way left l c wanted =
+      let j = at_contains s.log l c in
+      let w = revision_at f s.files s.log h is j.0 l j.1 in
+      let place : IsPlaceOf h (id_of l.id) j.0 = (w.0, w.1, named f s.files (take j.0 h) l w.0 w.2) in
+      ⊎_elim (λ known. way.known l c known) (λ asked. came j.0 place asked j.1 (nat_lt j.0 low) refl) (sort (id_of l.id) wanted)
+    where
+      came : (j : ℕ) → IsPlaceOf h (id_of l.id) j → Asked (id_of l.id) → slice_get s.log j ≡ Some l → (b : Bool) → nat_lt j low ≡ b → Contains u.log l
+      came j place asked at true e = let lt : j < low = grind (arith, nat_tests) in way.sent l (contains_at (take low s.log) j l (at_front s.log low j l lt at)) asked
+      came j place asked at false e = let le : low ≤ j = grind (arith, nat_tests) in absurd (contains_nil (left.all (id_of l.id) j asked place le))
+
   pub all_go : (ids before done : List Id) (low : ℕ) (u : State) (packets : List Packet) → AreSent s before ids packets done → Way low before u → AreLeft h Asked low ids → HasNoOther t packets → Goes u packets
-  all_go [] before done low u packets sent way left other = subst (Goes u) (sym sent.0) (λ room. (way.law, read_none f u))
+  all_go [] before done low u packets sent way left other = subst (Goes u) (sym sent.0) (λ room. ((way.law, all_there low before u way left), read_none f u))
   all_go (id ∷ ids) before done low u packets sent way left other =
       let files = sent.0 in
       let own = sent.3 in

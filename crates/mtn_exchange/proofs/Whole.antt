@@ -5,9 +5,10 @@ use Rattle.std.specs.declared.cmp.Ordering.TheVariants.{Less}
 use Rattle.std.proofs.Common.{◌≡◌, ◌≤◌, ℕ, List, [], ◌∷◌, ◌++◌, length, map, Option, Some, None, sym, ap, subst, ⊎_elim, inr, arith}
 use Rattle.std.proofs.lemmas.List.Elements.{Contains-append_cases}
 use Rattle.std.proofs.lemmas.Map.Keys.{sorted_head, sorted_tail}
-use Rattle.mtn_answers.specs.Queries.{IsAsked, by_place}
+use Rattle.mtn_answers.specs.Queries.{IsAbove, IsAsked, by_place}
 use Rattle.mtn_answers.specs.declared.query.Query.TheVariants.{AncestryDifference}
 use Rattle.mtn_answers.proofs.Orders.{one_way_place}
+use Rattle.mtn_base.specs.Hex.{id_of}
 use Rattle.mtn_base.specs.declared.id.Id.{Id}
 use Rattle.mtn_base.specs.declared.refusal.Cause.{Cause}
 use Rattle.mtn_base.proofs.IdOrder.{contains_cases, contains_head, contains_later, contains_nil, each_from}
@@ -15,21 +16,24 @@ use Rattle.mtn_certs.specs.Certificates.{Certificate}
 use Rattle.mtn_exports.specs.Exports.{AreSent, IsExport, cert_packet, file_packet, packets_text}
 use Rattle.mtn_history_laws.specs.History.{Revision}
 use Rattle.mtn_imports.specs.Imports.{Kept, Matched, ReadsFrom, ReadsInput}
-use Rattle.mtn_model.specs.State.{State}
+use Rattle.mtn_model.specs.State.{Logged, State}
 use Rattle.mtn_packets.specs.declared.packet.Packet.{Packet}
 use Rattle.mtn_packets.specs.declared.packet.Packet.TheVariants as packet
 use Rattle.mtn_replay.specs.Lawful.{IsHistory, IsLawful}
-use Rattle.mtn_exchange.specs.Exchange.{HasNoOther, HasRoom, HoldsBytes, HoldsWith, MakesIds, joined_with}
+use Rattle.mtn_exchange.specs.Exchange.{HasNoOther, HasRoom, HoldsBytes, HoldsWith, IsTaken, MakesIds, joined_with}
 use Rattle.mtn_exchange.proofs.Input.{all_matched, read_back}
 use Rattle.mtn_exchange.proofs.Joining.{after, joins, AreApart}
 use Rattle.mtn_exchange.proofs.Reading.{ReadsTo}
 use Rattle.mtn_exchange.proofs.Sending.{all_go, are_in_turn, start, AreLeft}
-use Rattle.mtn_exchange.proofs.Texts.{text_named}
+use Rattle.mtn_exchange.proofs.Texts.{logged, text_from, text_named, text_of}
 
 -- the id of a packet that is a revision
 abbrev revision_of : Packet → Option Id
 revision_of (packet.Revision id text) = Some id
 revision_of _ = None
+
+abbrev Wanted : List Revision → Id → List Id → Id → Type 0
+Wanted h r have x = (o : Id) × Contains (r ∷ have) o × IsAbove h x o
 
 module _ (s : State) where
   no_file : (files : List Id) (x : Id) (text : List ℕ) → Contains (map (file_packet s) files) (packet.Revision x text) → ⊥
@@ -79,7 +83,7 @@ module _ (f : List ℕ → List ℕ) (s t : State) (h : List Revision) (ls : IsL
       (apart_files s sent.0 (packet.Revision id own.text ∷ behind) (last, apart_certs s own.certs rest later))
 
   pub export_is_read : (packets : List Packet) → MakesIds f → HoldsBytes s → IsExport s h r have packets → HoldsWith s h t have → HasNoOther t packets → HasRoom t packets →
-      IsLawful f (joined_with t packets) × ((new : Kept) × ReadsInput f t (packets_text packets) None (joined_with t packets) new)
+      IsTaken f s h t r have packets
   export_is_read packets ids bytes export holds other room =
       let asked = export.asked in
       let one : fold after t packets ≡ joined_with t packets = joins packets t (apart export.revisions [] export.files packets export.sent asked.ascending) in
@@ -91,14 +95,20 @@ module _ (f : List ℕ → List ℕ) (s t : State) (h : List Revision) (ls : IsL
       } in
       let goes = all_go f s t h ls is lt r have export.revisions [] export.files 0 t packets export.sent (start f s t h ls is lt r have holds) left other (subst (λ (v : State). length v.log ≤ 2147483648) (sym one) room) in
       let reads = subst (ReadsTo f t packets) one goes.1 1 in
-      let matched = all_matched f s h ls is (text_named f s.files s.log h is) r have packets export 1 in (
-        subst (IsLawful f) one goes.0,
-        (
+      let matched = all_matched f s h ls is (text_named f s.files s.log h is) r have packets export 1 in
+      let law : IsLawful f (joined_with t packets) = subst (IsLawful f) one goes.0.0 in
+      let there : (l : Logged) → Contains s.log l → Wanted h r have (id_of l.id) → Contains (joined_with t packets).log l =
+      subst (λ (v : State). (l : Logged) → Contains s.log l → Wanted h r have (id_of l.id) → Contains v.log l) one goes.0.1 in
+      record {
+        read = (
           reads.0,
           inr (record {
             packets = packets;
             spelled = read_back f s h ls is (text_named f s.files s.log h is) r have packets export ids bytes;
             imported = subst (λ (o : Option Cause). Matched o (λ refusal u more. ReadsFrom f 1 t packets refusal u more) None (joined_with t packets) reads.0) (sym matched) reads.1;
           }),
-        ),
-      )
+        );
+        lawful = law;
+        holds = λ o x text c up under.
+            text_of f (joined_with t packets).files (joined_with t packets).log law.history law.log (logged x.0 text) (there (logged x.0 text) (text_from s.log x.0 text under) (o, c, up));
+      }

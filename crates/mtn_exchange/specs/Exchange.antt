@@ -1,17 +1,20 @@
 -- What a store has once it has read what another exported, and what it takes to read that.
-use Rattle.std.specs.Prelude.{◌≡◌, ◌≤◌, ℕ, List, ◌++◌, length, fold, filter_map, Contains, Option, Some, None, is_none, if◌then◌else◌}
+use Rattle.std.specs.Prelude.{◌≡◌, ◌≤◌, ℕ, List, ◌∷◌, ◌++◌, length, fold, filter_map, Contains, Option, Some, None, is_none, if◌then◌else◌}
 use Rattle.std.specs.FinMap.{get, insert}
 use Rattle.hex.specs.Hex.{IsBytes}
 use Rattle.mtn_answers.specs.Queries.{IsAbove}
 use Rattle.mtn_base.specs.declared.id.Id.{Id}
 use Rattle.mtn_base.specs.declared.limits.TheConstants.{MAX_LOG}
 use Rattle.mtn_certs.specs.Certificates.{Certificate, IsIdBytes, certificate}
+use Rattle.mtn_exports.specs.Exports.{packets_text}
 use Rattle.mtn_history_laws.specs.History.{Revision}
+use Rattle.mtn_imports.specs.Imports.{Kept, ReadsInput}
 use Rattle.mtn_model.specs.State.{Certificates, Holds, Logged, State}
 use Rattle.mtn_model.specs.Table.{Table}
 use Rattle.mtn_packets.specs.declared.packet.Packet.{Packet}
 use Rattle.mtn_packets.specs.declared.packet.Packet.TheVariants as packet
 use Rattle.mtn_packets.specs.declared.packet.PacketKey.TheVariants as key
+use Rattle.mtn_replay.specs.Lawful.{IsLawful}
 use Rattle.mtn_replay.specs.Texts.{text_under}
 
 -- the files with that of a packet
@@ -60,3 +63,10 @@ pub record HasNoOther (t : State) (packets : List Packet) : Type 0 where
 -- the log with all packets is within its limit
 abbrev pub HasRoom : State → List Packet → Type 0
 HasRoom t packets = length (joined_with t packets).log ≤ MAX_LOG
+
+-- What reading the export of a revision comes to: nothing is refused, and the state with all packets is lawful and holds the revision
+-- and all above it
+pub record IsTaken (f : List ℕ → List ℕ) (s : State) (h : List Revision) (t : State) (r : Id) (have : List Id) (packets : List Packet) : Type 0 where
+  pub read : (new : Kept) × ReadsInput f t (packets_text packets) None (joined_with t packets) new
+  pub lawful : IsLawful f (joined_with t packets)
+  pub holds : HoldsWith s h (joined_with t packets) (r ∷ have)

@@ -8,21 +8,20 @@
 //! certificates behind its own (`specs/Exchange.antt`).
 #![tactic(auto)]
 
-ghost use Rattle.std.specs.Prelude.{ℕ, List, None};
+ghost use Rattle.std.specs.Prelude.{ℕ, List};
 ghost use Rattle.mtn_base.specs.declared.id.Id.{Id};
-ghost use Rattle.mtn_exports.specs.Exports.{IsExport, packets_text};
+ghost use Rattle.mtn_exports.specs.Exports.{IsExport};
 ghost use Rattle.mtn_history_laws.specs.History.{Revision};
-ghost use Rattle.mtn_imports.specs.Imports.{Kept, ReadsInput};
 ghost use Rattle.mtn_model.specs.State.{State};
 ghost use Rattle.mtn_packets.specs.declared.packet.Packet.{Packet};
 ghost use Rattle.mtn_replay.specs.Lawful.{IsHistory, IsLawful};
-ghost use Rattle.mtn_exchange.specs.Exchange.{HasNoOther, HasRoom, HoldsBytes, HoldsWith, MakesIds, joined_with};
+ghost use Rattle.mtn_exchange.specs.Exchange.{HasNoOther, HasRoom, HoldsBytes, HoldsWith, IsTaken, MakesIds};
 
 /// What is exported of a lawful state is read into each other one that holds the revisions which the export leaves out, has no
-/// other bytes under its ids, and has room: nothing is refused, and what results is the state with all packets, which is lawful.
+/// other bytes under its ids, and has room: nothing is refused, and what results is the state with all packets, which is lawful and
+/// holds the revision and all above it.
 pub fn export_is_read()
     ensures { (f : List ℕ → List ℕ) (s t : State) (h : List Revision) (r : Id) (have : List Id) (packets : List Packet) →
         MakesIds f → HoldsBytes s → IsLawful f s → IsLawful f t → IsHistory f s.files s.log h → IsExport s h r have packets →
-        HoldsWith s h t have → HasNoOther t packets → HasRoom t packets →
-        IsLawful f (joined_with t packets) × ((new : Kept) × ReadsInput f t (packets_text packets) None (joined_with t packets) new) }
+        HoldsWith s h t have → HasNoOther t packets → HasRoom t packets → IsTaken f s h t r have packets }
 {}
