@@ -6,3 +6,4 @@ pub mod Joining
 pub mod Reading
 pub mod Sending
 pub mod Whole
+pub mod Filling

@@ -99,7 +99,7 @@ module _ (h : List Revision) (grown : IsGrown h) where
     behind : (x : Id) (p : ℕ) → Contains ids x → IsPlaceOf h x p → k < p
     behind x p c is = less_places id x k p at is (each_from (λ z. by_place h id z ≡ Less) ids (sorted_head (by_place h) id ids left.ascending) x c)
 
-    left_then : AreLeft h Asked (suc k) ids
+    pub left_then : AreLeft h Asked (suc k) ids
     left_then = record {
       ascending = sorted_tail (by_place h) id ids left.ascending;
       asked = λ x c. left.asked x (contains_later id ids c);

@@ -13,9 +13,9 @@ use Rattle.mtn_base.specs.declared.id.Id.{Id}
 use Rattle.mtn_base.specs.declared.refusal.Cause.{Cause}
 use Rattle.mtn_base.proofs.IdOrder.{contains_cases, contains_head, contains_later, contains_nil, each_from}
 use Rattle.mtn_certs.specs.Certificates.{Certificate}
-use Rattle.mtn_exports.specs.Exports.{AreSent, IsExport, cert_packet, file_packet, packets_text}
+use Rattle.mtn_exports.specs.Exports.{AreSent, IsExport, cert_packet, file_packet}
 use Rattle.mtn_history_laws.specs.History.{Revision}
-use Rattle.mtn_imports.specs.Imports.{Kept, Matched, ReadsFrom, ReadsInput}
+use Rattle.mtn_imports.specs.Imports.{Matched, ReadsFrom}
 use Rattle.mtn_model.specs.State.{Logged, State}
 use Rattle.mtn_packets.specs.declared.packet.Packet.{Packet}
 use Rattle.mtn_packets.specs.declared.packet.Packet.TheVariants as packet

@@ -8,11 +8,11 @@
 //! certificates behind its own (`specs/Exchange.antt`).
 #![tactic(auto)]
 
-ghost use Rattle.std.specs.Prelude.{ℕ, List};
+ghost use Rattle.std.specs.Prelude.{ℕ, List, []};
 ghost use Rattle.mtn_base.specs.declared.id.Id.{Id};
 ghost use Rattle.mtn_exports.specs.Exports.{IsExport};
 ghost use Rattle.mtn_history_laws.specs.History.{Revision};
-ghost use Rattle.mtn_model.specs.State.{State};
+ghost use Rattle.mtn_model.specs.State.{State, empty_state};
 ghost use Rattle.mtn_packets.specs.declared.packet.Packet.{Packet};
 ghost use Rattle.mtn_replay.specs.Lawful.{IsHistory, IsLawful};
 ghost use Rattle.mtn_exchange.specs.Exchange.{HasNoOther, HasRoom, HoldsBytes, HoldsWith, IsTaken, MakesIds};
@@ -24,4 +24,10 @@ pub fn export_is_read()
     ensures { (f : List ℕ → List ℕ) (s t : State) (h : List Revision) (r : Id) (have : List Id) (packets : List Packet) →
         MakesIds f → HoldsBytes s → IsLawful f s → IsLawful f t → IsHistory f s.files s.log h → IsExport s h r have packets →
         HoldsWith s h t have → HasNoOther t packets → HasRoom t packets → IsTaken f s h t r have packets }
+{}
+
+/// An empty store reads what is exported of a revision with nothing left out.
+pub fn all_is_read()
+    ensures { (f : List ℕ → List ℕ) (s : State) (h : List Revision) (r : Id) (packets : List Packet) →
+        MakesIds f → HoldsBytes s → IsLawful f s → IsHistory f s.files s.log h → IsExport s h r [] packets → IsTaken f s h empty_state r [] packets }
 {}
