@@ -21,7 +21,8 @@ use Rattle.mtn_replay.proofs.FileLemmas.{empty_lawful}
 use Rattle.mtn_replay.proofs.Histories.{history_is_grown, log_is_short}
 use Rattle.mtn_replay.proofs.Places.{inside}
 use Rattle.mtn_exchange.specs.Exchange.{HasNoOther, HasRoom, HoldsBytes, IsTaken, MakesIds, lacked}
-use Rattle.mtn_exchange.proofs.Sending.{are_in_turn, left_then, AreLeft}
+use Rattle.mtn_exchange.proofs.Joining.{are_in_turn}
+use Rattle.mtn_exchange.proofs.Sending.{left_then, AreLeft}
 use Rattle.mtn_exchange.proofs.Texts.{logged}
 use Rattle.mtn_exchange.proofs.Whole.{export_is_read}
 
@@ -47,7 +48,7 @@ module _ (f : List ℕ → List ℕ) (s : State) (h : List Revision) (ls : IsLaw
       let own = sent.3 in
       let rest = sent.2 in
       let l = logged id.0 own.text in
-      let turn = are_in_turn f s s h ls is ls r [] before sent.0 id sent.1 rest packets own sent.5 in
+      let turn = are_in_turn s before sent.0 id sent.1 rest packets own sent.5 in
       let texts : filter_map (lacked log) packets ≡ cons_option (if is_none (text_under log id.0) then Some l else None) (filter_map (lacked log) rest) =
       ap (filter_map (lacked log)) turn ∙ no_texts_of_files s log sent.0 (packet.Revision id own.text ∷ (map cert_packet own.certs ++ rest))
       ∙ ap (cons_option (if is_none (text_under log id.0) then Some l else None)) (no_texts_of_certs s log own.certs rest) in

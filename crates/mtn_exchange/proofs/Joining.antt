@@ -2,11 +2,12 @@
 use Rattle.std.specs.Prelude.{Contains, filter_map, fold, is_none, if◌then◌else◌}
 use Rattle.std.specs.FinMap.{insert}
 use Rattle.std.specs.List.{cons_option}
-use Rattle.std.proofs.Common.{◌≡◌, ◌≤◌, ℕ, List, [], ◌∷◌, ◌++◌, length, Option, Some, None, refl, sym, ap, ◌∙◌, arith}
+use Rattle.std.proofs.Common.{◌≡◌, ◌≤◌, ℕ, List, [], ◌∷◌, ◌++◌, length, map, Option, Some, None, refl, sym, ap, ◌∙◌, arith}
 use Rattle.std.proofs.lemmas.List.{append-nil, append_assoc, length-append}
 use Rattle.mtn_base.specs.declared.id.Id.{Id}
 use Rattle.mtn_base.proofs.IdOrder.{contains_head, contains_later}
-use Rattle.mtn_certs.specs.Certificates.{certificate}
+use Rattle.mtn_certs.specs.Certificates.{Certificate, certificate}
+use Rattle.mtn_exports.specs.Exports.{IsSent, cert_packet, file_packet}
 use Rattle.mtn_model.specs.State.{Logged, State}
 use Rattle.mtn_packets.specs.declared.packet.Packet.{Packet}
 use Rattle.mtn_packets.specs.declared.packet.Packet.TheVariants as packet
@@ -27,17 +28,20 @@ after u (packet.Cert revision name (key.Id k) value signature) = record u { cert
 after u (packet.Cert revision name (key.Name n) value signature) = u
 after u packet.Passed = u
 
--- the id of a revision does not come again
+-- the id of a file or a revision does not come again, nor does a certificate
 abbrev pub IsLast : Packet → List Packet → Type 0
+IsLast (packet.File id bytes) ps = (x : Id) (other : List ℕ) → Contains ps (packet.File x other) → id ≡ x → ⊥
 IsLast (packet.Revision id text) ps = (x : Id) (other : List ℕ) → Contains ps (packet.Revision x other) → id ≡ x → ⊥
-IsLast _ ps = Unit {0}
+IsLast (packet.Cert revision name (key.Id k) value signature) ps = (c : Certificate) → Contains ps (cert_packet c) → certificate revision name k value signature ≡ c → ⊥
+IsLast (packet.Cert revision name (key.Name n) value signature) ps = Unit {0}
+IsLast packet.Passed ps = Unit {0}
 
 abbrev pub AreApart : List Packet → Type 0
 AreApart [] = Unit {0}
 AreApart (p ∷ ps) = IsLast p ps × AreApart ps
 
 -- what a longer log lacks of other ids
-same_lacked : (log : List Logged) (id : Id) (text : List ℕ) (ps : List Packet) → ((x : Id) (other : List ℕ) → Contains ps (packet.Revision x other) → id ≡ x → ⊥) →
+pub same_lacked : (log : List Logged) (id : Id) (text : List ℕ) (ps : List Packet) → ((x : Id) (other : List ℕ) → Contains ps (packet.Revision x other) → id ≡ x → ⊥) →
     filter_map (lacked (log ++ logged id.0 text ∷ [])) ps ≡ filter_map (lacked log) ps
 same_lacked log id text [] differ = refl
 same_lacked log id text (packet.File x bytes ∷ ps) differ = same_lacked log id text ps (λ y o c. differ y o (contains_later (packet.File x bytes) ps c))
@@ -84,3 +88,10 @@ grows (packet.Revision id text ∷ ps) u =
 grows (packet.Cert revision name (key.Id k) value signature ∷ ps) u = grows ps (record u { certs = insert u.certs (certificate revision name k value signature) tt })
 grows (packet.Cert revision name (key.Name n) value signature ∷ ps) u = grows ps u
 grows (packet.Passed ∷ ps) u = grows ps u
+
+-- the packets of a revision and of those behind it
+abbrev pub in_turn : State → List Id → Id → List ℕ → List Certificate → List Packet → List Packet
+in_turn s files id text certs rest = map (file_packet s) files ++ (packet.Revision id text ∷ (map cert_packet certs ++ rest))
+
+pub are_in_turn : (s : State) (before files : List Id) (id : Id) (own rest packets : List Packet) (sent : IsSent s before id files own) → packets ≡ own ++ rest → packets ≡ in_turn s files id sent.text sent.certs rest
+are_in_turn s before files id own rest packets sent e = e ∙ ap (λ ps. ps ++ rest) sent.are ∙ append_assoc (map (file_packet s) files) (packet.Revision id sent.text ∷ map cert_packet sent.certs) rest

@@ -12,7 +12,7 @@ use Rattle.mtn_base.specs.declared.refusal.Cause.TheVariants.{Collision, TextToo
 use Rattle.mtn_certs.specs.Certificates.{Certificate}
 use Rattle.mtn_changes.specs.declared.change.Revision.{Revision as Spelled}
 use Rattle.mtn_exports.specs.Exports.{cert_packet}
-use Rattle.mtn_imports.specs.Imports.{Kept, Reads, ReadsFrom, cert_refusal, kept, new_cert, one_new, too_long, unknown_revision, with_more}
+use Rattle.mtn_imports.specs.Imports.{Reads, ReadsFrom, cert_refusal, kept, one_new, too_long, unknown_revision}
 use Rattle.mtn_model.specs.State.{Holds, Logged, State}
 use Rattle.mtn_packets.specs.declared.packet.Packet.{Packet}
 use Rattle.mtn_packets.specs.declared.packet.Packet.TheVariants as packet
@@ -27,6 +27,7 @@ use Rattle.mtn_replay.proofs.CertLemmas.{lawful_cert, lawful_text}
 use Rattle.mtn_replay.proofs.FileLemmas.{found_more, get_inserted, insert_held, lawful_more}
 use Rattle.mtn_replay.proofs.Steps.{join_none}
 use Rattle.mtn_exchange.proofs.Fronts.{front_more}
+use Rattle.mtn_exchange.proofs.Counting.{new_from, new_of}
 use Rattle.mtn_exchange.proofs.Joining.{after, beside}
 use Rattle.mtn_exchange.proofs.Texts.{logged, next_of, text_from}
 
@@ -34,18 +35,16 @@ use Rattle.mtn_exchange.proofs.Texts.{logged, next_of, text_from}
 
 -- packets are read with no refusal, whatever their numbers
 abbrev pub ReadsTo : (List ℕ → List ℕ) → State → List Packet → State → Type 0
-ReadsTo f u ps v = (number : ℕ) → (new : Kept) × ReadsFrom f number u ps None v new
+ReadsTo f u ps v = (number : ℕ) → ReadsFrom f number u ps None v (new_from u ps)
 
-abbrev pub ReadsOne : (List ℕ → List ℕ) → State → Packet → State → Type 0
-ReadsOne f u p v = (new : Kept) × Reads f u p None v new
+abbrev pub ReadsOne : (List ℕ → List ℕ) → State → Packet → Type 0
+ReadsOne f u p = Reads f u p None (after u p) (new_of u p)
 
 pub read_none : (f : List ℕ → List ℕ) (u : State) → ReadsTo f u [] u
-read_none f u number = (kept 0 0 0, (refl, refl, refl))
+read_none f u number = (refl, refl, refl)
 
-pub read_more : (f : List ℕ → List ℕ) (u mid v : State) (p : Packet) (ps : List Packet) → ReadsOne f u p mid → ReadsTo f mid ps v → ReadsTo f u (p ∷ ps) v
-read_more f u mid v p ps one rest number =
-    let more = rest (number + 1) in
-    (with_more one.0 more.0, (None, mid, one.0, one.1, (more.0, more.1, refl)))
+pub read_more : (f : List ℕ → List ℕ) (u v : State) (p : Packet) (ps : List Packet) → ReadsOne f u p → ReadsTo f (after u p) ps v → ReadsTo f u (p ∷ ps) v
+read_more f u v p ps one rest number = (None, after u p, new_of u p, one, (new_from (after u p) ps, rest (number + 1), refl))
 
 -- ---- the state so far
 
@@ -94,14 +93,11 @@ module _ (f : List ℕ → List ℕ) (s t : State) (Known Sent : Id → Type 0) 
     made_file : with_file f u bytes ≡ after u (packet.File x bytes)
     made_file = ap (λ (k : List ℕ). record u { files = insert u.files k bytes }) named_by
 
-    pub file_reads : ReadsOne f u (packet.File x bytes) (after u (packet.File x bytes))
+    pub file_reads : ReadsOne f u (packet.File x bytes)
     file_reads = (
-      kept (one_new (get u.files (f bytes))) 0 0,
-      (
-        sym (small_file f u bytes (ls.files.sizes x.0 bytes at) (no_collision (f bytes) bytes (get u.files (f bytes)) same_bytes)),
-        sym made_file,
-        refl,
-      ),
+      sym (small_file f u bytes (ls.files.sizes x.0 bytes at) (no_collision (f bytes) bytes (get u.files (f bytes)) same_bytes)),
+      sym made_file,
+      ap (λ (k : List ℕ). kept (one_new (get u.files k)) 0 0) (sym named_by),
     )
 
     now_held : (y : Id) (b : Bool) → bytes_eq y.0 x.0 ≡ b → Contains before y ⊎ (x ≡ y) → cond b (Some bytes) (get u.files y.0) ≡ get s.files y.0
@@ -141,8 +137,8 @@ module _ (f : List ℕ → List ℕ) (s t : State) (Known Sent : Id → Type 0) 
         join_none (too_long c.value) _ (short_part c.value lawful.value) (join_none (too_long c.signature) _ (short_part c.signature lawful.signature)
         (join_none (unknown_revision u c.revision) _ (is_known (text_under u.log c.revision.0) there) refl))
 
-    pub cert_reads : ReadsOne f u (cert_packet c) (after u (cert_packet c))
-    cert_reads = (kept 0 0 (new_cert u c.revision c.name (Some c.key) c.value c.signature), (Some c.key, refl, sym cert_fine, refl, refl))
+    pub cert_reads : ReadsOne f u (cert_packet c)
+    cert_reads = (Some c.key, refl, sym cert_fine, refl, refl)
 
     pub cert_way : IsOnTheWay f s t Known Sent low before (after u (cert_packet c))
     cert_way = record {
@@ -181,21 +177,18 @@ module _ (f : List ℕ → List ℕ) (s t : State) (Known Sent : Id → Type 0) 
     leads_to : logged_beside (text_under u.log (f text)) f u text ≡ after u (packet.Revision id text)
     leads_to = beside_named (text_under u.log (f text)) ∙ ap (λ (i : List ℕ). beside (text_under u.log i) u (id_of i) text) name
 
-    pub text_reads : ReadsOne f u (packet.Revision id text) (after u (packet.Revision id text))
+    pub text_reads : ReadsOne f u (packet.Revision id text)
     text_reads = (
-      kept 0 (one_new (text_under u.log (f text))) 0,
-      (
-        inr (inr (record {
-          short = short;
-          read = r;
-          spells = spells;
-          history = way.law.history;
-          spelled = way.law.log;
-          is = sym (unrefused (text_under u.log (f text)) refl);
-          after = sym leads_to;
-        })),
-        refl,
-      ),
+      inr (inr (record {
+        short = short;
+        read = r;
+        spells = spells;
+        history = way.law.history;
+        spelled = way.law.log;
+        is = sym (unrefused (text_under u.log (f text)) refl);
+        after = sym leads_to;
+      })),
+      ap (λ (i : List ℕ). kept 0 (one_new (text_under u.log i)) 0) (sym name),
     )
 
     -- the revisions of s up to this one are held

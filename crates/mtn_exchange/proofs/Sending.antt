@@ -27,7 +27,7 @@ use Rattle.mtn_base.proofs.Tests.{same_id-is}
 use Rattle.mtn_certs.specs.Certificates.{Certificate}
 use Rattle.mtn_changes.specs.declared.change.Revision.{Revision as Spelled}
 use Rattle.mtn_changes.proofs.OneValue.{same_revision}
-use Rattle.mtn_exports.specs.Exports.{AreSent, IsSent, cert_packet, file_packet, new_to}
+use Rattle.mtn_exports.specs.Exports.{AreSent, cert_packet, file_packet, new_to}
 use Rattle.mtn_exports.proofs.Contents.{contents_held}
 use Rattle.mtn_history_laws.specs.History.{Revision, IsGrown, IsPlaceOf, parents_at, revision_parents}
 use Rattle.mtn_model.specs.State.{Holds, Logged, State}
@@ -44,7 +44,7 @@ use Rattle.mtn_exchange.specs.Exchange.{HasNoOther, HoldsWith}
 use Rattle.mtn_exchange.proofs.Accepting.{accepted_there}
 use Rattle.mtn_exchange.proofs.Fronts.{at_front, has_room, own_of, IsClosed, Own}
 use Rattle.mtn_exchange.proofs.Input.{files_held}
-use Rattle.mtn_exchange.proofs.Joining.{after, beside, grows}
+use Rattle.mtn_exchange.proofs.Joining.{after, are_in_turn, beside, grows, in_turn}
 use Rattle.mtn_exchange.proofs.Reading.{cert_reads, cert_way, file_reads, file_way, read_more, read_none, text_reads, text_way, IsOnTheWay, ReadsTo}
 use Rattle.mtn_exchange.proofs.Texts.{logged, text_from, text_of}
 
@@ -182,7 +182,7 @@ module _ (f : List ℕ → List ℕ) (s t : State) (h : List Revision) (ls : IsL
       let p = packet.File x bytes in
       let rest = files_go files low (before ++ x ∷ []) (after u p) (file_way f s t Known Asked low before u way ls x bytes at same) (λ y c. held y (contains_later x files c)) (λ y c. other y (contains_later x files c)) ps
       (λ w on. next w (subst (λ b. Way low b w) (append_assoc before (x ∷ []) files) on)) room in
-      (rest.0, read_more f u (after u p) (fold after (after u p) (map (file_packet s) files ++ ps)) p (map (file_packet s) files ++ ps) (file_reads f s t Known Asked low before u way ls x bytes at same) rest.1)
+      (rest.0, read_more f u (fold after (after u p) (map (file_packet s) files ++ ps)) p (map (file_packet s) files ++ ps) (file_reads f s t Known Asked low before u way ls x bytes at same) rest.1)
 
   certs_go : (certs : List Certificate) (low : ℕ) (before : List Id) (u : State) (id : Id) → Way low before u → IsSome (text_under u.log id.0) → ((c : Certificate) → Contains certs c → Holds s.certs c × (c.revision ≡ id)) →
       (ps : List Packet) → ((w : State) → Way low before w → Goes w ps) → Goes u (map cert_packet certs ++ ps)
@@ -192,7 +192,7 @@ module _ (f : List ℕ → List ℕ) (s t : State) (h : List Revision) (ls : IsL
       let known : IsSome (text_under u.log c.revision.0) = subst (λ (i : Id). IsSome (text_under u.log i.0)) (sym one.1) there in
       let p = cert_packet c in
       let rest = certs_go certs low before (after u p) id (cert_way f s t Known Asked low before u way ls c one.0 known) there (λ x d. held x (contains_later c certs d)) ps next room in
-      (rest.0, read_more f u (after u p) (fold after (after u p) (map cert_packet certs ++ ps)) p (map cert_packet certs ++ ps) (cert_reads f s t Known Asked low before u way ls c one.0 known) rest.1)
+      (rest.0, read_more f u (fold after (after u p) (map cert_packet certs ++ ps)) p (map cert_packet certs ++ ps) (cert_reads f s t Known Asked low before u way ls c one.0 known) rest.1)
 
   -- ---- a revision
 
@@ -244,7 +244,7 @@ module _ (f : List ℕ → List ℕ) (s t : State) (h : List Revision) (ls : IsL
         let sent : (l : Logged) → Contains (take k s.log) l → Asked (id_of l.id) → Contains u.log l = λ l c a. early l c (wanted_of (id_of l.id) a) in
         let fine : text_under u.log (f text) ≡ None → refusal_of f u.files way.law.history (id_of (f text)) next.read ≡ None = λ none. accepted passed (room_there ps room none) in
         let more = rest (after u p) (text_way f s t Known Asked low before u way k id text next.read at next.id next.short next.spells sent (same_text other) fine) room in
-        (more.0, read_more f u (after u p) (fold after (after u p) ps) p ps (text_reads f s t Known Asked low before u way k id text next.read at next.id next.short next.spells sent (same_text other) fine) more.1)
+        (more.0, read_more f u (fold after (after u p) ps) p ps (text_reads f s t Known Asked low before u way k id text next.read at next.id next.short next.spells sent (same_text other) fine) more.1)
 
   -- ---- all
 
@@ -259,12 +259,6 @@ module _ (f : List ℕ → List ℕ) (s t : State) (h : List Revision) (ls : IsL
   contains_mapped (y ∷ files) x c =
       ⊎_elim (λ e. subst (λ z. Contains (map (file_packet s) (y ∷ files)) (file_packet s z)) e (contains_head (file_packet s y) (map (file_packet s) files)))
       (λ d. contains_later (file_packet s y) (map (file_packet s) files) (contains_mapped files x d)) (contains_cases y files x c)
-
-  abbrev in_turn : List Id → Id → List ℕ → List Certificate → List Packet → List Packet
-  in_turn files id text certs rest = map (file_packet s) files ++ (packet.Revision id text ∷ (map cert_packet certs ++ rest))
-
-  pub are_in_turn : (before files : List Id) (id : Id) (own rest packets : List Packet) (sent : IsSent s before id files own) → packets ≡ own ++ rest → packets ≡ in_turn files id sent.text sent.certs rest
-  are_in_turn before files id own rest packets sent e = e ∙ ap (λ ps. ps ++ rest) sent.are ∙ append_assoc (map (file_packet s) files) (packet.Revision id sent.text ∷ map cert_packet sent.certs) rest
 
   -- where all begins
   pub start : HoldsWith s h t have → Way 0 [] t
@@ -301,7 +295,7 @@ module _ (f : List ℕ → List ℕ) (s t : State) (h : List Revision) (ls : IsL
       let text = own.text in
       let rest = sent.2 in
       let behind = map cert_packet own.certs ++ rest in
-      let turn = are_in_turn before files id sent.1 rest packets own sent.5 in
+      let turn = are_in_turn s before files id sent.1 rest packets own sent.5 in
       let there = subst (HasNoOther t) turn other in
       let under = own.brings.held in
       let k = at_contains s.log (logged id.0 text) (text_from s.log id.0 text under) in
@@ -311,7 +305,7 @@ module _ (f : List ℕ → List ℕ) (s t : State) (h : List Revision) (ls : IsL
       let passed : (x : Id) → Contains (new_contents v.2.read.edges) x → Contains (before ++ files) x =
       λ x c. subst (λ new. Contains (before ++ new) x) (sym own.new) (all_passed own.contents before x (subst (λ ls. Contains ls x) (ap (λ (w : Spelled). new_contents w.edges) read ∙ sym own.brings.is) c)) in
       let later : HasNoOther t rest =
-      other_in (in_turn files id text own.certs rest) rest (λ p c. Contains-append_right (map (file_packet s) files) (packet.Revision id text ∷ behind) p (contains_later (packet.Revision id text) behind (Contains-append_right (map cert_packet own.certs) rest p c))) there in
+      other_in (in_turn s files id text own.certs rest) rest (λ p c. Contains-append_right (map (file_packet s) files) (packet.Revision id text ∷ behind) p (contains_later (packet.Revision id text) behind (Contains-append_right (map cert_packet own.certs) rest p c))) there in
       subst (Goes u) (sym turn)
       (files_go files low before u way (files_held f s h is before files id sent.1 own)
       (λ x c held. there.files x (unwrap_or (get s.files x.0) []) held (Contains-append_left (map (file_packet s) files) (packet.Revision id text ∷ behind) (file_packet s x) (contains_mapped files x c)))
