@@ -1,0 +1,11 @@
+pub mod Texts
+pub mod Fronts
+pub mod Accepting
+pub mod Input
+pub mod Joining
+pub mod Counting
+pub mod Apart
+pub mod Reading
+pub mod Sending
+pub mod Whole
+pub mod Filling
