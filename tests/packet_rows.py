@@ -635,21 +635,36 @@ def collisions():
     return row
 
 
+# A text of a byte more than 64 MiB.
 def too_long():
-    """Texts of a byte more than 64 MiB, and an input of 200 MB that has no end."""
-    row = Packeted('A value, a signature and a file of a byte more than 64 MiB, in the order of their refusals.', files=())
-    many = b'x' * (LIMIT + 1)
+    return b'x' * (LIMIT + 1)
+
+
+def long_certificates():
+    row, many = Packeted('A value and a signature of a byte more than 64 MiB, before what else the certificate is refused for.', files=()), too_long()
     row.reads(rdata(LONE), counts(0, 1, 0))
     told = lambda text, line: row.asks(['read'], 1, 'refused ' + line + '\n', text)
-    told(rcert(sha(LONE), b'branch', KEY, many), 'InPacket 1 TextTooLong 67108865')
     told(ABC + rcert(NONE, b'branch', 'k@x', b'', many), 'InPacket 2 TextTooLong 67108865')
     told(ABC + rcert(NONE, b'branch', 'k@x', many + b'x', many), 'InPacket 2 TextTooLong 67108866')
-    told(fdata(many), 'InPacket 1 TextTooLong 67108865')
-    told(fdata(many, H) + ABC, 'IdMismatch 1 ' + sha(many))
-    told(rdata(many), 'InPacket 1 TextTooLong 67108865')
-    row.asks(['get_file', H], 1, 'refused UnknownFile %s\n' % H)
+    row.lacks(H)
     row.lists(sha(LONE))
     row.asks(['read'], 0, counts(0, 0, 1), rcert(sha(LONE), b'branch', KEY, many[1:]))
+    return row
+
+
+def long_texts():
+    row, many = Packeted('A file and a revision of a byte more than 64 MiB, behind a mismatch.', files=()), too_long()
+    told = lambda text, line: row.asks(['read'], 1, 'refused ' + line + '\n', text)
+    told(ABC + fdata(many), 'InPacket 2 TextTooLong 67108865')
+    told(fdata(many, H) + ABC, 'IdMismatch 1 ' + sha(many))
+    told(rdata(many), 'InPacket 1 TextTooLong 67108865')
+    row.is_empty(H, sha(many))
+    return row
+
+
+def endless():
+    row = Packeted('An input of 200 MB without an end, and one that is longer than an input may be.', files=())
+    told = lambda text, line: row.asks(['read'], 1, 'refused ' + line + '\n', text)
     told(b'[fdata ' + H.encode() + b']\n' + (b'QUJD' * 18 + b'\n') * (200000000 // 73), 'BadPacket 1 Truncated')
     told(ABC + b'[' * 200000000, 'BadPacket 2 Truncated')
     row.asks(['read'], 9, '', b' ' * 268435457)
@@ -751,4 +766,4 @@ if __name__ == '__main__':
     if sys.argv[1:2] == ['lines']:
         write(sys.argv[2])
     else:
-        merged_rows.run(ROWS, sys.argv[1:], [too_long])
+        merged_rows.run(ROWS, sys.argv[1:], [long_certificates, long_texts, endless])
