@@ -10,7 +10,7 @@ import subprocess
 import sys
 import tempfile
 
-# The program, or another in its place.
+# The program, or the one that stands in MTN.
 MTN = [os.environ.get('MTN') or os.path.join(os.path.dirname(os.path.abspath(__file__)), '..', 'mtn')]
 passed, failed = 0, 0
 
