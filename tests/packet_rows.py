@@ -5,6 +5,8 @@ packets.py and the texts of docs/FORMATS.md. Through the built program; ends wit
 a folder it writes the same rows as lines of `mtn_cases_store`, asked and answered, with more over objects that fail."""
 import base64
 import copy
+import functools
+import random
 import re
 import sys
 
@@ -39,6 +41,10 @@ def as_bytes(cert):
     """A certificate whose name, key and value are bytes."""
     revision, *fields = cert
     return (revision, *(field.encode() if isinstance(field, str) else field for field in fields))
+
+
+def graph_of(log):
+    return ''.join(' '.join([at, *sorted(parents_of(text))]) + '\n' for at, text in sorted(log.items()))
 
 
 class Held:
@@ -214,8 +220,7 @@ class Packeted(Certified):
         for at, text in self.model.log.items():
             self.asks(['get_revision', at], 0, text)
             self.lists(at)
-        lines = [' '.join([at, *sorted(parents_of(text))]) + '\n' for at, text in sorted(self.model.log.items())]
-        self.asks(['graph'], 0, ''.join(lines))
+        self.asks(['graph'], 0, graph_of(self.model.log))
         self.asks(['toposort', *sorted(self.model.log)], 0, ''.join(at + '\n' for at in self.model.log))
         values = {value for _, name, _, value, _ in self.certs() if name == b'branch'}
         self.asks(['branches'], 0, b''.join(value + b'\n' for value in sorted(values)))
@@ -635,6 +640,29 @@ def collisions():
     return row
 
 
+def at_random(seed):
+    """Inputs made of the packets of a history, of which some are left out, moved, said twice, or have a byte changed."""
+    of, r, p, q, m = sender()
+    chance = random.Random(seed)
+    whole = [text + b'[end]\n' for text in of.sends(m).split(b'[end]\n')[:-1]] + [b'[pubkey k@x]\nAA==\n[end]\n', rcert(r, b'branch', 'k@x', b'side'), rcert(m, b'author', 'K@X', b'me')]
+    row = Packeted('Inputs of packets at random.', files=())
+    for number in range(20):
+        made = [text for text in whole if chance.random() < 0.95]
+        for _ in range(chance.choice([0, 0, 1, 2])):
+            made.insert(chance.randrange(len(made) + 1), made.pop(chance.randrange(len(made))))
+        made += [chance.choice(whole)] * chance.choice([0, 0, 1])
+        text = bytearray(b''.join(made[:chance.choice([3, 6, len(made), len(made)])]))
+        for _ in range(chance.choice([0, 0, 0, 1, 1, 2])):
+            at = chance.randrange(len(text))
+            text[at:at + chance.randint(0, 1)] = chance.choice([b'', b'[', b']', b' ', b'\n', b'=', b'A', b'0', b'k', b'[end]', b'\0', b'~'])
+        row.reads(bytes(text))
+        if number in (4, 9):
+            row.names_key(KEY if number == 4 else OTHER, 'k@x')
+        row.asks(['graph'], 0, graph_of(row.model.log))
+    row.tells_all()
+    return row
+
+
 # A text of a byte more than 64 MiB.
 def too_long():
     return b'x' * (LIMIT + 1)
@@ -672,7 +700,9 @@ def endless():
 
 
 ROWS = [one_file, faults_behind_good_packets, shapes, mismatches, three_and_a_cut, cut_off, cut_behind_the_first, in_their_order, keys, sent, sent_and_read, sent_in_parts, once_each, in_log_order,
-        any_bytes, committed, committed_and_read]
+        any_bytes, committed, committed_and_read, *(functools.partial(at_random, seed) for seed in range(10))]
+# Those that are many or long stay with the program.
+LINED = [made for made in ROWS if made is not cut_off and not isinstance(made, functools.partial)]
 TOYS = [lone_sent, lone_read, lone_cut, child_alone, collisions]
 
 
@@ -740,6 +770,39 @@ def failing():
     return lines
 
 
+def record(table, key, body=b''):
+    spelled = lambda data: ''.join('\\x%02x' % byte for byte in data)
+    return 'record %d %s %s' % (table, spelled(key), spelled(body))
+
+
+def damaged():
+    """Records that stand for no state, and what shows them."""
+    lines, root, said = Lines(), bytes.fromhex(sha(ROOT)), rcert(sha(ROOT), b'branch', 'k@x', b'main')
+    logged, at = root + b'\0' * 7 + b'\3\0', b'\0' * 8
+    shows = lambda table, key, body: ('damaged %d %s %s\n' % (table, key.hex(), body.hex())).encode()
+    made = ['store plain sha1', 'give ' + escaped(ABC + rdata(ROOT)), 'run read']
+    told = answering(0, counts(1, 1, 0).encode())
+    def after(record_of, *asked):
+        lines.asked += [*made, record_of]
+        lines.answered.append(told)
+        for one in asked:
+            lines.asks(*one)
+    lines.remark('A content that a text names and that is not held, and a text that spells no revision, are shown by the record of the log.')
+    for text in (ROOT.replace(H.encode(), HA.encode()), b'abc', b''):
+        after(record(3, root, at + text), (['packets', sha(ROOT)], 8, shows(4, at, logged)), (['packets', NONE], 1, b'refused UnknownRevision %s\n' % NONE.encode()))
+    lines.ends()
+    lines.remark('A record that is that of no certificate is shown where its revision is sent, and where it is not nothing is looked at.')
+    key = root + (6).to_bytes(4, 'big') + b'branch' + bytes.fromhex(KEY) + (4).to_bytes(4, 'big') + b'main' + (0).to_bytes(4, 'big')
+    after(record(8, key, b'x'), (['packets', sha(ROOT)], 8, shows(8, key, b'x')), (['packets', sha(ROOT), sha(ROOT)], 0, b''))
+    after(record(8, key[:-1]), (['packets', sha(ROOT)], 8, shows(8, key[:-1], b'')))
+    lines.ends()
+    lines.remark('A name that is no field is shown where a packet names its key, and nothing of the input is kept; where its key goes by the id it is not read.')
+    after(record(7, bytes.fromhex(KEY), b'no field'), (['read'], 8, shows(7, bytes.fromhex(KEY), b'no field'), fdata(b'a') + said), (['get_file', HA], 1, b'refused UnknownFile %s\n' % HA.encode()),
+          (['read'], 0, counts(1, 0, 1).encode(), fdata(b'a') + rcert(sha(ROOT), b'branch', KEY, b'main')))
+    lines.ends()
+    return lines
+
+
 def in_sessions():
     """Some of the rows, each as one session."""
     import sessions
@@ -755,8 +818,8 @@ def in_sessions():
 
 
 def write(folder):
-    asked, answered = merged_rows.lines([made for made in ROWS if made is not cut_off] + TOYS)
-    for lines in (in_sessions(), failing()):
+    asked, answered = merged_rows.lines(LINED + TOYS)
+    for lines in (in_sessions(), failing(), damaged()):
         asked += lines.asked
         answered += lines.answered
     merged_rows.write_lines(folder, asked, answered)
