@@ -394,6 +394,10 @@ def keys():
     row.reads(by(upper), 'InPacket 1 UnknownKey ' + upper)
     row.names_key('d' * 40, upper)
     row.reads(by(upper, b'', b'author'), counts(0, 0, 1))
+    # Forty digits are an id, also where they are some key's name.
+    row.names_key('f' * 40, 'd1' * 20)
+    row.reads(by('d1' * 20), counts(0, 0, 1))
+    row.reads(by('f' * 40), counts(0, 0, 1))
     row.names_key('e' * 40, 'n' * 255)
     row.reads(by('n' * 255, b'long', b'n' * 255), counts(0, 0, 1))
     row.tells_all()
