@@ -9,50 +9,20 @@ set -eu
 cd "$(dirname "$0")/.."
 PYTHONDONTWRITEBYTECODE=1 PYTHONPATH="$PWD/bench:$PWD/tests" python3 - <<'PYTHON'
 import subprocess, tempfile
+from history import history
 from measure import CASES, escaped, must_be_built, peak, seconds
 from revisions import add_dir, add_file, patch, revision, sha, two
 from tree import tree
 must_be_built(CASES)
 ROUNDS = 3
-FILES = 200
 
 def section(word, payload):
     """The lines of a command: its payload, and its word."""
-    return b'give %s\nrun %s\n' % (escaped(payload), word)
+    return b'give %s\nrun %s\n' % (escaped(payload), word.encode())
 
 def lines(commands):
     """The commands over a store of their own."""
     return b'store plain sha1\n' + b''.join(commands)
-
-def content(file, version):
-    return b'file %d, version %d\n' % (file, version)
-
-def history(count):
-    """The commands that put a line of so many revisions, and the same for git."""
-    paths = ['d%02d/f%03d' % (file // 20, file) for file in range(FILES)]
-    dirs = sorted({path.split('/')[0] for path in paths})
-    nodes = {'': None, **{path: None for path in dirs}, **{path: sha(content(file, 0)) for file, path in enumerate(paths)}}
-    ours, git = [], []
-    def put(word, payload):
-        ours.append(section(word, payload))
-    def commit(number, changed):
-        git.append(b'commit refs/heads/main\ncommitter a <a> %d +0000\ndata 1\nx\n' % number)
-        for file, version in changed:
-            git.append(b'M 100644 inline %s\ndata %d\n%s\n' % (paths[file].encode(), len(content(file, version)), content(file, version)))
-    for file in range(FILES):
-        put(b'put_file', content(file, 0))
-    text = revision(nodes, ('', [add_dir('')] + [add_dir(path) for path in dirs] + [add_file(path, nodes[path]) for path in paths]))
-    put(b'put_revision', text)
-    commit(0, [(file, 0) for file in range(FILES)])
-    for number in range(1, count):
-        file = number * 7 % FILES
-        put(b'put_file', content(file, number))
-        old, new = nodes[paths[file]], sha(content(file, number))
-        nodes[paths[file]] = new
-        text = revision(nodes, (sha(text), [patch(paths[file], old, new)]))
-        put(b'put_revision', text)
-        commit(number, [(file, number)])
-    return lines(ours), b''.join(git)
 
 def ours(given):
     return min(seconds([CASES], given) for _ in range(ROUNDS))
@@ -63,7 +33,7 @@ def once(given):
         return seconds(['git', 'fast-import', '--quiet'], given, cwd=folder)
 
 one, one_git = history(2000)
-longer, _ = history(4000)
+one, longer = (lines(section(*command) for command in commands) for commands in (one, history(4000)[0]))
 done = subprocess.run([CASES], input=one, stdout=subprocess.PIPE, check=True).stdout.splitlines()
 assert len(done) == 4199 and all(line.startswith(b'0 ') for line in done), done[:3]
 once_ours, git, twice = ours(one), min(once(one_git) for _ in range(ROUNDS)), ours(longer)
@@ -88,15 +58,15 @@ left = revision({**nodes, files[0]: second}, (sha(text), [patch(files[0], first,
 right = revision({**nodes, files[-1]: second}, (sha(text), [patch(files[-1], first, second)]))
 merge = revision({**nodes, files[0]: second, files[-1]: second},
                  *two((sha(left), [patch(files[-1], first, second)]), (sha(right), [patch(files[0], first, second)])))
-commands = [section(b'put_file', b'abc'), section(b'put_file', b'a')] + [section(b'put_revision', of) for of in (text, left, right, merge)]
+commands = [section('put_file', b'abc'), section('put_file', b'a')] + [section('put_revision', of) for of in (text, left, right, merge)]
 rooted, merged = last(commands[:3]), last(commands)
 print('a root of 100,000 nodes %.3f s, a merge of two children %.3f s: %.2f times, peak %.2f GiB'
       % (rooted, merged, merged / rooted, peak([CASES], lines(commands)) / 2**30))
 
 bodies = [(b'%d ' % number).ljust(1 << 20, b'x') for number in range(1000)]
 nodes, text = root(['d', ''] + ['d/f%d' % number for number in range(1000)], {'d/f%d' % number: sha(body) for number, body in enumerate(bodies)})
-puts = [section(b'put_file', body) for body in bodies]
+puts = [section('put_file', body) for body in bodies]
 held = peak([CASES], lines(puts))
-more = peak([CASES], lines(puts + [section(b'put_revision', text)])) - held
-print('a root over 1,000 contents of 1 MiB %.3f s, %.2f MiB more than without it' % (last(puts + [section(b'put_revision', text)]), more / 2**20))
+more = peak([CASES], lines(puts + [section('put_revision', text)])) - held
+print('a root over 1,000 contents of 1 MiB %.3f s, %.2f MiB more than without it' % (last(puts + [section('put_revision', text)]), more / 2**20))
 PYTHON

@@ -6,9 +6,10 @@
 # once in all; so the revisions are put into a file in memory as well, where no disk is waited for.
 cd "$(dirname "${BASH_SOURCE[0]}")/.." || exit 1
 printf '' | ./mtn - put_file >/dev/null || exit 1
-PYTHONDONTWRITEBYTECODE=1 PYTHONPATH=tests python3 - target/mtn <<'PYTHON'
+PYTHONDONTWRITEBYTECODE=1 PYTHONPATH=bench:tests python3 - target/mtn <<'PYTHON'
 import os, resource, sqlite3, subprocess, sys, tempfile, time
-from revisions import add_dir, add_file, patch, revision, sha
+from history import history
+from revisions import sha
 from sessions import request
 mtn = sys.argv[1]
 FILES, REVISIONS = 20000, 2000
@@ -79,34 +80,11 @@ with tempfile.TemporaryDirectory() as folder:
     ratio('get_file, 20,000', best(lambda _: session(store, b''.join(gets))), best(lambda _: other_gets(folder)), 1)
 print(f'twice the files take {work(b"".join(puts)) / work(b"".join(puts[:FILES // 2])):.2f} times the work in memory', flush=True)
 
-def content(file, version):
-    return b'file %d, version %d\n' % (file, version)
-
-def history(count):
-    paths = ['d%02d/f%03d' % (file // 20, file) for file in range(200)]
-    dirs = sorted({path.split('/')[0] for path in paths})
-    tree = {'': None, **{path: None for path in dirs}, **{path: sha(content(file, 0)) for file, path in enumerate(paths)}}
-    ours = [request('put_file', content(file, 0)) for file in range(200)]
-    git = []
-    def commit(number, changed):
-        git.append(b'commit refs/heads/main\ncommitter a <a> %d +0000\ndata 1\nx\n' % number)
-        for file, version in changed:
-            git.append(b'M 100644 inline %s\ndata %d\n%s\n' % (paths[file].encode(), len(content(file, version)), content(file, version)))
-    text = revision(tree, ('', [add_dir('')] + [add_dir(path) for path in dirs] + [add_file(path, tree[path]) for path in paths]))
-    ours.append(request('put_revision', text))
-    commit(0, [(file, 0) for file in range(200)])
-    for number in range(1, count):
-        file = number * 7 % 200
-        ours.append(request('put_file', content(file, number)))
-        old, new = tree[paths[file]], sha(content(file, number))
-        tree[paths[file]] = new
-        text = revision(tree, (sha(text), [patch(paths[file], old, new)]))
-        ours.append(request('put_revision', text))
-        commit(number, [(file, number)])
-    return b''.join(ours), b''.join(git)
+def requests(commands):
+    return b''.join(request(*command) for command in commands)
 
 ours, git = history(REVISIONS)
-fewer, _ = history(REVISIONS // 2)
+ours, fewer = requests(ours), requests(history(REVISIONS // 2)[0])
 
 def gits(folder):
     subprocess.run(['git', 'init', '-q', '--bare', folder], check=True)

@@ -51,6 +51,9 @@ row "nor marks" 1 '' "refused UnknownRevision $abc\n" - get_content_changed "$ab
 row "nor a merge" 1 '' "refused UnknownRevision $abc\n" - merge "$abc" "$nothing"
 row "also with resolutions" 1 'no text' "refused UnknownRevision $nothing\n" - merge --resolve "$nothing" "$abc"
 row "nor conflicts" 1 '' "refused UnknownRevision $abc\n" - show_conflicts "$abc" "$nothing"
+row "nor packets" 1 '' "refused UnknownRevision $abc\n" - packets "$abc" "$nothing"
+row "no packets are read" 0 '' 'files 0\nrevisions 0\ncerts 0\n' - read
+row "a file is read from its packet" 0 "[fdata $abc]\nYWJj\n[end]\n" 'files 1\nrevisions 0\ncerts 0\n' - read
 row "nor a place for its root" 1 '' "refused UnknownRevision $abc\n" - get_corresponding_path "$abc" '' "$nothing"
 
 for query in parents children ancestors descendents common_ancestors erase_ancestors toposort ancestry_difference; do
@@ -63,7 +66,7 @@ for query in erase_ancestors toposort leaves roots graph; do
     row "$query of nothing" 0 'unread' '' - $query
 done
 
-for words in '' 'head' 'heads' 'put_file x' 'put_file --x' 'put_file --x=' 'put_file --resolve' 'put_file -- x' 'put_file -- --' 'get_file' 'get_revision' 'get_revision ABC' 'get_manifest_of' 'get_manifest_of ABC' "get_manifest_of $abc x" 'get_roster' 'get_roster ABC' "get_roster $abc x" "get_content_changed $abc" "get_content_changed $abc a//b" "get_content_changed $abc ./a" "get_content_changed a $abc" "get_corresponding_path $abc a" "get_corresponding_path $abc a/.. $abc" "get_corresponding_path $abc a ABC" "get_revision $abc $abc" 'get_file ABC' "get_file $abc x" "get_file $abc --" "get_file --x= $abc" 'get_file --' 'PUT_FILE' '-- put_file' parents "parents $abc $abc" children ancestors descendents common_ancestors ancestry_difference 'toposort x' "leaves $abc" "roots $abc" "graph $abc" merge "merge $abc" "merge $abc $abc $abc" "merge $abc ABC" "merge --resolve=yes $abc $abc" "merge --x $abc $abc" "merge --resolve --resolve $abc $abc" "merge $abc $abc --resolve" 'merge --resolve' show_conflicts "show_conflicts $abc" "show_conflicts ABC $abc" "show_conflicts --resolve $abc $abc" "get_file --resolve $abc"; do
+for words in '' 'head' 'heads' 'put_file x' 'put_file --x' 'put_file --x=' 'put_file --resolve' 'put_file -- x' 'put_file -- --' 'get_file' 'get_revision' 'get_revision ABC' 'get_manifest_of' 'get_manifest_of ABC' "get_manifest_of $abc x" 'get_roster' 'get_roster ABC' "get_roster $abc x" "get_content_changed $abc" "get_content_changed $abc a//b" "get_content_changed $abc ./a" "get_content_changed a $abc" "get_corresponding_path $abc a" "get_corresponding_path $abc a/.. $abc" "get_corresponding_path $abc a ABC" "get_revision $abc $abc" 'get_file ABC' "get_file $abc x" "get_file $abc --" "get_file --x= $abc" 'get_file --' 'PUT_FILE' '-- put_file' parents "parents $abc $abc" children ancestors descendents common_ancestors ancestry_difference 'toposort x' "leaves $abc" "roots $abc" "graph $abc" merge "merge $abc" "merge $abc $abc $abc" "merge $abc ABC" "merge --resolve=yes $abc $abc" "merge --x $abc $abc" "merge --resolve --resolve $abc $abc" "merge $abc $abc --resolve" 'merge --resolve' show_conflicts "show_conflicts $abc" "show_conflicts ABC $abc" "show_conflicts --resolve $abc $abc" "get_file --resolve $abc" packets 'packets ABC' "packets $abc x" "packets --resolve $abc" 'read x' 'read --resolve'; do
     # shellcheck disable=SC2086
     row "outside the grammar: '$words'" 2 'never read' 'usage\n' - $words
 done
@@ -206,7 +209,7 @@ for round in $(seq 20); do verdict "killed, round $round" killed; done
 
 # ---- a store that is missing, or may not be written
 
-asked="get_file $abc;get_revision $abc;get_manifest_of $abc;get_roster $abc;get_content_changed $abc a;get_corresponding_path $abc a $abc;show_conflicts $abc $abc;parents $abc;children $abc;ancestors $abc;descendents $abc;common_ancestors $abc;erase_ancestors;toposort;ancestry_difference $abc;leaves;roots;graph;certs $abc;heads main;branches"
+asked="get_file $abc;get_revision $abc;get_manifest_of $abc;get_roster $abc;get_content_changed $abc a;get_corresponding_path $abc a $abc;show_conflicts $abc $abc;parents $abc;children $abc;ancestors $abc;descendents $abc;common_ancestors $abc;erase_ancestors;toposort;ancestry_difference $abc;leaves;roots;graph;certs $abc;heads main;branches;packets $abc"
 
 # asks_nothing WORD..: over a missing store a command that only asks answers as over an empty one, and makes no file.
 asks_nothing() {
@@ -225,6 +228,7 @@ row "a file makes a missing store" 0 abc "$abc\n" "$work/made.mtn" put_file
 row "a refused merge too" 1 '' "refused UnknownRevision $abc\n" "$work/unmerged.mtn" merge "$abc" "$abc"
 row "a refused certificate too" 1 '' "refused UnknownRevision $abc\n" "$work/uncertified.mtn" cert --key="$abc" "$abc" branch main
 row "and a branch without heads" 1 '' 'refused NoBranch\n' "$work/headless.mtn" merge_heads --author=a --date=d --key="$abc" main
+row "refused packets too" 1 x 'refused BadPacket 1 Truncated\n' "$work/unread.mtn" read
 row "a refused revision too" 1 '' 'refused BadOrder 1\n' "$work/refused.mtn" put_revision
 verdict "the stores were made" test -e "$work/made.mtn" -a -e "$work/refused.mtn"
 
@@ -270,7 +274,7 @@ while IFS= read -r words; do
     verdict "help lists $name" grep -q "^  $name " "$work/help"
     ./mtn --help "$name" >"$work/out"
     verdict "and says more of it" test $? = 0 -a "$(head -n 1 "$work/out" | cut -d' ' -f1)" = "$name" -a "$(wc -l <"$work/out")" -gt 1
-done <<<"put_file"$'\n'"put_revision"$'\n'"merge"$'\n'"key"$'\n'"cert"$'\n'"commit"$'\n'"merge_heads"$'\n'"stdio"$'\n'"${asked//;/$'\n'}"
+done <<<"put_file"$'\n'"put_revision"$'\n'"merge"$'\n'"key"$'\n'"cert"$'\n'"commit"$'\n'"merge_heads"$'\n'"read"$'\n'"stdio"$'\n'"${asked//;/$'\n'}"
 for status in 0 1 2 3 4 5 6 7 8 9; do
     ./mtn --explain "$status" >"$work/out"
     verdict "status $status is explained" test $? = 0 -a "$(head -c 2 "$work/out")" = "$status "
@@ -282,7 +286,7 @@ row "the version" 0 '' 'mtn 0.1.0 (Sonnavil), store format 2\n' --version
 verdict "a store's record says the same format" asks "$store" "SELECT CAST(body AS TEXT) FROM kept WHERE kind = 1 AND name = CAST('version' AS BLOB)" 2
 
 # The walks in the documents, and histories, made and asked for; the rows of each script count here.
-for script in walk revisions merged_rows cert_rows random_histories sessions; do
+for script in walk revisions merged_rows cert_rows packet_rows random_histories sessions; do
     told=$(python3 "tests/$script.py")
     ended=$?
     echo "$script: $told"

@@ -16,6 +16,9 @@ H, HA, HB, HC, HX = (sha(data) for data in (b'abc', b'a', b'b', b'c', b'x'))
 class Row:
     """One history: what is asked, in order, each with its payload, its status and what is written."""
 
+    # How texts get their ids, as mtn_cases_store names it.
+    ident = 'sha1'
+
     def __init__(self, title, files=(b'abc', b'a', b'b', b'c')):
         self.title, self.steps = title, []
         for data in files:
@@ -394,6 +397,10 @@ ROWS = [renamed_and_patched, same_patch, turned_back, patched_back, cleared_attr
         nothing_clashes, dropped_and_modified, kept_below_nothing, only_dropped, in_one_order, in_another_order]
 
 
+# The room of a sink of mtn_cases_store for which none is named.
+ROOM = 10000
+
+
 def escaped(data):
     """The escapes in which a case has a text."""
     out = ''
@@ -407,31 +414,46 @@ def escaped(data):
     return out
 
 
-def lines(rows, folder):
+def lines(rows):
+    """The rows as lines that ask and lines that answer."""
     asked, answered = [], []
     for made in rows:
         row = made()
         for side in (asked, answered):
             side.append('# ' + row.title)
-        asked.append('store plain sha1')
+        asked.append('store plain ' + row.ident)
         for words, given, status, output in row.steps:
+            if len(output) > ROOM:
+                asked.append('sink %d' % len(output))
             if given is not None:
                 asked.append('give ' + escaped(given) if given else 'give ')
-            asked.append(' '.join(['run', *(escaped(word.encode()).replace(' ', '\\x20') for word in words)]))
-            answered.append('%d %s' % (status, escaped(output).replace('\\x5c', '\\\\')))
+            asked.append(asking(words))
+            answered.append(answering(status, output))
         for side in (asked, answered):
             side.append('')
+    return asked, answered
+
+
+def asking(words):
+    return ' '.join(['run', *(escaped(word.encode()).replace(' ', '\\x20') for word in words)])
+
+
+def answering(status, output):
+    return '%d %s' % (status, escaped(output).replace('\\x5c', '\\\\'))
+
+
+def write_lines(folder, asked, answered):
     for name, side in (('asked', asked), ('answered', answered)):
         with open(os.path.join(folder, name), 'w') as out:
             out.write('\n'.join(side))
 
 
-def run(rows, words):
-    """Asks the rows of the built program, or writes them as lines."""
+def run(rows, words, long=()):
+    """Asks the rows of the built program, or writes those that are not long as lines."""
     if words[:1] == ['lines']:
-        return lines([made for made in rows if made is not too_long], words[1])
+        return write_lines(words[1], *lines(rows))
     with tempfile.TemporaryDirectory() as folder:
-        for number, made in enumerate(rows):
+        for number, made in enumerate([*rows, *long]):
             row, store = made(), Store(folder, 'row%d' % number)
             for words, given, status, output in row.steps:
                 before = store.records()
@@ -444,4 +466,4 @@ def run(rows, words):
 
 
 if __name__ == '__main__':
-    run(ROWS + [too_long], sys.argv[1:])
+    run(ROWS, sys.argv[1:], [too_long])

@@ -4,8 +4,10 @@ out here over the whole graph: which revisions set a value, and which of these a
 looks at the marks of a parent, as the program does. Revisions are merged by the program too, in both orders of its words and
 with random resolutions: its conflicts, its refusals and its texts are those of the model in merges.py. Each history is then
 accepted in two more orders, with random certificates in a random order: every command but those that answer in the order of the
-log answers alike over all three, before and behind one more revision; heads and branches are those of the whole graph. Takes a first seed and how many histories (1 and 3 where not given); ends with 'N passed, M
-failed'."""
+log answers alike over all three, before and behind one more revision; heads and branches are those of the whole graph. Last, its
+packets are those of the model of packet_rows.py, and a second store that reads them leaf by leaf answers alike. Takes a first seed
+and how many histories (1 and 3 where not given); ends with 'N passed, M failed'."""
+import base64
 import os
 import random
 import sys
@@ -13,6 +15,7 @@ import tempfile
 
 import changesets
 import merges
+import packet_rows
 import revisions
 import sessions
 from merges import ROOT, Resolution
@@ -478,6 +481,50 @@ class History:
         for at in (1, 2):
             verdict('history %d answers alike in order %d' % (number, at), answers[at] == answers[0] and answers[0][0] == 0 and len(answers[0][1]) > 1000)
 
+    # Packets.
+
+    def told(self, certificates):
+        """What a store holds that accepted the revisions in their order, with these certificates."""
+        held = packet_rows.Held()
+        held.files, held.log = {sha(data): data for data in CONTENTS}, {at: self.texts[at] for at in self.ids}
+        for words in certificates:
+            if words[0] == 'cert':
+                _, key, *signed, at, name, value = words
+                held.certs.add((at, name.encode(), key[len('--key='):].encode(), value.encode(), base64.b64decode(''.join(signed)[len('--sig='):])))
+        return held
+
+    def compare_packets(self, folder, number):
+        chance = random.Random(number)
+        first, second = Store(folder, 'sends%d' % number), Store(folder, 'reads%d' % number)
+        certificates, _ = self.certify(chance)
+        asked = lambda requests: b''.join(sessions.request(*words) for words in requests)
+        put = sessions.session(first.path, self.accepted(self.ids) + asked(certificates))
+        verdict('history %d is sent by a store that has it' % number, put[1].count(b':l:1:0') == len(CONTENTS) + len(self.ids) + len(certificates))
+        sends = self.told(certificates)
+        wanted = [(chance.choice(self.ids), *chance.sample(self.ids, chance.choice([0, 0, 1, 2, 3]))) for _ in range(30)]
+        sent = sessions.session(first.path, asked(['packets', *words] for words in wanted))
+        verdict('history %d has its packets' % number, sent == (0, sessions.answers(*((0, sends.sent(*words)) for words in wanted)), b''))
+        self.read_leaves(first, second, chance, number)
+        verdict('the keys of history %d get their names' % number, sessions.session(second.path, asked(words for words in certificates if words[0] == 'key'))[0] == 0)
+        brought = {content for text in self.texts.values() for content in packet_rows.contents_of(text)}
+        questions = asked(words for words in self.questions(chance) if words[0] != 'get_file' or words[1] in brought)
+        questions += asked(['merge', at, chance.choice(self.ids)] for at in self.ids) + questions
+        answers = [sessions.session(store.path, questions) for store in (first, second)]
+        verdict('history %d answers alike where it was read' % number, answers[1] == answers[0] and answers[0][0] == 0 and len(answers[0][1]) > 1000)
+
+    def read_leaves(self, first, second, chance, number):
+        """One store reads what the other sends of each leaf, without what it has of some earlier ones, and once more."""
+        leaves, reads = [at for at in self.ids if not any(at in parents for parents in self.parents.values())], packet_rows.Held()
+        chance.shuffle(leaves)
+        for at, leaf in enumerate(leaves):
+            have = chance.sample(leaves[:at], chance.randint(0, at))
+            text = first.ask('packets', leaf, *have)[1]
+            for _ in range(2):
+                line, refused = reads.read(text)
+                ended = second.ask('read', given=text)
+                verdict('leaf %d of history %d is read: %r' % (at, number, ended), not refused and ended == (0, line.encode(), b''))
+        verdict('all of history %d is read' % number, set(reads.log) == set(self.ids))
+
 
 def main():
     seed, count = (int(word) for word in (sys.argv[1:] + ['1', '3'][len(sys.argv) - 1:])[:2])
@@ -489,6 +536,7 @@ def main():
                 history.chance.choice([history.child, history.child, history.merge, history.try_merge])()
             verdict('history %d has merges' % number, any(len(parents) == 2 for parents in history.parents.values()))
             history.compare_orders(folder, number)
+            history.compare_packets(folder, number)
     print('%d passed, %d failed' % (revisions.passed, revisions.failed))
     return 1 if revisions.failed else 0
 

@@ -10,7 +10,8 @@ import subprocess
 import sys
 import tempfile
 
-MTN = [os.path.join(os.path.dirname(os.path.abspath(__file__)), '..', 'mtn')]
+# The program, or the one that stands in MTN.
+MTN = [os.environ.get('MTN') or os.path.join(os.path.dirname(os.path.abspath(__file__)), '..', 'mtn')]
 passed, failed = 0, 0
 
 

@@ -1,7 +1,7 @@
 #!/usr/bin/env python3
 """Sessions of requests through the built program: answers in their frames, inputs that are no list of requests, the histories of
-revisions.py, the merges of merged_rows.py and the branches of cert_rows.py as one session each, and ten thousand requests. Requests are read here by a model
-of their own. Ends with 'N passed, M failed'."""
+revisions.py, the merges of merged_rows.py, the branches of cert_rows.py and the packets of packet_rows.py as one session each, and
+ten thousand requests. Requests are read here by a model of their own. Ends with 'N passed, M failed'."""
 import base64
 import contextlib
 import os
@@ -17,6 +17,7 @@ sys.dont_write_bytecode = True
 sys.path.insert(0, os.path.dirname(os.path.abspath(__file__)))
 import cert_rows
 import merged_rows
+import packet_rows
 import revisions
 from revisions import MTN, sha
 
@@ -192,7 +193,7 @@ def histories(folder):
 
 
 def worked(folder):
-    for number, made in enumerate(merged_rows.ROWS + cert_rows.ROWS):
+    for number, made in enumerate(merged_rows.ROWS + cert_rows.ROWS + packet_rows.ROWS):
         history = made()
         data = b'\n'.join(request(*words) if given is None else request(*words, given) for words, given, _, _ in history.steps)
         want = answers(*((status, output) for _, _, status, output in history.steps))

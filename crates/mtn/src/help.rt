@@ -43,6 +43,12 @@ What is said of revisions; a key is named by its id, 40 digits as REV:
                        merge does, with four certificates; prints its id, or the
                        conflicts. With --resolve the input is resolutions
 
+From one store to another:
+  packets REV [REV..]  prints a revision and its ancestors, without the others
+                       and theirs, as packets: files, texts and certificates
+  read                 keeps what the packets of the input hold, all or nothing;
+                       prints how many files, revisions and certificates are new
+
 Queries of the graph; each prints ids, one a line, in ascending order unless it
 says log order, which is that of acceptance:
   parents REV                     its parents
@@ -62,7 +68,7 @@ Many commands at one opening of the store:
   stdio                done request by request; the input is requests, each `l`,
                        its words and `e`, a word its size in decimal, `:` and
                        its bytes, as l8:put_file3:abce. The last word of
-                       put_file, put_revision and commit, of merge and
+                       put_file, put_revision, commit and read, of merge and
                        merge_heads with --resolve, is their input. The answer
                        to request N, counted from 0, is N:m:SIZE:OUTPUT and
                        N:l:1:STATUS
@@ -192,6 +198,26 @@ merge_heads --author=.. --date=.. --key=KEYID --resolve BRANCH <RESOLUTIONS
   Refused: NoBranch, OneHead (with its id), what merge is refused for, then
   TextTooLong for the values.
 
+packets REV [REV..]
+  Prints the packets of a revision and its ancestors, without those that the
+  other revisions are or have as ancestors, in the order in which the store
+  accepted them. A revision stands behind the files that its text brings, each
+  printed once, and before its certificates, which are in the order of certs.
+  The names of keys are not among them.
+  Refused: UnknownRevision.
+
+read <PACKETS
+  Keeps the files, revisions and certificates of the packets on standard input,
+  in their order: all of them, or nothing. A certificate names its key by the id,
+  or by a name that this key alone has here. Public keys are passed over.
+  Prints files F, revisions R, certs C, a line each: how many are new.
+  Refused: the first of BadPacket (with the number of the first bad packet,
+  counted from 1, and Truncated, Unsupported, NotPacket or BadBase64), IdMismatch
+  (with the number of the first packet whose id is not that of what it holds,
+  and the id of that), InPacket (with the number of a packet, and for what
+  put_file or put_revision refuses what it holds; a certificate for the first of
+  TextTooLong, UnknownRevision, UnknownKey).
+
 parents REV
   Prints the parents of a revision, ascending.
   Refused: UnknownRevision.
@@ -241,7 +267,8 @@ graph
 stdio <REQUESTS
   Does many commands at one opening of the store. Standard input is requests,
   each `l`, its words and `e`; a word is its size in decimal, `:` and its bytes.
-  The last word of put_file, put_revision and merge --resolve is their input.
+  The last word of put_file, put_revision, commit and read, of merge and
+  merge_heads with --resolve, is their input.
   Prints for request N, counted from 0, N:m:SIZE:OUTPUT and N:l:1:STATUS.
   Refused: BadRequest (with the number, counted from 1, of the first request that
   is not whole and right; nothing is done then).";

@@ -2,9 +2,13 @@
 use mtn_base::Bytes;
 use mtn_cli::{Status, run};
 use mtn_keeper::SqliteKeeper;
-use mtn_ports::{Batch, KeepError, Keeper, MemKeeper, Sha1One, StdSink, StdSource};
+use mtn_pieces::{FreeGate, Sha1Many};
+use mtn_ports::{Batch, KeepError, Keeper, MemKeeper, StdSink, StdSource};
 use sqlite::{Connection, Error, ErrorCode};
 use std::thread::Threads;
+
+// In how many pieces the ids of many texts are computed.
+const PIECES: usize = 4;
 
 /// A command over an empty store in memory.
 pub fn in_memory<T: Threads + Sync>(threads: &T, rt: &HostRuntime, words: &[Bytes]) -> Status {
@@ -50,7 +54,7 @@ fn over<T: Threads + Sync, K: Keeper>(
         threads,
         rt.alloc(),
         words,
-        &Sha1One,
+        &Sha1Many::new(FreeGate, PIECES),
         &mut source,
         &mut sink,
         keeper,
