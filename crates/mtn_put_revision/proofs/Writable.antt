@@ -1,19 +1,19 @@
 -- The record of a tree that a history may have next can be written.
-use Rattle.std.specs.Prelude.{All, Contains, IsSome, IsTrue, find, is_some, map, option_map, option_and_then}
-use Rattle.std.specs.List.{AllZip, AllByRecursion, list_all}
+use Rattle.std.specs.Prelude.{All, Contains, IsSome, find, is_some, map, option_map, option_and_then}
+use Rattle.std.specs.List.{AllZip, list_all}
 use Rattle.std.specs.List.Sorted.{IsStrictlyIncreasing}
-use Rattle.std.specs.Cmp.{IsTotalOrder, first_so, second_so, tied_itself, nat_cmp_total}
+use Rattle.std.specs.Cmp.{IsTotalOrder, second_so, tied_itself, nat_cmp_total}
 use Rattle.std.specs.Ordering.{is_lt, nat_cmp}
 use Rattle.std.specs.declared.cmp.Ordering.{Ordering}
 use Rattle.std.specs.declared.cmp.Ordering.TheVariants.{Less}
-use Rattle.std.proofs.Common.{◌≡◌, ◌≤◌, ◌<◌, ◌+◌, ◌-◌, ◌^◌, ℕ, zero, suc, Bool, true, false, cond, List, [], ◌∷◌, ◌++◌, length, get_or, Option, Some, None, refl, sym, ◌∙◌, ap, subst, ◌⊎◌, inl, inr, arith}
+use Rattle.std.proofs.Common.{◌≡◌, ◌≤◌, ◌<◌, ◌+◌, ◌^◌, ℕ, zero, suc, Bool, true, false, cond, List, [], ◌∷◌, ◌++◌, length, get_or, Option, Some, None, refl, sym, ◌∙◌, ap, subst, inl, inr, arith}
 use Rattle.std.proofs.lemmas.Bool.Decides.{nat_tests}
 use Rattle.std.proofs.lemmas.List.{length-append}
 use Rattle.std.proofs.lemmas.List.Elements.{All-contains_itself, recursion_from_All}
 use Rattle.std.proofs.lemmas.List.Kept.{AllPairs-from_increasing}
 use Rattle.std.proofs.lemmas.Map.Keys.{IsStrictlyIncreasing-from_sorted}
 use Rattle.mtn_ancestry.specs.Ancestors.{ParentsAreEarlier}
-use Rattle.mtn_base.specs.Comps.{IsComp, AreComps}
+use Rattle.mtn_base.specs.Comps.{AreComps}
 use Rattle.mtn_base.specs.Lists.{rises}
 use Rattle.mtn_base.specs.Names.{bytes_cmp, name_cmp, same_bytes, same_name}
 use Rattle.mtn_base.specs.Paths.{path_text}
@@ -35,10 +35,9 @@ use Rattle.mtn_mark_laws.proofs.Covering.{covers}
 use Rattle.mtn_marking.specs.Graph.{AreMarksOf}
 use Rattle.mtn_marking.specs.Marking.{MarkedTree, attr_marks_of as marks_of_key, marking_of, marks_of as marks_of_scalar, marks_in}
 use Rattle.mtn_marking.specs.declared.node.AttrMarks.{AttrMarks}
-use Rattle.mtn_marking.specs.declared.node.Marking.{Marking}
 use Rattle.mtn_marking.specs.declared.node.NodeMarks.{NodeMarks}
 use Rattle.mtn_records.specs.Bounds.{AreUpTo, IsAttrWithin, IsBodyWithin, IsEntryWithin, IsWithin}
-use Rattle.mtn_records.specs.Entries.{AreEntries, IsAttr, IsBody, IsEntry, IsHead, IsPath, KeysAscend, NumbersAscend}
+use Rattle.mtn_records.specs.Entries.{AreEntries, IsAttr, IsBody, IsEntry, IsHead, IsPath}
 use Rattle.mtn_records.specs.Fields.{IsField, IsNumber, IsOption, IsSet}
 use Rattle.mtn_records.specs.Records.{AreNumbers, IsRosterRecord}
 use Rattle.mtn_records.specs.declared.entry.NumberedAttr.{NumberedAttr}
@@ -52,12 +51,12 @@ use Rattle.mtn_roster.specs.declared.entry.Attr.{Attr}
 use Rattle.mtn_roster.specs.declared.entry.Entry.{Entry}
 use Rattle.mtn_roster.specs.declared.entry.Slot.{Slot}
 use Rattle.mtn_roster.specs.declared.entry.Slot.TheVariants.{Root, Below}
-use Rattle.mtn_roster.specs.Tree.{Tree, attr_of as value_of_key, entry_of}
+use Rattle.mtn_roster.specs.Tree.{attr_of as value_of_key, entry_of}
 use Rattle.mtn_roster.proofs.Ordered.{forest_of}
 use Rattle.mtn_roster_deltas.specs.Chain.{Entries, ascend, number_of}
 use Rattle.mtn_roster_deltas.specs.Difference.{IsDeltaTo}
 use Rattle.mtn_roster_deltas.specs.Spelled.{IsEntryOf, IsSlotOf, Spells, attr_marks_of, attr_of, by_node, content_marks_of, marks_of, node_of}
-use Rattle.mtn_roster_deltas.proofs.Ascending.{cut_of, lt_by, map_same, place_by}
+use Rattle.mtn_roster_deltas.proofs.Ascending.{cut_of, lt_by, map_same}
 use Rattle.mtn_roster_deltas.proofs.ByNode.{by_node_rises}
 use Rattle.mtn_put_revision.specs.Writing.{AreTyped, IsNextTree, IsTyped, IsTypedAttr, IsTypedBody, IsTypedEntry}
 

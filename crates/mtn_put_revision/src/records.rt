@@ -71,11 +71,7 @@ pub struct Written {
 }
 
 // The body of a roster's record under its position, where it can be written.
-fn record_body(
-    alloc: Global,
-    roster: &RosterRecord,
-    at: Pos,
-) -> Result<Option<Bytes>, NoMemory>
+fn record_body(alloc: Global, roster: &RosterRecord, at: Pos) -> Result<Option<Bytes>, NoMemory>
     ensures body { IfOk result (λ o. IfSome o (λ body. IsRosterAt at body roster.now)) }
     ensures none { result ≡ Ok None → IsTyped roster.now × ((IsRosterRecord roster.now × IsWithin at roster.now) → ⊥) }
 {

@@ -1,18 +1,16 @@
 -- The plan's tree, or that of the edges.
-use Rattle.std.proofs.Common.{◌≡◌, ◌∙◌, ℕ, List, None, Ok, sym, ap, subst}
-use Rattle.std.specs.Prelude.{IfErr, IfSome, IsTrue, OnErr, OnOk}
-use Rattle.std.proofs.lemmas.Result.{err_from_is_err_and}
+use Rattle.std.proofs.Common.{ℕ, List, Ok, sym, ap}
+use Rattle.std.specs.Prelude.{IfErr, IfSome, OnOk}
 use Rattle.mtn_roster_deltas.specs.Numbering.{shown}
 use Rattle.mtn_model.specs.State.{State}
 use Rattle.mtn_ports.specs.Kept.{with_all}
 use Rattle.mtn_ports.proofs.KeptLemmas.{stays_trans}
 use Rattle.mtn_make_roster.specs.Basis.{Underlies}
-use Rattle.mtn_history.specs.Errors.{IfStoreDamage}
 use Rattle.mtn_history.specs.Stands.{IsFounded}
 use Rattle.mtn_history.specs.declared.pending.Pending.{Pending}
 use Rattle.mtn_history.proofs.Founding.{back}
 use Rattle.mtn_history.proofs.Knowing.{told_back}
-use Rattle.mtn_put_revision.specs.Finding.{IsFound, IsRefusal, made_refusal_of}
+use Rattle.mtn_put_revision.specs.Finding.{IsRefusal, made_refusal_of}
 use Rattle.mtn_put_revision.specs.Keeping.{Accepts, AreParents, IsFirstRebuilt, IsNew}
 use Rattle.mtn_put_revision.proofs.Grounds.{moved}
 use Rattle.mtn_put_revision.proofs.over.over.Goals as goal

@@ -1,9 +1,8 @@
 -- The tree of the edges, or damage where no history has it.
-use Rattle.std.proofs.Common.{rules, ◌≡◌, ◌∙◌, ◌<◌, ◌≤◌, ℕ, List, [], length, None, Ok, refl, sym, ap, subst, inl, inr, arith}
+use Rattle.std.proofs.Common.{rules, ◌≡◌, ◌∙◌, ℕ, List, [], None, Ok, sym, ap, subst, inl, inr, arith}
 use Rattle.std.proofs.lemmas.Bool.{cases_lt}
 use Rattle.std.proofs.lemmas.Result.{err_from_is_err_and}
 use Rattle.std.specs.Prelude.{IfSome, IsTrue, slice_get}
-use Rattle.mtn_changes.specs.declared.change.Edge.{Edge}
 use Rattle.mtn_entry_laws.proofs.LawfulEntries.{all_spell}
 use Rattle.mtn_roster_deltas.specs.Numbering.{shown}
 use Rattle.mtn_model.specs.State.{State}

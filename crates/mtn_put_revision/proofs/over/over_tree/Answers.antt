@@ -1,9 +1,7 @@
 -- The tree with its marks and its records.
-use Rattle.std.proofs.Common.{◌≡◌, ◌∙◌, ◌<◌, ℕ, Bool, List, length, sym, ap, subst, arith}
+use Rattle.std.proofs.Common.{◌∙◌, Bool, sym, arith}
 use Rattle.std.specs.Prelude.{IsTrue}
-use Rattle.mtn_history_laws.specs.History.{Revision}
-use Rattle.mtn_replay.specs.Making.{made, made_tree}
-use Rattle.mtn_roster.specs.Tree.{Tree}
+use Rattle.mtn_replay.specs.Making.{made}
 use Rattle.mtn_make_roster.proofs.Told.{ok_then}
 use Rattle.mtn_history.specs.Stands.{IsDraft}
 use Rattle.mtn_history.proofs.Founding.{back, counted}
