@@ -35,7 +35,7 @@ use Rattle.mtn_history.proofs.MetaLemmas.{opened_by}
 use Rattle.mtn_put_revision.specs.Accepting.{IsCollided, IsHeld, KeepsRevision}
 use Rattle.mtn_replay.specs.Accepting.{Decides, refusal_beside, logged_beside}
 use Rattle.mtn_put_revision.specs.Finding.{IsFound, IsRefusal, made_refusal_of}
-use Rattle.mtn_put_revision.specs.Keeping.{Accepts, AcceptsNew, IsSpelled, with_text}
+use Rattle.mtn_put_revision.specs.Keeping.{Accepts, AcceptsNew, with_text}
 use Rattle.mtn_put_revision.specs.declared.over.NewRevision.{NewRevision}
 use Rattle.mtn_put_revision.proofs.Grounds.{never_found}
 

@@ -6,3 +6,5 @@ pub mod Putting
 pub mod Refusing
 pub mod Deciding
 pub mod Planning
+pub mod Writable
+pub mod NextTrees

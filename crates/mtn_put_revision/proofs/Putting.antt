@@ -34,11 +34,12 @@ use Rattle.mtn_ports.specs.Kept.{with_all}
 use Rattle.mtn_history.specs.Records.{with_revision}
 use Rattle.mtn_history.specs.Rosters.{IsRebuilt}
 use Rattle.mtn_history.proofs.Accepted.{whole_accepted, delta_accepted}
-use Rattle.mtn_history.specs.Revisions.{Kept, next_of, all_entries, deeper, depth_on, IsRosterOf, IsRosterBody, IsLogBody}
+use Rattle.mtn_history.specs.Revisions.{AreKept, Kept, next_of, all_entries, deeper, depth_on, IsRosterOf, IsRosterBody, IsLogBody}
 use Rattle.mtn_history.specs.Stands.{IsDraft, IsFounded}
 use Rattle.mtn_history.specs.declared.pending.Pending.{Pending}
 use Rattle.mtn_history.proofs.Extending.{Adds, draft_more}
 use Rattle.mtn_put_revision.specs.Keeping.{AreKeptAt, AreParents, IsDeltaBody, IsFirstDepth, IsFirstRebuilt, IsLogBodyOf, IsMade, IsRecordOn, with_text}
+use Rattle.mtn_put_revision.specs.Writing.{AllAscend}
 use Rattle.mtn_put_revision.proofs.Numbers.{all_are_known, parents_known, kept_among, among_entries, entries_of, in_kept, sub_all}
 
 -- a record on the first parent's, or a whole one
@@ -176,6 +177,13 @@ module _ (f : List ℕ → List ℕ) (told : Option Contents) (p : Pending) (s :
 small : (n : ℕ) → n < 2147483648 → n < 2 ^ 64
 small n lt = omega (arith, lt)
 
+-- the entries of parents ascend
+pub known_ascend : (h : List Revision) (ks : List Kept) → AreKept h ks → (places : List ℕ) (known : List Entries) → AreKeptAt ks places known → AllAscend known
+known_ascend h ks kept places known are es c =
+    let k = entries_of ks es (kept_among ks places known are es c) in
+    let w = within h k.0 (subst (λ m. k.0 < m) kept.long (inside ks k.0 k.1 k.2)) in
+    subst (λ (x : Entries). ascend x ≡ true) k.3 (kept.each k.0 w.0 k.1 w.1 k.2).numbered.spells.ascending
+
 -- the draft with the records of a revision stands for the state with its text
 pub kept_draft : (f : List ℕ → List ℕ) (told : Option Contents) (p : Pending) (s : State) (d : IsFounded f told p s) (id : Id) (text : List ℕ) (edges : List Edge) (t : MarkedTree) (places : List ℕ) (known : List Entries)
     (depth next free deep : ℕ) (entries : Entries) (roster log : List ℕ) (q : Pending) → p.count < 2147483648 → next ≡ next_of d.stands.kept →
@@ -203,20 +211,13 @@ kept_draft f told p s d id text edges t places known depth next free deep entrie
           ∙ ap (λ (tr : Tree). next_of kepts + length (fresh (all_entries kepts) tr)) made_is.tree;
       depth = refl;
     } in
-    let up = λ (es : Entries) (c : Contains known es). rises es c in
+    let up = known_ascend d.stands.history d.stands.kept d.stands.revisions places known parents.kept in
     let on = subst (λ ps. IsRosterOf kepts ps new r) parents.stand
     (roster_on kepts places known depth new r parents.kept parents.deep (ap (depth_on kepts) (sym parents.stand)) up numbered.spells.ascending record_is.1) in
     let body : IsRosterBody kepts (length s.log) v new roster = record { roster = r; is = on; text = subst (λ n. IsRosterAt n roster r) d.count record_is.2 } in
     let line : IsLogBody (length s.log) v new log = record { parents = log_at.parents; same = log_at.same ∙ parents.stand; text = subst (λ n. IsLogAt n log (record { id = id; next_node = free; parents = log_at.parents })) d.count log_at.text } in
     subst (λ (x : Pending). IsDraft f d.records x (with_text s l)) (sym put)
     (draft_more f told p s l v new log roster d (subst (λ n. n < 2 ^ 64) d.count (small p.count low)) accepted adds line body)
-  where
-    rises : (es : Entries) → Contains known es → ascend es ≡ true
-    rises es c =
-        let all = kept_among d.stands.kept places known parents.kept es c in
-        let k = entries_of d.stands.kept es all in
-        let w = within d.stands.history k.0 (subst (λ m. k.0 < m) d.stands.revisions.long (inside d.stands.kept k.0 k.1 k.2)) in
-        subst (λ (x : Entries). ascend x ≡ true) k.3 (d.stands.revisions.each k.0 w.0 k.1 w.1 k.2).numbered.spells.ascending
 
 -- the roster of the new revision is what the records give with it
 pub new_rebuilt : (told : Option Contents) (p : Pending) (l : Logged) (log roster : List ℕ) (places : List ℕ) (known : List Entries) (depth deep : ℕ) (entries : Entries) (t : MarkedTree) → p.count < 2147483648 →

@@ -1,3 +1,4 @@
 pub mod Accepting
 pub mod Finding
 pub mod Keeping
+pub mod Writing

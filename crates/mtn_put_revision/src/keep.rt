@@ -1,7 +1,8 @@
 // The records of a new revision, put behind the others.
-ghost use Rattle.std.specs.Prelude.{◌≡◌, ◌<◌, ◌≤◌, ◌^◌, [], All, List, ℕ, length, Err, IfErr, IfSome, OnOk, OnErr};
+ghost use Rattle.std.specs.Prelude.{◌≡◌, ◌<◌, ◌≤◌, ◌^◌, [], All, List, ℕ, length, Ok, Err, false, IfOk, IfErr, IfSome, IsTrue, OnErr};
 ghost use Rattle.mtn_roster_deltas.specs.Numbering.{shown};
 ghost use Rattle.mtn_changes.specs.declared.change.Edge.{Edge};
+ghost use Rattle.mtn_history_laws.specs.History.{Revision};
 ghost use Rattle.mtn_replay.specs.Lawful.{IsNext};
 ghost use Rattle.mtn_replay.specs.Making.{made};
 ghost use Rattle.mtn_model.specs.State.{State};
@@ -11,6 +12,7 @@ ghost use Rattle.mtn_history.specs.Errors.{IfDamage};
 ghost use Rattle.mtn_history.specs.Stands.{IsDraft, IsFounded};
 ghost use Rattle.mtn_put_revision.specs.Finding.{IsFound};
 ghost use Rattle.mtn_put_revision.specs.Keeping.{AreKeptAt, AreParents, IsFirstRebuilt, IsMade, with_text};
+ghost use Rattle.mtn_put_revision.specs.Writing.{AllAscend, IsNextTree};
 
 use crate::records::{KeptParents, Written, log_body, next_number, write_record};
 use crate::unfit::unfit;
@@ -22,8 +24,8 @@ use mtn_ports::Keeper;
 use mtn_roster_deltas::{NumberError, number};
 use std::alloc::Global;
 
-/// Puts the records of a revision with this tree and these parents, and the draft remembers its roster. An error leaves what
-/// is pending as it was.
+/// Puts the records of a revision with this tree and these parents, and the draft remembers its roster; and tells whether it
+/// did, as it does with each tree that a history may have next. Otherwise, and with an error, what is pending is as it was.
 pub fn keep<K: Keeper>(
     alloc: Global,
     draft: &mut Draft<'_, K>,
@@ -31,7 +33,7 @@ pub fn keep<K: Keeper>(
     text: &[u8],
     roster: MarkedRoster,
     known: &KeptParents<'_>,
-) -> Result<(), StoreError>
+) -> Result<bool, StoreError>
     requires room { draft.old.pending.count < 2147483648 }
     requires nodes { length roster.tree ≤ 100000 }
     requires few { length known.now.places.now ≤ 2 }
@@ -45,7 +47,9 @@ pub fn keep<K: Keeper>(
     ensures kept { (f : List ℕ → List ℕ) (s : State) → (d : IsFounded f (K.contents draft.new.keeper.now) draft.old.pending s) → (edges : List Edge) →
         IsMade d.stands.history edges id roster → AreParents d.stands.history d.stands.kept edges known.now.places.now (shown known.now.entries.now) known.now.depth →
         IsNext f s.files d.stands.history (record { id = id.0; text = text.now }) (made d.stands.history id edges) →
-        OnOk result (IsDraft f d.records draft.new.pending (with_text s (record { id = id.0; text = text.now }))) }
+        IfOk result (λ kept. IsTrue kept → IsDraft f d.records draft.new.pending (with_text s (record { id = id.0; text = text.now }))) }
+    ensures unkept { result ≡ Ok false → draft.new.pending ≡ draft.old.pending }
+    ensures none { result ≡ Ok false → AllAscend (shown known.now.entries.now) → (h : List Revision) (v : Revision) → IsNextTree h v roster → length h ≡ draft.old.pending.count → ⊥ }
     ensures err { OnErr result (draft.new.pending ≡ draft.old.pending) }
     ensures damaged { IfSome (K.contents draft.new.keeper.now) (λ c. IfErr result (λ e. IfDamage e
         (IsFound (K.contents draft.new.keeper.now) draft.old.pending (with_all c draft.old.pending.batch)))) }
@@ -58,11 +62,14 @@ pub fn keep<K: Keeper>(
         Err(NumberError::Clash) => return Err(unfit(draft, known.places.first().copied())),
         Err(NumberError::NoMemory) => return Err(StoreError::NoMemory),
     };
+    let Some(written) = write_record(alloc, known, entries, at)? else {
+        return Ok(false);
+    };
     let Written {
         body,
         entries,
         depth,
-    } = write_record(alloc, known, entries, at)?;
+    } = written;
     let log = log_body(alloc, id, free, known.places, at)?;
     let rebuilt = Rebuilt {
         entries,
@@ -70,5 +77,5 @@ pub fn keep<K: Keeper>(
         depth,
     };
     draft.keep_revision(id, text, log, body, rebuilt)?;
-    Ok(())
+    Ok(true)
 }

@@ -18,6 +18,7 @@ mod places;
 mod put;
 mod records;
 mod tree;
+mod typed;
 mod uncommon;
 mod unfit;
 

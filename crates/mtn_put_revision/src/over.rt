@@ -1,21 +1,24 @@
 // A revision accepted over its parents, by how many there are.
-ghost use Rattle.std.specs.Prelude.{◌≡◌, ◌<◌, ◌≤◌, All, List, ℕ, [], ◌∷◌, length, None, Err, IfOk, IfErr, IfSome, OnOk, OnErr};
+ghost use Rattle.std.specs.Prelude.{◌≡◌, ◌<◌, ◌≤◌, All, List, ℕ, [], ◌∷◌, length, None, Ok, Err, false, IfOk, IfErr, IfSome, IsTrue, OnOk, OnErr};
 ghost use Rattle.mtn_roster_deltas.specs.Numbering.{shown};
 ghost use Rattle.mtn_changes.specs.RevisionText.{AreEdges};
+ghost use Rattle.mtn_entry_laws.specs.Entries.{AreBounded};
 ghost use Rattle.mtn_replay.specs.Making.{made_tree};
 ghost use Rattle.mtn_make_roster.specs.Basis.{Underlies};
 ghost use Rattle.mtn_model.specs.State.{State};
 ghost use Rattle.mtn_ports.specs.Causes.{Rose};
 ghost use Rattle.mtn_ports.specs.Kept.{Stays, with_all};
-ghost use Rattle.mtn_history.specs.Errors.{IfStoreDamage};
+ghost use Rattle.mtn_history.specs.Errors.{IfDamage, IfStoreDamage};
 ghost use Rattle.mtn_history.specs.Stands.{IsFounded};
 ghost use Rattle.mtn_put_revision.specs.Finding.{IsFound, IsRefusal, made_refusal_of};
 ghost use Rattle.mtn_put_revision.specs.Keeping.{Accepts, AreParents, IsFirstRebuilt, IsNew, IsPlanned, AreOn};
+ghost use Rattle.mtn_put_revision.specs.Writing.{AllAscend, NoneMakes};
 
 use crate::keep::keep;
 use crate::records::KeptParents;
 use crate::tree::tree_of;
 use crate::uncommon::uncommon_of;
+use crate::unfit::unfit;
 use mtn_ancestry::Pos;
 use mtn_base::{Id, MAX_NODES};
 use mtn_changes::Revision;
@@ -33,42 +36,117 @@ pub struct NewRevision<'a> {
     pub id: Id,
 }
 
-// The tree that was planned, or the tree that the text's edges make over this basis. No plan is of too many nodes where the
-// records stand for a state: one that is tells nothing, and the tree is made.
-fn tree_or<I: Ident, K: Keeper>(
+// Puts a tree with its marks, and tells whether it did, as it does with the tree that the edges make over a history.
+fn over_tree<K: Keeper>(
+    alloc: Global,
+    draft: &mut Draft<'_, K>,
+    fresh: &NewRevision<'_>,
+    basis: &Basis,
+    known: &KeptParents<'_>,
+    tree: Roster,
+) -> Result<bool, StoreError>
+    requires edges { AreEdges fresh.now.read.now.edges }
+    requires bounded { AreBounded fresh.now.read.now.edges }
+    requires room { draft.old.pending.count < 2147483648 }
+    requires few { length known.now.places.now ≤ 2 }
+    requires below { All (λ p. p < draft.old.pending.count) known.now.places.now }
+    requires unknown { known.now.places.now ≡ [] → shown known.now.entries.now ≡ [] }
+    requires based { (f : List ℕ → List ℕ) (s : State) → (d : IsFounded f (K.contents draft.old.keeper.now) draft.old.pending s) →
+        Underlies d.stands.history fresh.now.read.now.edges basis.now fresh.now.id × AreParents d.stands.history d.stands.kept fresh.now.read.now.edges known.now.places.now (shown known.now.entries.now) known.now.depth }
+    requires first { IfSome (K.contents draft.old.keeper.now) (λ c. IsFirstRebuilt (with_all c draft.old.pending.batch) known.now.places.now (shown known.now.entries.now) known.now.depth) }
+    ensures same_reference { draft.new.keeper.ghost_name ≡ draft.old.keeper.ghost_name }
+    ensures stays { Stays K.contents K.leaves K.faults draft.old.keeper.now draft.new.keeper.now }
+    ensures accepts { (f : List ℕ → List ℕ) (s : State) → (d : IsFounded f (K.contents draft.new.keeper.now) draft.old.pending s) →
+        IsNew f d.stands.history fresh.now → made_refusal_of f s.files d.stands.history fresh.now.id fresh.now.read.now ≡ None → tree ≡ made_tree d.stands.history fresh.now.id fresh.now.read.now.edges →
+        IfOk result (λ kept. IsTrue kept → Accepts f d.records s d.stands.history fresh.now draft.new.pending) }
+    ensures unkept { result ≡ Ok false → draft.new.pending ≡ draft.old.pending }
+    ensures none { result ≡ Ok false → AllAscend (shown known.now.entries.now) → NoneMakes draft.old.pending.count fresh.now.id fresh.now.read.now.edges basis.now tree }
+    ensures err { OnErr result (draft.new.pending ≡ draft.old.pending) }
+    ensures damaged { IfSome (K.contents draft.new.keeper.now) (λ c. IfErr result (λ e. IfDamage e
+        (IsFound (K.contents draft.new.keeper.now) draft.old.pending (with_all c draft.old.pending.batch)))) }
+    ensures failed { result ≡ Err StoreError.Failed → Rose (K.faults draft.old.keeper.now) (K.faults draft.new.keeper.now) }
+{
+    if tree.len() > MAX_NODES as u64 {
+        return Ok(false);
+    }
+    let at = Pos(draft.count());
+    let marked = mark(alloc, tree, basis, at)?;
+    keep(alloc, draft, fresh.id, fresh.text, marked, known)
+}
+
+// Puts the tree that was planned, where one was and its record can be written.
+fn over_plan<K: Keeper>(
+    alloc: Global,
+    draft: &mut Draft<'_, K>,
+    fresh: &NewRevision<'_>,
+    basis: &Basis,
+    known: &KeptParents<'_>,
+    planned: Option<Roster>,
+) -> Result<bool, StoreError>
+    requires edges { AreEdges fresh.now.read.now.edges }
+    requires bounded { AreBounded fresh.now.read.now.edges }
+    requires room { draft.old.pending.count < 2147483648 }
+    requires few { length known.now.places.now ≤ 2 }
+    requires below { All (λ p. p < draft.old.pending.count) known.now.places.now }
+    requires unknown { known.now.places.now ≡ [] → shown known.now.entries.now ≡ [] }
+    requires based { (f : List ℕ → List ℕ) (s : State) → (d : IsFounded f (K.contents draft.old.keeper.now) draft.old.pending s) →
+        Underlies d.stands.history fresh.now.read.now.edges basis.now fresh.now.id × AreParents d.stands.history d.stands.kept fresh.now.read.now.edges known.now.places.now (shown known.now.entries.now) known.now.depth }
+    requires first { IfSome (K.contents draft.old.keeper.now) (λ c. IsFirstRebuilt (with_all c draft.old.pending.batch) known.now.places.now (shown known.now.entries.now) known.now.depth) }
+    ensures same_reference { draft.new.keeper.ghost_name ≡ draft.old.keeper.ghost_name }
+    ensures stays { Stays K.contents K.leaves K.faults draft.old.keeper.now draft.new.keeper.now }
+    ensures accepts { (f : List ℕ → List ℕ) (s : State) → (d : IsFounded f (K.contents draft.new.keeper.now) draft.old.pending s) →
+        IfSome planned (λ t. IsPlanned f s.files d.stands.history fresh.now.text.now t) → IsNew f d.stands.history fresh.now →
+        IfOk result (λ kept. IsTrue kept → Accepts f d.records s d.stands.history fresh.now draft.new.pending) }
+    ensures unkept { result ≡ Ok false → draft.new.pending ≡ draft.old.pending }
+    ensures err { OnErr result (draft.new.pending ≡ draft.old.pending) }
+    ensures damaged { IfSome (K.contents draft.new.keeper.now) (λ c. IfErr result (λ e. IfDamage e
+        (IsFound (K.contents draft.new.keeper.now) draft.old.pending (with_all c draft.old.pending.batch)))) }
+    ensures failed { result ≡ Err StoreError.Failed → Rose (K.faults draft.old.keeper.now) (K.faults draft.new.keeper.now) }
+{
+    match planned {
+        Some(tree) => over_tree(alloc, draft, fresh, basis, known, tree),
+        None => Ok(false),
+    }
+}
+
+// Puts the tree that the edges make over the basis. One whose record cannot be written is made over no history.
+fn over_edges<I: Ident, K: Keeper>(
     alloc: Global,
     ident: &I,
     draft: &mut Draft<'_, K>,
     fresh: &NewRevision<'_>,
     basis: &Basis,
-    parent: Option<Pos>,
-    planned: Option<Roster>,
-) -> Result<Roster, HistoryError>
+    known: &KeptParents<'_>,
+) -> Result<(), HistoryError>
     requires edges { AreEdges fresh.now.read.now.edges }
-    requires parent { IfSome parent (λ p. p < draft.old.pending.count) }
-    requires root { parent ≡ None → Underlies [] fresh.now.read.now.edges basis.now fresh.now.id }
+    requires bounded { AreBounded fresh.now.read.now.edges }
+    requires room { draft.old.pending.count < 2147483648 }
+    requires few { length known.now.places.now ≤ 2 }
+    requires below { All (λ p. p < draft.old.pending.count) known.now.places.now }
+    requires root { known.now.places.now ≡ [] → Underlies [] fresh.now.read.now.edges basis.now fresh.now.id }
+    requires unknown { known.now.places.now ≡ [] → shown known.now.entries.now ≡ [] }
     requires based { (f : List ℕ → List ℕ) (s : State) → (d : IsFounded f (K.contents draft.old.keeper.now) draft.old.pending s) →
-        Underlies d.stands.history fresh.now.read.now.edges basis.now fresh.now.id }
-    requires planned { (s : State) → (d : IsFounded (I.meaning ident.now) (K.contents draft.old.keeper.now) draft.old.pending s) →
-        IfSome planned (λ t. IsPlanned (I.meaning ident.now) s.files d.stands.history fresh.now.text.now t) }
+        Underlies d.stands.history fresh.now.read.now.edges basis.now fresh.now.id × AreParents d.stands.history d.stands.kept fresh.now.read.now.edges known.now.places.now (shown known.now.entries.now) known.now.depth }
+    requires first { IfSome (K.contents draft.old.keeper.now) (λ c. IsFirstRebuilt (with_all c draft.old.pending.batch) known.now.places.now (shown known.now.entries.now) known.now.depth) }
     ensures same_reference { draft.new.keeper.ghost_name ≡ draft.old.keeper.ghost_name }
     ensures stays { Stays K.contents K.leaves K.faults draft.old.keeper.now draft.new.keeper.now }
-    ensures pending { draft.new.pending ≡ draft.old.pending }
-    ensures tree { (s : State) → (d : IsFounded (I.meaning ident.now) (K.contents draft.new.keeper.now) draft.old.pending s) →
-        IsNew (I.meaning ident.now) d.stands.history fresh.now → IfOk result (λ roster. roster ≡ made_tree d.stands.history fresh.now.id fresh.now.read.now.edges) }
-    ensures fine { (s : State) → (d : IsFounded (I.meaning ident.now) (K.contents draft.new.keeper.now) draft.old.pending s) →
-        IsNew (I.meaning ident.now) d.stands.history fresh.now → OnOk result (made_refusal_of (I.meaning ident.now) s.files d.stands.history fresh.now.id fresh.now.read.now ≡ None) }
+    ensures accepts { (s : State) → (d : IsFounded (I.meaning ident.now) (K.contents draft.new.keeper.now) draft.old.pending s) →
+        IsNew (I.meaning ident.now) d.stands.history fresh.now → OnOk result (Accepts (I.meaning ident.now) d.records s d.stands.history fresh.now draft.new.pending) }
     ensures refused { (s : State) → (d : IsFounded (I.meaning ident.now) (K.contents draft.new.keeper.now) draft.old.pending s) →
         IfErr result (IsRefusal (made_refusal_of (I.meaning ident.now) s.files d.stands.history fresh.now.id fresh.now.read.now)) }
-    ensures few { IfOk result (λ roster. length roster ≤ 100000) }
+    ensures err { OnErr result (draft.new.pending ≡ draft.old.pending) }
     ensures damaged { IfSome (K.contents draft.new.keeper.now) (λ c. IfErr result (λ e. IfStoreDamage e
         (IsFound (K.contents draft.new.keeper.now) draft.old.pending (with_all c draft.old.pending.batch)))) }
     ensures failed { result ≡ Err (HistoryError.Store StoreError.Failed) → Rose (K.faults draft.old.keeper.now) (K.faults draft.new.keeper.now) }
 {
-    match planned {
-        Some(tree) if tree.len() <= MAX_NODES as u64 => Ok(tree),
-        _ => tree_of(alloc, ident, draft, fresh.read, basis, parent, fresh.id),
+    let first = known.places.first().copied();
+    let tree = tree_of(alloc, ident, draft, fresh.read, basis, first, fresh.id)?;
+    let kept = over_tree(alloc, draft, fresh, basis, known, tree)?;
+    if kept {
+        return Ok(());
     }
+    let parent = known.places.first().copied();
+    Err(HistoryError::Store(unfit(draft, parent)))
 }
 
 // Accepts a revision over this basis, whose parents are kept so.
@@ -82,6 +160,7 @@ fn over<I: Ident, K: Keeper>(
     planned: Option<Roster>,
 ) -> Result<(), HistoryError>
     requires edges { AreEdges fresh.now.read.now.edges }
+    requires bounded { AreBounded fresh.now.read.now.edges }
     requires room { draft.old.pending.count < 2147483648 }
     requires few { length known.now.places.now ≤ 2 }
     requires below { All (λ p. p < draft.old.pending.count) known.now.places.now }
@@ -103,12 +182,11 @@ fn over<I: Ident, K: Keeper>(
         (IsFound (K.contents draft.new.keeper.now) draft.old.pending (with_all c draft.old.pending.batch)))) }
     ensures failed { result ≡ Err (HistoryError.Store StoreError.Failed) → Rose (K.faults draft.old.keeper.now) (K.faults draft.new.keeper.now) }
 {
-    let at = Pos(draft.count());
-    let first = known.places.first().copied();
-    let roster = tree_or(alloc, ident, draft, fresh, basis, first, planned)?;
-    let marked = mark(alloc, roster, basis, at)?;
-    keep(alloc, draft, fresh.id, fresh.text, marked, known)?;
-    Ok(())
+    let kept = over_plan(alloc, draft, fresh, basis, known, planned)?;
+    if kept {
+        return Ok(());
+    }
+    over_edges(alloc, ident, draft, fresh, basis, known)
 }
 
 // The same where one parent stands there.
@@ -122,6 +200,7 @@ fn over_one<I: Ident, K: Keeper>(
     planned: Option<Roster>,
 ) -> Result<(), HistoryError>
     requires edges { AreEdges fresh.now.read.now.edges }
+    requires bounded { AreBounded fresh.now.read.now.edges }
     requires room { draft.old.pending.count < 2147483648 }
     requires one { places.now ≡ at ∷ [] }
     requires below { at < draft.old.pending.count }
@@ -171,6 +250,7 @@ fn over_two<I: Ident, K: Keeper>(
     planned: Option<Roster>,
 ) -> Result<(), HistoryError>
     requires edges { AreEdges fresh.now.read.now.edges }
+    requires bounded { AreBounded fresh.now.read.now.edges }
     requires room { draft.old.pending.count < 2147483648 }
     requires two { places.now ≡ left ∷ right ∷ [] }
     requires below { (left < draft.old.pending.count) × (right < draft.old.pending.count) }
@@ -219,6 +299,7 @@ pub fn over_places<I: Ident, K: Keeper>(
     planned: Option<Roster>,
 ) -> Result<(), HistoryError>
     requires edges { AreEdges fresh.now.read.now.edges }
+    requires bounded { AreBounded fresh.now.read.now.edges }
     requires room { draft.old.pending.count < 2147483648 }
     requires few { length places.now ≤ 2 }
     requires below { All (λ p. p < draft.old.pending.count) places.now }

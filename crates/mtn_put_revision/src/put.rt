@@ -1,6 +1,7 @@
 // The calls `put_revision` and `put_revision_as`.
 ghost use Rattle.std.specs.Prelude.{◌≡◌, ◌≤◌, List, ℕ, length, Some, None, Err, IfErr, IfSome, OnOk, OnErr};
 ghost use Rattle.mtn_changes.specs.RevisionText.{AreEdges};
+ghost use Rattle.mtn_entry_laws.specs.Entries.{AreBounded};
 ghost use Rattle.mtn_replay.specs.Making.{place_of, refusal_of};
 ghost use Rattle.mtn_replay.specs.Texts.{text_under};
 ghost use Rattle.mtn_model.specs.State.{State};
@@ -191,6 +192,7 @@ fn accept<I: Ident, K: Keeper>(
     planned: Option<Roster>,
 ) -> Result<(), HistoryError>
     requires edges { AreEdges fresh.now.read.now.edges }
+    requires bounded { AreBounded fresh.now.read.now.edges }
     requires new { (f : List ℕ → List ℕ) (s : State) → (d : IsFounded f (K.contents draft.old.keeper.now) draft.old.pending s) → place_of d.stands.history fresh.now.id ≡ None }
     requires planned { (s : State) → (d : IsFounded (I.meaning ident.now) (K.contents draft.old.keeper.now) draft.old.pending s) →
         IfSome planned (λ t. IsPlanned (I.meaning ident.now) s.files d.stands.history fresh.now.text.now t) }

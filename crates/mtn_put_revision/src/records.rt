@@ -1,18 +1,22 @@
 // The records of a new revision.
-ghost use Rattle.std.specs.Prelude.{◌≡◌, ◌<◌, ◌≤◌, All, List, ℕ, length, Err, IfOk, IfErr, IfSome};
+ghost use Rattle.std.specs.Prelude.{◌≡◌, ◌<◌, ◌≤◌, All, List, ℕ, length, Ok, None, Err, IfOk, IfErr, IfSome, IsTrue};
 ghost use Rattle.mtn_ancestry.specs.Log.{list_of};
+ghost use Rattle.mtn_roster_deltas.specs.Chain.{ascend};
 ghost use Rattle.mtn_roster_deltas.specs.Numbering.{shown};
 ghost use Rattle.mtn_model.specs.State.{State};
 ghost use Rattle.mtn_ports.specs.Causes.{Rose};
 ghost use Rattle.mtn_ports.specs.Kept.{Stays, with_all};
-ghost use Rattle.mtn_records.specs.Bounds.{IsRosterAt};
+ghost use Rattle.mtn_records.specs.Bounds.{IsRosterAt, IsWithin};
+ghost use Rattle.mtn_records.specs.Records.{IsRosterRecord};
 ghost use Rattle.mtn_records.specs.declared.record.RosterRecord.TheVariants.{Whole};
 ghost use Rattle.mtn_history.specs.Errors.{IfDamage};
 ghost use Rattle.mtn_history.specs.Revisions.{next_of};
 ghost use Rattle.mtn_history.specs.Stands.{IsFounded};
 ghost use Rattle.mtn_put_revision.specs.Finding.{IsFound};
 ghost use Rattle.mtn_put_revision.specs.Keeping.{IsDeltaBody, IsLogBodyOf, IsWhole, IsWrittenOn};
+ghost use Rattle.mtn_put_revision.specs.Writing.{AllAscend, IsTyped, NoneHas};
 
+use crate::typed::typed_record;
 use mtn_ancestry::{ParentList, Pos};
 use mtn_base::{Bytes, Id, List as Items, NoMemory};
 use mtn_history::{Draft, StoreError};
@@ -66,16 +70,18 @@ pub struct Written {
     pub depth: u8,
 }
 
-// The body of a roster's record under its position. A field that is longer than its record can tell wants memory.
-fn record_body(alloc: Global, roster: &RosterRecord, at: Pos) -> Result<Bytes, NoMemory>
-    ensures { IfOk result (λ body. IsRosterAt at body roster.now) }
+// The body of a roster's record under its position, where it can be written.
+fn record_body(alloc: Global, roster: &RosterRecord, at: Pos) -> Result<Option<Bytes>, NoMemory>
+    ensures body { IfOk result (λ o. IfSome o (λ body. IsRosterAt at body roster.now)) }
+    ensures none { result ≡ Ok None → IsTyped roster.now × ((IsRosterRecord roster.now × IsWithin at roster.now) → ⊥) }
 {
     if !is_record_at(roster, at) {
-        return Err(NoMemory);
+        typed_record(roster);
+        return Ok(None);
     }
     let mut body = Vec::new(alloc);
     write_roster(roster, &mut body)?;
-    Ok(Items::from_vec(body))
+    Ok(Some(Items::from_vec(body)))
 }
 
 // The entries of a whole record.
@@ -90,16 +96,19 @@ fn into_entries(roster: RosterRecord) -> Numbered
 }
 
 // The record has all entries.
-fn whole(alloc: Global, entries: Numbered, at: Pos) -> Result<Written, NoMemory>
-    ensures { IfOk result (λ w. IsRosterAt at w.body (Whole entries) × (w.entries ≡ entries) × (w.depth ≡ 0)) }
+fn whole(alloc: Global, entries: Numbered, at: Pos) -> Result<Option<Written>, NoMemory>
+    ensures record { IfOk result (λ o. IfSome o (λ w. IsRosterAt at w.body (Whole entries) × (w.entries ≡ entries) × (w.depth ≡ 0))) }
+    ensures none { result ≡ Ok None → NoneHas at entries }
 {
     let record = RosterRecord::Whole(entries);
-    let body = record_body(alloc, &record, at)?;
-    Ok(Written {
+    let Some(body) = record_body(alloc, &record, at)? else {
+        return Ok(None);
+    };
+    Ok(Some(Written {
         body,
         entries: into_entries(record),
         depth: 0,
-    })
+    }))
 }
 
 // The record has what differs from the entries of another.
@@ -110,26 +119,31 @@ fn differing(
     depth: u8,
     entries: Numbered,
     at: Pos,
-) -> Result<Written, NoMemory>
-    ensures { IfOk result (λ w. IsDeltaBody below.now base depth entries at w.body × (w.entries ≡ entries) × (w.depth ≡ depth)) }
+) -> Result<Option<Written>, NoMemory>
+    ensures record { IfOk result (λ o. IfSome o (λ w. IsDeltaBody below.now base depth entries at w.body × (w.entries ≡ entries) × (w.depth ≡ depth))) }
+    ensures none { result ≡ Ok None → base < at → IsTrue (ascend below.now) → NoneHas at entries }
 {
     let record = delta(alloc, below, base, depth, &entries)?;
-    let body = record_body(alloc, &record, at)?;
-    Ok(Written {
+    let Some(body) = record_body(alloc, &record, at)? else {
+        return Ok(None);
+    };
+    Ok(Some(Written {
         body,
         entries,
         depth,
-    })
+    }))
 }
 
 /// The record of a roster: what differs from the first parent's, or whole where there is none or a chain would get too deep.
+/// There is none where it cannot be written, as it can of each tree that a history may have next.
 pub fn write_record(
     alloc: Global,
     known: &KeptParents<'_>,
     entries: Numbered,
     at: Pos,
-) -> Result<Written, NoMemory>
-    ensures { IfOk result (λ w. IsWrittenOn known.now.places.now (shown known.now.entries.now) known.now.depth entries at w) }
+) -> Result<Option<Written>, NoMemory>
+    ensures record { IfOk result (λ o. IfSome o (IsWrittenOn known.now.places.now (shown known.now.entries.now) known.now.depth entries at)) }
+    ensures none { result ≡ Ok None → All (λ p. p < at) known.now.places.now → AllAscend (shown known.now.entries.now) → NoneHas at entries }
 {
     match (known.places, known.entries) {
         ([base, ..], [below, ..]) => {

@@ -1,10 +1,10 @@
 // The tree of a new revision, or its first refusal behind the parents.
-ghost use Rattle.std.specs.Prelude.{◌≡◌, ◌<◌, ◌≤◌, [], List, ℕ, length, None, Err, IfOk, IfErr, IfSome, OnOk};
+ghost use Rattle.std.specs.Prelude.{◌≡◌, ◌<◌, [], List, ℕ, None, Err, IfOk, IfErr, IfSome, OnOk};
 ghost use Rattle.mtn_changes.specs.RevisionText.{AreEdges};
 ghost use Rattle.mtn_basic_io.specs.Spelling.{spelling};
 ghost use Rattle.mtn_history_laws.specs.History.{Revision as Made};
 ghost use Rattle.mtn_replay.specs.Making.{made_tree};
-ghost use Rattle.mtn_make_roster.specs.Basis.{IsCauseOf, Underlies, made_refusal};
+ghost use Rattle.mtn_make_roster.specs.Basis.{Underlies, made_refusal};
 ghost use Rattle.mtn_manifest.specs.Manifest.{manifest_of};
 ghost use Rattle.mtn_model.specs.State.{State};
 ghost use Rattle.mtn_ports.specs.Causes.{Rose};
@@ -16,8 +16,8 @@ ghost use Rattle.mtn_put_revision.specs.Finding.{IsFound, IsRefusal, IsUnfounded
 use crate::contents::unknown_content;
 use crate::unfit::unfit;
 use mtn_ancestry::Pos;
-use mtn_base::{Cause, Id, MAX_NODES, NoMemory};
-use mtn_changes::{Edge, Revision};
+use mtn_base::{Cause, Id, NoMemory};
+use mtn_changes::Revision;
 use mtn_history::{Draft, HistoryError, StoreError};
 use mtn_make_roster::{Basis, MakeError, make};
 use mtn_manifest::write;
@@ -32,22 +32,6 @@ fn manifest_id<I: Ident>(alloc: Global, ident: &I, roster: &Roster) -> Result<Id
     let mut text = Vec::new(alloc);
     write(roster, &mut text)?;
     Ok(ident.id(&text))
-}
-
-// The tree that edges make, or the first refusal. Over a history a tree of too many nodes is refused: one that is not is
-// damage.
-fn make_few(alloc: Global, edges: &[Edge], basis: &Basis, new: Id) -> Result<Roster, MakeError>
-    requires { AreEdges edges.now }
-    ensures tree { IfOk result (λ roster. (h : List Made) → Underlies h edges.now basis.now new → roster ≡ made_tree h new edges.now) }
-    ensures fine { OnOk result ((h : List Made) → Underlies h edges.now basis.now new → made_refusal h new edges.now ≡ None) }
-    ensures err { IfErr result (λ e. (h : List Made) → Underlies h edges.now basis.now new → IsCauseOf (made_refusal h new edges.now) e) }
-    ensures few { IfOk result (λ roster. length roster ≤ 100000) }
-{
-    let roster = make(alloc, edges, basis, new)?;
-    if roster.len() > MAX_NODES as u64 {
-        return Err(MakeError::Damaged);
-    }
-    Ok(roster)
 }
 
 /// The tree that a text's edges make over the basis, or the first refusal that is not the parents': of a change, of joining,
@@ -71,17 +55,17 @@ pub fn tree_of<I: Ident, K: Keeper>(
     ensures pending { draft.new.pending ≡ draft.old.pending }
     ensures tree { (f : List ℕ → List ℕ) (s : State) → (d : IsFounded f (K.contents draft.new.keeper.now) draft.old.pending s) →
         IfOk result (λ roster. roster ≡ made_tree d.stands.history new read.now.edges) }
+    ensures made { IfOk result (λ roster. (h : List Made) → Underlies h read.now.edges basis.now new → (roster ≡ made_tree h new read.now.edges) × (made_refusal h new read.now.edges ≡ None)) }
     ensures fine { (s : State) → (d : IsFounded (I.meaning ident.now) (K.contents draft.new.keeper.now) draft.old.pending s) →
         OnOk result (made_refusal_of (I.meaning ident.now) s.files d.stands.history new read.now ≡ None) }
     ensures refused { (s : State) → (d : IsFounded (I.meaning ident.now) (K.contents draft.new.keeper.now) draft.old.pending s) →
         IfErr result (IsRefusal (made_refusal_of (I.meaning ident.now) s.files d.stands.history new read.now)) }
-    ensures few { IfOk result (λ roster. length roster ≤ 100000) }
     ensures damaged { IfSome (K.contents draft.new.keeper.now) (λ c. IfErr result (λ e. IfStoreDamage e
         (IsFound (K.contents draft.new.keeper.now) draft.old.pending (with_all c draft.old.pending.batch)))) }
     ensures failed { result ≡ Err (HistoryError.Store StoreError.Failed) → Rose (K.faults draft.old.keeper.now) (K.faults draft.new.keeper.now) }
 {
     let edges = read.edges.as_slice();
-    let roster = match make_few(alloc, edges, basis, new) {
+    let roster = match make(alloc, edges, basis, new) {
         Ok(roster) => roster,
         Err(MakeError::Refused(cause)) => return Err(HistoryError::Refused(cause)),
         Err(MakeError::Damaged) => return Err(HistoryError::Store(unfit(draft, parent))),

@@ -1,6 +1,6 @@
 -- The records are those of the state with the text.
-use Rattle.std.proofs.Common.{List, ℕ, refl, sym, ap, ◌∙◌, subst}
-use Rattle.std.specs.Prelude.{IfSome}
+use Rattle.std.proofs.Common.{◌<◌, List, ℕ, true, Option, Ok, refl, sym, ap, ◌∙◌, subst}
+use Rattle.std.specs.Prelude.{All, IfSome, IsTrue}
 use Rattle.mtn_changes.specs.declared.change.Edge.{Edge}
 use Rattle.mtn_roster_deltas.specs.Numbering.{shown, AreKnown}
 use Rattle.mtn_replay.specs.Lawful.{IsNext}
@@ -16,7 +16,8 @@ use Rattle.mtn_history.specs.declared.pending.Pending.{Pending}
 use Rattle.mtn_history.proofs.Founding.{back}
 use Rattle.mtn_history.proofs.Knowing.{told_back}
 use Rattle.mtn_put_revision.specs.Finding.{IsFound, IsUnfounded}
-use Rattle.mtn_put_revision.specs.Keeping.{AreParents, IsFirstRebuilt, IsLogBodyOf, IsMade, IsRecordOn, with_text}
+use Rattle.mtn_put_revision.specs.Keeping.{AreParents, IsFirstRebuilt, IsLogBodyOf, IsMade, IsRecordOn, IsWrittenOn, with_text}
+use Rattle.mtn_put_revision.specs.declared.records.Written.{Written}
 use Rattle.mtn_put_revision.proofs.Grounds.{moved}
 use Rattle.mtn_put_revision.proofs.Numbers.{parents_known}
 use Rattle.mtn_put_revision.proofs.Putting.{kept_draft, new_rebuilt}
@@ -43,11 +44,12 @@ keep_revision-requires-clause-right g c =
     let mid = g.K.Keeper.contents c.next_number.new.draft.keeper.now in
     let p = c.args.draft.now.pending in
     let known = c.args.known.now in
-    let w = c.in_ok-body.field-0 in
+    let w = c.in-Some.written in
+    let said = subst (λ (o : Option Written). IfSome o (IsWrittenOn c.args.known.now.places.now (shown c.args.known.now.entries.now) c.args.known.now.depth c.in-Ok.numbers.0 c.count.result)) c.in-Some.is c.in_ok-written.ensures.record in
     moved (λ (x : Pending). IfSome mid (λ y. IsRebuilt (with_all y (with_revision x (record { id = c.args.id.0; text = c.args.text.now }) c.in_ok-log.log w.body).batch) x.count w.entries c.args.roster w.depth)) p c.next_number.new.draft.pending (sym c.in_ok-next.ensures.pending)
-    (subst (λ es. IfSome mid (λ y. IsRebuilt (with_all y (with_revision p (record { id = c.args.id.0; text = c.args.text.now }) c.in_ok-log.log w.body).batch) p.count es c.args.roster w.depth)) (sym c.in_ok-body.ensures.1)
+    (subst (λ es. IfSome mid (λ y. IsRebuilt (with_all y (with_revision p (record { id = c.args.id.0; text = c.args.text.now }) c.in_ok-log.log w.body).batch) p.count es c.args.roster w.depth)) (sym said.1)
     (new_rebuilt mid p (record { id = c.args.id.0; text = c.args.text.now }) c.in_ok-log.log w.body known.places.now (shown known.entries.now) known.depth w.depth c.in-Ok.numbers.0 c.args.roster c.requires.room c.requires.below c.in-Ok.ensures.spells
-    (subst (λ n. IsRecordOn known.places.now (shown known.entries.now) known.depth c.in-Ok.numbers.0 n w.body w.depth) c.count.ensures c.in_ok-body.ensures.0)
+    (subst (λ n. IsRecordOn known.places.now (shown known.entries.now) known.depth c.in-Ok.numbers.0 n w.body w.depth) c.count.ensures said.0)
     (told_back (g.K.Keeper.contents c.args.draft.now.keeper.now) mid (λ y. IsFirstRebuilt (with_all y p.batch) known.places.now (shown known.entries.now) known.depth) c.in_ok-next.ensures.stays.same c.requires.first)))
 
 pub returns-clause-kept : goal.returns-clause-kept
@@ -55,13 +57,19 @@ returns-clause-kept g c =
     let told = g.K.Keeper.contents c.next_number.new.draft.keeper.now in
     let p = c.args.draft.now.pending in
     let known = c.args.known.now in
-    let w = c.in_ok-body.field-0 in
+    let w = c.in-Some.written in
+    let said = subst (λ (o : Option Written). IfSome o (IsWrittenOn c.args.known.now.places.now (shown c.args.known.now.entries.now) c.args.known.now.depth c.in-Ok.numbers.0 c.count.result)) c.in-Some.is c.in_ok-written.ensures.record in
     subst (λ h. (f : List ℕ → List ℕ) (s : State) → (d : IsFounded f (g.K.Keeper.contents h.now) p s) → (edges : List Edge) → IsMade d.stands.history edges c.args.id c.args.roster →
     AreParents d.stands.history d.stands.kept edges known.places.now (shown known.entries.now) known.depth → IsNext f s.files d.stands.history (record { id = c.args.id.0; text = c.args.text.now }) (made d.stands.history c.args.id edges) →
-    IsDraft f d.records c.keep_revision.new.self.pending (with_text s (record { id = c.args.id.0; text = c.args.text.now }))) (sym c.in_ok-keep_revision.ensures.keeper) (λ f s d edges made_is parents accepted.
+    IsTrue true → IsDraft f d.records c.keep_revision.new.self.pending (with_text s (record { id = c.args.id.0; text = c.args.text.now }))) (sym c.in_ok-keep_revision.ensures.keeper) (λ f s d edges made_is parents accepted kept.
     kept_draft f told p s d c.args.id c.args.text.now edges c.args.roster known.places.now (shown known.entries.now) known.depth c.in_ok-next.next c.in-Ok.numbers.1 w.depth c.in-Ok.numbers.0 w.body c.in_ok-log.log c.keep_revision.new.self.pending
     c.requires.room (c.in_ok-next.ensures.next f s d) c.in-Ok.ensures.numbers c.in-Ok.ensures.next
-    (subst (λ n. IsRecordOn known.places.now (shown known.entries.now) known.depth c.in-Ok.numbers.0 n w.body w.depth) c.count.ensures c.in_ok-body.ensures.0)
+    (subst (λ n. IsRecordOn known.places.now (shown known.entries.now) known.depth c.in-Ok.numbers.0 n w.body w.depth) c.count.ensures said.0)
     (subst (λ n. IsLogBodyOf c.args.id c.in-Ok.numbers.1 known.places.now n c.in_ok-log.log) c.count.ensures c.in_ok-log.ensures)
     (c.in_ok-keep_revision.ensures.ok ∙ ap (λ (q : Pending). with_revision q (record { id = c.args.id.0; text = c.args.text.now }) c.in_ok-log.log w.body) c.in_ok-next.ensures.pending)
     made_is parents accepted)
+
+pub returns-in_default-clause-none : goal.returns-in_default-clause-none
+returns-in_default-clause-none g c = λ same up h v next count.
+    c.in_ok-written.ensures.none (ap Ok c.in_default.is) (subst (λ n. All (λ p. p < n) c.args.known.now.places.now) (sym c.count.ensures) c.requires.below) up
+    h v c.args.roster next c.in-Ok.ensures.spells (count ∙ sym c.count.ensures) (subst (λ n. n < 2147483648) (sym c.count.ensures) c.requires.room)

@@ -2,6 +2,7 @@
 use Rattle.std.proofs.Common.{sym}
 use Rattle.mtn_replay.specs.Lawful.{Spells}
 use Rattle.mtn_history.proofs.Founding.{founded}
+use Rattle.mtn_entry_laws.proofs.Short.{text_bounds}
 use Rattle.mtn_put_revision.proofs.Deciding.{accepted_parts, new_kept, result_damage, text_none}
 use Rattle.mtn_put_revision.proofs.put.put_new.Goals as goal
 
@@ -21,3 +22,6 @@ returns-clause-accepts g c = λ x s tells draft.
 
 pub returns-clause-damaged : goal.returns-clause-damaged
 returns-clause-damaged g c = result_damage (g.K.Keeper.contents c.accept.new.draft.keeper.now) c.args.draft.now.pending c.accept.result c.accept.ensures.damaged
+
+pub accept-requires-clause-bounded : goal.accept-requires-clause-bounded
+accept-requires-clause-bounded g c κs alive = text_bounds c.args.text.now c.in-Ok.read c.in-Ok.ensures.ok c.requires.short
