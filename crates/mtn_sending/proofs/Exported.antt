@@ -1,6 +1,6 @@
 -- What an export answers, and what its errors show.
 use Rattle.std.specs.Prelude.{Contains, IfErr, IfSome}
-use Rattle.std.proofs.Common.{◌≡◌, ◌≢◌, ◌<◌, inl, inr, ℕ, Bool, true, false, List, [], ◌∷◌, Option, Some, None, Result, Ok, Err, length, refl, sym, ap, ◌∙◌, subst, arith}
+use Rattle.std.proofs.Common.{◌≡◌, ◌<◌, inl, inr, ℕ, List, [], ◌∷◌, Option, Some, None, Result, Ok, Err, length, refl, sym, ap, subst, arith}
 use Rattle.mtn_ancestry.specs.declared.pos.LogEntry.{LogEntry}
 use Rattle.mtn_answers.specs.Queries.{IsAnswer, IsHeld, first_unknown}
 use Rattle.mtn_answers.specs.declared.query.Query.TheVariants.{AncestryDifference}
