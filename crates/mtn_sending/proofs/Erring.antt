@@ -1,11 +1,11 @@
 -- Errors on the way: what they show, and that over a state none is damage.
 use Rattle.std.specs.Prelude.{IfErr, IfSome}
-use Rattle.std.proofs.Common.{◌≡◌, ℕ, List, Option, Some, None, Result, Ok, Err, refl, sym, ap, ◌∙◌, subst}
+use Rattle.std.proofs.Common.{◌≡◌, ℕ, List, Option, Some, None, Result, Ok, Err, sym, subst}
 use Rattle.mtn_history.specs.Errors.{IfDamage}
 use Rattle.mtn_history.specs.Stands.{IsFounded}
 use Rattle.mtn_history.specs.declared.errors.Damage.{Damage}
 use Rattle.mtn_history.specs.declared.errors.StoreError.{StoreError}
-use Rattle.mtn_history.specs.declared.errors.StoreError.TheVariants.{Damaged, Failed, NoMemory}
+use Rattle.mtn_history.specs.declared.errors.StoreError.TheVariants.{NoMemory}
 use Rattle.mtn_history.specs.declared.pending.Pending.{Pending}
 use Rattle.mtn_history.proofs.Founding.{back}
 use Rattle.mtn_model.specs.State.{State}

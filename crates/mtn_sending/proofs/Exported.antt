@@ -1,6 +1,6 @@
 -- What an export answers, and what its errors show.
 use Rattle.std.specs.Prelude.{Contains, IfErr, IfSome}
-use Rattle.std.proofs.Common.{◌≡◌, ◌≢◌, ◌<◌, inl, inr, ℕ, Bool, true, false, List, [], ◌∷◌, Option, Some, None, Result, Ok, Err, length, refl, sym, ap, ◌∙◌, subst, arith}
+use Rattle.std.proofs.Common.{◌≡◌, ◌<◌, inl, inr, ℕ, List, [], ◌∷◌, Option, Some, None, Result, Ok, Err, length, refl, sym, ap, subst, arith}
 use Rattle.mtn_ancestry.specs.declared.pos.LogEntry.{LogEntry}
 use Rattle.mtn_answers.specs.Queries.{IsAnswer, IsHeld, first_unknown}
 use Rattle.mtn_answers.specs.declared.query.Query.TheVariants.{AncestryDifference}
@@ -104,7 +104,7 @@ module _ (told now : Option Contents) (p q : Pending) (entries : List LogEntry) 
   -- an error on the way
   module _ (e : StoreError) (old new : List ℕ) (finds : FindsAll {X = Unit {0}} now q ids old new (Err e)) where
     none : (f : List ℕ → List ℕ) (s : State) → IsFounded f now p s → IfDamage e (λ _. ⊥)
-    none f s d = sent_of (Err e) old new finds f s d
+    none f s d = sent_of {X = Unit {0}} (Err e) old new finds f s d
 
     pub sending_damages : (r : Result (List ℕ) HistoryError) → r ≡ Err (Store e) → IfSome told (λ c. IsReadTo (with_all c p.batch) p.count entries) →
         IfSome now (λ c. IfDamage e (IsShownBelow (with_all c q.batch) (length entries))) → IfSome now (λ c. IsCounted p c → IfErr r (λ x. IfStoreDamage x (IsDamage (with_all c p.batch))))

@@ -1,15 +1,12 @@
 -- What was written of a revision, and of revisions one after the other.
 use Rattle.std.specs.BTreeSet.{BTreeSet}
 use Rattle.std.specs.Prelude.{Contains}
-use Rattle.std.specs.FinMap.{get}
-use Rattle.std.specs.List.{flat_map}
 use Rattle.std.proofs.Common.{◌≡◌, ◌+◌, ◌<◌, ◌≤◌, ℕ, List, [], ◌∷◌, ◌++◌, Option, Some, Result, get_or, length, map, take, refl, sym, ap, ◌∙◌, subst}
-use Rattle.std.proofs.lemmas.List.{append-nil, append_assoc, map-append, take_all, take_more}
+use Rattle.std.proofs.lemmas.List.{append-nil, append_assoc, take_all, take_more}
 use Rattle.std.proofs.lemmas.List.Concat.{flat_map-append}
 use Rattle.mtn_base.specs.declared.id.Id.{Id}
-use Rattle.mtn_certs.specs.Certificates.{Certificate}
 use Rattle.mtn_changes.specs.declared.change.Revision.{Revision as Spelled}
-use Rattle.mtn_exports.specs.Exports.{AreCertsOf, IsSent, cert_packet, file_packet, new_to, packets_text, packets_with}
+use Rattle.mtn_exports.specs.Exports.{cert_packet, file_packet, new_to, packets_text, packets_with}
 use Rattle.mtn_exports.proofs.Contents.{contents_held, has_text}
 use Rattle.mtn_exports.proofs.Sending.{sent_more}
 use Rattle.mtn_exports.proofs.Writing.{new_contained}
@@ -21,7 +18,6 @@ use Rattle.mtn_history_laws.specs.History.{Revision}
 use Rattle.mtn_model.specs.Table.{Contents}
 use Rattle.mtn_model.specs.State.{State}
 use Rattle.mtn_packets.specs.Printed.{printed}
-use Rattle.mtn_packets.specs.declared.packet.Packet.{Packet}
 use Rattle.mtn_packets.specs.declared.packet.Packet.TheVariants as packet
 use Rattle.mtn_replay.specs.Lawful.{IsHistory, Spells}
 use Rattle.mtn_replay.specs.Making.{new_contents}

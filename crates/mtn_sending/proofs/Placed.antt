@@ -5,7 +5,7 @@ use Rattle.std.proofs.lemmas.List.{length-map}
 use Rattle.std.proofs.lemmas.Option.{slice_get-map}
 use Rattle.mtn_ancestry.specs.Log.{id_at, list_of}
 use Rattle.mtn_ancestry.specs.declared.pos.LogEntry.{LogEntry}
-use Rattle.mtn_answers.specs.Queries.{IsAnswer, IsHeld}
+use Rattle.mtn_answers.specs.Queries.{IsAnswer}
 use Rattle.mtn_answers.specs.declared.query.Query.TheVariants.{AncestryDifference}
 use Rattle.mtn_base.specs.declared.id.Id.{Id}
 use Rattle.mtn_branches.specs.Graphs.{IsHeldBy}

@@ -1,4 +1,4 @@
-use Rattle.std.proofs.Common.{◌≡◌, [], take}
+use Rattle.std.proofs.Common.{[], take}
 use Rattle.mtn_replay.specs.Making.{new_contents}
 use Rattle.mtn_sending.specs.Sending.{Adds}
 use Rattle.mtn_sending.proofs.brought.new_files.Given as goal

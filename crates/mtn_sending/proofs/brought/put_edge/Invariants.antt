@@ -1,5 +1,5 @@
 use Rattle.std.specs.Prelude.{filter_map}
-use Rattle.std.proofs.Common.{◌≡◌, take}
+use Rattle.std.proofs.Common.{take}
 use Rattle.mtn_replay.specs.Making.{new_content}
 use Rattle.mtn_sending.specs.Sending.{Adds}
 use Rattle.mtn_sending.proofs.brought.put_edge.Given as goal

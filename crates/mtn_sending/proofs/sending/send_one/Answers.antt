@@ -1,4 +1,4 @@
-use Rattle.std.proofs.Common.{Err, [], ◌++◌, map, refl, sym, ap, ◌∙◌, subst}
+use Rattle.std.proofs.Common.{Err, [], ◌++◌, map, sym, ap, ◌∙◌, subst}
 use Rattle.std.proofs.lemmas.Result.{err_from_is_err_and}
 use Rattle.mtn_exports.proofs.Contents.{has_text, text_spells}
 use Rattle.mtn_history.proofs.Founding.{back}
