@@ -4,3 +4,4 @@ pub mod ReadsLemmas
 pub mod KeptReading
 pub mod AllReading
 pub mod CertReading
+pub mod InputReading
