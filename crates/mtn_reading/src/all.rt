@@ -43,7 +43,7 @@ fn add(counts: &mut Counts, one: Counts)
 }
 
 /// Reads packets into a draft in their order, and counts what was not held before. The first refusal has its packet's number,
-/// from 1. An error leaves what the packets before it did.
+/// from 1. An error leaves what the packets before it kept.
 pub fn read_heads<I: Ident, K: Keeper>(
     alloc: Global,
     ident: &I,

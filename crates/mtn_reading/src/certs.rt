@@ -28,10 +28,7 @@ use mtn_records::Field;
 use std::alloc::Global;
 
 // The key of a certificate: that of its packet's id, or the one that alone has its packet's name.
-fn key_for<K: Keeper>(
-    draft: &mut Draft<'_, K>,
-    key: &PacketKey,
-) -> Result<Option<Id>, StoreError>
+fn key_for<K: Keeper>(draft: &mut Draft<'_, K>, key: &PacketKey) -> Result<Option<Id>, StoreError>
     ensures same_reference { draft.new.keeper.ghost_name ≡ draft.old.keeper.ghost_name }
     ensures stays { Stays K.contents K.leaves K.faults draft.old.keeper.now draft.new.keeper.now }
     ensures pending { draft.new.pending ≡ draft.old.pending }
@@ -124,11 +121,7 @@ fn record_key(alloc: Global, cert: &CertPacket, key: Id) -> Result<Vec<u8>, NoMe
 }
 
 // Holds a certificate of a revision that the log has, and answers whether it was not held.
-fn hold<K: Keeper>(
-    draft: &mut Draft<'_, K>,
-    cert: &CertPacket,
-    key: Id,
-) -> Result<bool, StoreError>
+fn hold<K: Keeper>(draft: &mut Draft<'_, K>, cert: &CertPacket, key: Id) -> Result<bool, StoreError>
     requires lawful { IsLawfulCertificate (certificate cert.now.revision cert.now.name key cert.now.value cert.now.signature) }
     ensures same_reference { draft.new.keeper.ghost_name ≡ draft.old.keeper.ghost_name }
     ensures stays { Stays K.contents K.leaves K.faults draft.old.keeper.now draft.new.keeper.now }

@@ -55,7 +55,12 @@ fn mismatch<R: Threads + Sync, I: Ident>(
     Ok(first_of(heads, &ids))
 }
 
-/// Reads the packets of an input into a draft, each as by the command that keeps what it holds, and counts what was not held before.
+/// Reads the packets of an input into a draft, in their order, each as by the command that keeps what it holds, and counts the
+/// files, revisions and certificates that were not held before. The first refusal is answered otherwise: BadPacket, with the first
+/// bad packet's number, for an input that is no packets; IdMismatch, for the first packet whose id is another than its payload's;
+/// and then that of the first packet whose command is refused. Only this last one has its packet's number, from 1, and the others
+/// have 0. All payloads are hashed by one call, each once; `rt` goes to it alone. The keeper is only asked. After an error what
+/// is pending may have what the packets before it kept: give the draft up. It takes memory for the payloads and for the ids.
 pub fn read<R: Threads + Sync, I: Ident, K: Keeper>(
     rt: &R,
     alloc: Global,

@@ -25,7 +25,7 @@ read_heads-requires-clause-ready g c = λ κs within.
     let payloads = c.deref-4.result.now in
     let same : packets_at payloads heads ≡ c.in-Ok.packets.items = (λ i. packets_at (c.deref-4.ensures.value i) (c.deref-3.ensures.value i)) ∙ c.in_ok-heads.ensures.packets in
     let none : None ≡ first_mismatch f 1 (packets_at payloads heads) = sym c.in_default.is ∙ c.in_ok-cause.ensures
-        ∙ (λ i. first_mismatch f 1 (packets_at ((c.deref-2.ensures.value ∙ sym c.deref-4.ensures.value) i) ((c.deref.ensures.value ∙ sym c.deref-3.ensures.value) i))) in
+    ∙ (λ i. first_mismatch f 1 (packets_at ((c.deref-2.ensures.value ∙ sym c.deref-4.ensures.value) i) ((c.deref.ensures.value ∙ sym c.deref-3.ensures.value) i))) in
     are_ready f payloads c.args.text.now heads c.in-Ok.packets.items same c.in-Ok.ensures.ok none
 
 pub returns-clause-reads : goal.returns-clause-reads
@@ -35,5 +35,5 @@ returns-clause-reads g c = λ k s told draft.
     let payloads = c.deref-4.result.now in
     let same : packets_at payloads heads ≡ c.in-Ok.packets.items = (λ i. packets_at (c.deref-4.ensures.value i) (c.deref-3.ensures.value i)) ∙ c.in_ok-heads.ensures.packets in
     let none : None ≡ first_mismatch f 1 (packets_at payloads heads) = sym c.in_default.is ∙ c.in_ok-cause.ensures
-        ∙ (λ i. first_mismatch f 1 (packets_at ((c.deref-2.ensures.value ∙ sym c.deref-4.ensures.value) i) ((c.deref.ensures.value ∙ sym c.deref-3.ensures.value) i))) in
+    ∙ (λ i. first_mismatch f 1 (packets_at ((c.deref-2.ensures.value ∙ sym c.deref-4.ensures.value) i) ((c.deref.ensures.value ∙ sym c.deref-3.ensures.value) i))) in
     matched f payloads k s c.args.text.now heads c.in-Ok.packets.items same c.in-Ok.ensures.ok none c.read_heads.result c.read_heads.new.draft.pending (c.read_heads.ensures.reads k s told draft)
