@@ -9,7 +9,7 @@ use Rattle.mtn_history.specs.Meta.{IsMetaOf}
 use Rattle.mtn_history.specs.Stands.{IsDraft}
 use Rattle.mtn_history.specs.declared.errors.HistoryError.{HistoryError}
 use Rattle.mtn_history.specs.declared.errors.HistoryError.TheVariants as history
-use Rattle.mtn_history.specs.declared.errors.StoreError.TheVariants.{Failed}
+use Rattle.mtn_history.specs.declared.errors.StoreError.TheVariants.{Damaged, Failed, NoMemory}
 use Rattle.mtn_history.specs.declared.pending.Pending.{Pending}
 use Rattle.mtn_imports.specs.Imports.{Kept, ReadsFrom, with_more}
 use Rattle.mtn_model.specs.State.{State}
@@ -18,7 +18,7 @@ use Rattle.mtn_packets.specs.declared.packet.Packet.{Packet}
 use Rattle.mtn_ports.specs.Causes.{Rose}
 use Rattle.mtn_ports.specs.Kept.{with_all}
 use Rattle.mtn_reading.specs.Heads.{packet_at, packets_at}
-use Rattle.mtn_reading.specs.Reading.{Comes, IfReadDamage, IsNumbered, ReadsTo, kept_of}
+use Rattle.mtn_reading.specs.Reading.{Comes, IfReadDamage, IsNumbered, ReadsTo, kept_of, undamaged}
 use Rattle.mtn_reading.specs.declared.counts.Counts.{Counts}
 use Rattle.mtn_reading.specs.declared.error.ReadError.{ReadError}
 use Rattle.mtn_reading.specs.declared.error.ReadError.TheVariants.{Refused, Store}
@@ -80,3 +80,10 @@ module _ (number : ℕ) (error : HistoryError) (e : ReadError) (named : IsNumber
       by : (error : HistoryError) → IsNumbered number error e → error ≡ history.Store Failed
       by (history.Refused cause) at = absurd (let x = sym at ∙ is in cc)
       by (history.Store x) at = let same : Store x ≡ Store Failed = sym at ∙ is in cc
+
+-- an error without its damage says no more
+pub quiet : (f : List ℕ → List ℕ) (c : Contents) (s : State) (packet : Packet) (error : HistoryError) (p : Pending) → ReadsTo f c s packet (Err error) p → ReadsTo f c s packet (Err (undamaged error)) p
+quiet f c s packet (history.Refused cause) p reads = reads
+quiet f c s packet (history.Store Failed) p reads = tt
+quiet f c s packet (history.Store (Damaged d)) p reads = tt
+quiet f c s packet (history.Store NoMemory) p reads = tt

@@ -9,7 +9,7 @@ ghost use Rattle.mtn_model.specs.Table.{Contents};
 ghost use Rattle.mtn_ports.specs.Causes.{Rose};
 ghost use Rattle.mtn_ports.specs.Kept.{Stays, with_all};
 ghost use Rattle.mtn_reading.specs.Heads.{IsWithin, packets_at};
-ghost use Rattle.mtn_reading.specs.Reading.{Comes, IfReadDamage, IsNumbered, IsOne, IsReadyHead, kept_of};
+ghost use Rattle.mtn_reading.specs.Reading.{Comes, IfReadDamage, IsNumbered, IsOne, IsReadyHead, kept_of, undamaged as undamaged_of};
 
 use crate::head::Head;
 use crate::one::read_one;
@@ -26,6 +26,17 @@ fn numbered(packet: u64, error: HistoryError) -> ReadError
     match error {
         HistoryError::Refused(cause) => ReadError::Refused(Refusal { packet, cause }),
         HistoryError::Store(error) => ReadError::Store(error),
+    }
+}
+
+// An error behind the first packet. A damage is then one of the records together with what the packets before put, which is not known
+// to be one of the keeper's: memory is said to be wanting.
+fn undamaged(error: HistoryError) -> HistoryError
+    ensures { result ≡ undamaged_of error }
+{
+    match error {
+        HistoryError::Store(StoreError::Damaged(_)) => HistoryError::Store(StoreError::NoMemory),
+        other => other,
     }
 }
 
@@ -57,8 +68,8 @@ pub fn read_heads<I: Ident, K: Keeper>(
     ensures stays { Stays K.contents K.leaves K.faults draft.old.keeper.now draft.new.keeper.now }
     ensures reads { (c : Contents) (s : State) → K.contents draft.new.keeper.now ≡ Some c → IsDraft (I.meaning ident.now) c draft.old.pending s
         → Comes (ReadsFrom (I.meaning ident.now) 1 s (packets_at payloads.now heads.now)) (I.meaning ident.now) c result draft.new.pending }
-    ensures damaged { IfSome (K.contents draft.new.keeper.now) (λ c. IsMetaOf (with_all c draft.new.pending.batch) (record { count = draft.new.pending.count; is_new = draft.new.pending.is_new }) →
-        IfErr result (λ e. IfReadDamage e (IsDamage (with_all c draft.new.pending.batch)))) }
+    ensures damaged { IfSome (K.contents draft.new.keeper.now) (λ c. IsMetaOf (with_all c draft.old.pending.batch) (record { count = draft.old.pending.count; is_new = draft.old.pending.is_new }) →
+        IfErr result (λ e. IfReadDamage e (IsDamage (with_all c draft.old.pending.batch)))) }
     ensures failed { result ≡ Err (ReadError.Store StoreError.Failed) → Rose (K.faults draft.old.keeper.now) (K.faults draft.new.keeper.now) }
 {
     let mut counts = Counts::NONE;
@@ -67,7 +78,12 @@ pub fn read_heads<I: Ident, K: Keeper>(
         number += 1;
         match read_one(alloc, ident, draft, head, payloads) {
             Ok(one) => add(&mut counts, one),
-            Err(error) => return Err(numbered(number, error)),
+            Err(error) => {
+                if number == 1 {
+                    return Err(numbered(number, error));
+                }
+                return Err(numbered(number, undamaged(error)));
+            }
         }
     }
     Ok(counts)

@@ -11,6 +11,7 @@ use Rattle.mtn_reading.proofs.all.read_heads.Given as goal
 abbrev pub invariant-loop-head : goal.invariant-loop-head
 invariant-loop-head g l = record {
   number : l.number ≡ l.head-index;
+  first : l.head-index ≡ 0 → l.draft.pending ≡ l.fn.draft.pending;
   files : l.counts.files ≤ l.head-index;
   revisions : l.counts.revisions ≤ l.head-index;
   certs : l.counts.certs ≤ l.head-index;
