@@ -1,11 +1,7 @@
 -- Packet by packet.
-use Rattle.std.proofs.Common.{◌≡◌, ◌+◌, ◌≤◌, Result, Ok, Err, ap, ◌∙◌, subst, arith}
-use Rattle.mtn_history.specs.declared.errors.HistoryError.{HistoryError}
+use Rattle.std.proofs.Common.{◌+◌, ap, ◌∙◌, arith}
 use Rattle.mtn_imports.specs.Imports.{Kept}
 use Rattle.mtn_ports.proofs.KeptLemmas.{stays_trans}
-use Rattle.mtn_reading.specs.Reading.{ReadsTo}
-use Rattle.mtn_reading.specs.Heads.{packet_at}
-use Rattle.mtn_reading.specs.declared.counts.Counts.{Counts}
 use Rattle.mtn_reading.proofs.AllReading.{ended, reached, stopped}
 use Rattle.mtn_reading.proofs.all.read_heads.Goals as goal
 
