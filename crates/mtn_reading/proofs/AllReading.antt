@@ -1,8 +1,7 @@
 -- The packets of some heads, one after the other.
 use Rattle.std.specs.Prelude.{IfSome}
-use Rattle.std.proofs.Common.{◌≡◌, ◌<◌, ◌≤◌, ◌+◌, ℕ, suc, List, [], ◌∷◌, ◌++◌, length, get_or, take, drop, Option, Some, None, Result, Ok, Err, refl, sym, ap, ◌∙◌, subst, arith}
+use Rattle.std.proofs.Common.{◌≡◌, ◌<◌, ◌≤◌, ◌+◌, ℕ, suc, List, length, get_or, take, drop, Option, Some, None, Ok, Err, sym, ◌∙◌, subst, arith}
 use Rattle.std.proofs.lemmas.List.{take_all}
-use Rattle.mtn_base.specs.declared.refusal.Refusal.{Refusal}
 use Rattle.mtn_history.specs.Damage.{IsDamage}
 use Rattle.mtn_history.specs.Errors.{IfStoreDamage}
 use Rattle.mtn_history.specs.Meta.{IsMetaOf}
@@ -15,13 +14,12 @@ use Rattle.mtn_imports.specs.Imports.{Kept, ReadsFrom, with_more}
 use Rattle.mtn_model.specs.State.{State}
 use Rattle.mtn_model.specs.Table.{Contents}
 use Rattle.mtn_packets.specs.declared.packet.Packet.{Packet}
-use Rattle.mtn_ports.specs.Causes.{Rose}
 use Rattle.mtn_ports.specs.Kept.{with_all}
 use Rattle.mtn_reading.specs.Heads.{packet_at, packets_at}
 use Rattle.mtn_reading.specs.Reading.{Comes, IfReadDamage, IsNumbered, ReadsTo, kept_of, undamaged}
 use Rattle.mtn_reading.specs.declared.counts.Counts.{Counts}
 use Rattle.mtn_reading.specs.declared.error.ReadError.{ReadError}
-use Rattle.mtn_reading.specs.declared.error.ReadError.TheVariants.{Refused, Store}
+use Rattle.mtn_reading.specs.declared.error.ReadError.TheVariants.{Store}
 use Rattle.mtn_reading.specs.declared.head.Head.{Head}
 use Rattle.mtn_reading.proofs.MismatchLemmas.{about, so_many, up_to}
 use Rattle.mtn_reading.proofs.ReadsLemmas.{one_more, refused}

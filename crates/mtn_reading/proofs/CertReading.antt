@@ -1,7 +1,7 @@
 -- A certificate that is read.
-use Rattle.std.specs.Prelude.{IfSome, IsSome, MatchBool, is_none, nat_le}
+use Rattle.std.specs.Prelude.{IfSome, IsSome, is_none, nat_le}
 use Rattle.std.specs.FinMap.{get}
-use Rattle.std.proofs.Common.{◌≡◌, ◌≤◌, ◌<◌, ℕ, Bool, true, false, cond, List, [], ◌∷◌, ◌++◌, length, Option, Some, None, Result, Ok, Err, refl, sym, ap, ◌∙◌, subst, inl, inr, arith}
+use Rattle.std.proofs.Common.{◌≡◌, ◌≤◌, ℕ, Bool, true, false, cond, List, [], ◌++◌, length, Option, Some, None, Result, Ok, Err, refl, sym, ap, ◌∙◌, subst, inl, inr, arith}
 use Rattle.std.proofs.lemmas.Bool.Decides.{nat_tests}
 use Rattle.mtn_base.specs.declared.id.Id.{Id}
 use Rattle.mtn_base.specs.declared.limits.TheConstants.{MAX_TEXT}
@@ -9,7 +9,7 @@ use Rattle.mtn_base.specs.declared.refusal.Cause.{Cause}
 use Rattle.mtn_base.specs.declared.refusal.Cause.TheVariants.{TextTooLong, UnknownRevision}
 use Rattle.mtn_certs.specs.Certificates.{Certificate, IsIdBytes, IsLawfulCertificate, certificate, is_field}
 use Rattle.mtn_changeset_laws.specs.Changes.{or_else}
-use Rattle.mtn_history.specs.Certificates.{CertDamage, KeyDamage, cert_key}
+use Rattle.mtn_history.specs.Certificates.{KeyDamage, cert_key}
 use Rattle.mtn_history.specs.Damage.{IsDamage}
 use Rattle.mtn_history.specs.Errors.{IfDamage, IfStoreDamage}
 use Rattle.mtn_history.specs.Records.{record_puts}
@@ -21,7 +21,7 @@ use Rattle.mtn_history.specs.declared.errors.StoreError.{StoreError}
 use Rattle.mtn_history.specs.declared.errors.StoreError.TheVariants.{Damaged, Failed, NoMemory}
 use Rattle.mtn_history.specs.declared.pending.Pending.{Pending}
 use Rattle.mtn_imports.specs.Imports.{IsKeyFor, cert_refusal, kept, new_cert, one_new, too_long, unknown_key, unknown_revision, with_cert_of}
-use Rattle.mtn_model.specs.State.{Holds, State}
+use Rattle.mtn_model.specs.State.{State}
 use Rattle.mtn_model.specs.Table.{Contents, body_at}
 use Rattle.mtn_packets.specs.declared.packet.Packet.TheVariants as packet
 use Rattle.mtn_packets.specs.declared.packet.PacketKey.{PacketKey}

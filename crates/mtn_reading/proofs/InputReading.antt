@@ -1,7 +1,7 @@
 -- The packets of an input.
 use Rattle.std.specs.Prelude.{◌&&◌, ◌==◌, bytes_eq, nat_le, not}
 use Rattle.std.specs.List.{list_all}
-use Rattle.std.proofs.Common.{◌≡◌, ◌≤◌, ◌<◌, ◌+◌, ℕ, Bool, true, false, cond, zero, suc, List, [], ◌∷◌, ◌++◌, length, get_or, map, All, Option, Some, None, Result, Ok, Err, refl, sym, ap, ◌∙◌, subst, inl, inr, arith}
+use Rattle.std.proofs.Common.{◌≡◌, ◌≤◌, ◌<◌, ◌+◌, ℕ, Bool, true, false, cond, zero, suc, List, [], ◌∷◌, length, get_or, All, Option, Some, None, Result, Ok, Err, refl, sym, ap, ◌∙◌, subst, inl, inr, arith}
 use Rattle.std.proofs.lemmas.Bool.Decides.{nat_tests}
 use Rattle.std.proofs.lemmas.Slice.Eq.{bytes_eq-Decides}
 use Rattle.mtn_base.specs.Hex.{id_of}
@@ -11,7 +11,7 @@ use Rattle.mtn_base.specs.declared.refusal.Cause.TheVariants.{IdMismatch}
 use Rattle.mtn_base.specs.declared.refusal.Refusal.{Refusal}
 use Rattle.mtn_certs.specs.Certificates.{is_field, is_field_byte}
 use Rattle.mtn_changeset_laws.specs.Changes.{or_else}
-use Rattle.mtn_imports.specs.Imports.{AreRead, IsUnread, Kept, Matched, ReadsFrom, ReadsInput, first_mismatch, kept, mismatch, other_id, refusal_of_all}
+use Rattle.mtn_imports.specs.Imports.{Kept, Matched, ReadsFrom, ReadsInput, first_mismatch, kept, mismatch, other_id, refusal_of_all}
 use Rattle.mtn_model.specs.State.{State}
 use Rattle.mtn_model.specs.Table.{Contents}
 use Rattle.mtn_packets.specs.Faults.{IsError}
@@ -20,7 +20,7 @@ use Rattle.mtn_packets.specs.declared.error.PacketError.{PacketError}
 use Rattle.mtn_packets.specs.declared.error.PacketError.TheVariants as fault
 use Rattle.mtn_packets.specs.declared.packet.Packet.{Packet}
 use Rattle.mtn_history.specs.declared.pending.Pending.{Pending}
-use Rattle.mtn_reading.specs.Heads.{IsWithin, packet_at, packets_at}
+use Rattle.mtn_reading.specs.Heads.{packet_at, packets_at}
 use Rattle.mtn_reading.specs.Reading.{Comes, IsFault, IsReadyHead, kept_of}
 use Rattle.mtn_reading.specs.declared.counts.Counts.{Counts}
 use Rattle.mtn_reading.specs.declared.error.ReadError.{ReadError}

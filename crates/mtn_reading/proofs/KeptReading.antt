@@ -1,7 +1,7 @@
 -- A file and a revision that are read.
-use Rattle.std.specs.Prelude.{IfSome, IsSome, MatchBool, is_none, is_some, not}
+use Rattle.std.specs.Prelude.{IsSome, MatchBool, not}
 use Rattle.std.specs.FinMap.{get}
-use Rattle.std.proofs.Common.{◌≡◌, ◌≢◌, ◌+◌, nat_eq, ℕ, Bool, true, false, cond, List, [], ◌∷◌, ◌++◌, length, Option, Some, None, Result, Ok, Err, refl, sym, ap, ◌∙◌, subst, inl, inr, ⊎_elim, arith}
+use Rattle.std.proofs.Common.{◌≡◌, ◌≢◌, ◌+◌, nat_eq, ℕ, Bool, true, false, List, [], ◌∷◌, ◌++◌, length, Option, Some, None, Ok, Err, refl, sym, ap, ◌∙◌, inl, inr, arith}
 use Rattle.std.proofs.lemmas.Bool.Decides.{nat_tests}
 use Rattle.mtn_base.specs.declared.id.Id.{Id}
 use Rattle.mtn_history.specs.Files.{IsFileHeld, KeepsFile}
@@ -11,7 +11,7 @@ use Rattle.mtn_history.specs.declared.errors.HistoryError.TheVariants.{Refused, 
 use Rattle.mtn_history.specs.declared.pending.Pending.{Pending}
 use Rattle.mtn_imports.specs.Imports.{kept, one_new}
 use Rattle.mtn_model.specs.State.{Logged, State}
-use Rattle.mtn_model.specs.Table.{Contents, Table, body_at}
+use Rattle.mtn_model.specs.Table.{Contents, body_at}
 use Rattle.mtn_packets.specs.declared.packet.Packet.TheVariants as packet
 use Rattle.mtn_ports.specs.Kept.{with_all}
 use Rattle.mtn_put_revision.specs.Accepting.{KeepsRevision}
@@ -19,8 +19,7 @@ use Rattle.mtn_replay.specs.Accepting.{Decides, logged_beside}
 use Rattle.mtn_replay.specs.Files.{with_file}
 use Rattle.mtn_replay.specs.Texts.{text_under}
 use Rattle.mtn_reading.specs.Counting.{one_of}
-use Rattle.mtn_reading.specs.Reading.{ReadsTo, kept_of}
-use Rattle.mtn_reading.specs.declared.counts.Counts.{Counts}
+use Rattle.mtn_reading.specs.Reading.{ReadsTo}
 
 -- table 2 of a draft is the files
 files_of : (b : Bool) (f : List ℕ → List ℕ) (c : Contents) (s : State) → MatchBool b (IsNew c s) (StandsFor f c s) → c 2 ≡ s.files

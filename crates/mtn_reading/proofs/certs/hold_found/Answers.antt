@@ -1,4 +1,3 @@
-use Rattle.std.proofs.Common.{Result, Ok, Err}
 use Rattle.std.proofs.lemmas.Result.{err_from_is_err_and}
 use Rattle.mtn_reading.proofs.CertReading.{cert_reads, key_errs, known, lawful_parts}
 use Rattle.mtn_reading.proofs.certs.hold_found.Goals as goal

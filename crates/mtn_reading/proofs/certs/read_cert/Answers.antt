@@ -1,9 +1,9 @@
-use Rattle.std.proofs.Common.{◌≡◌, Result, Ok, Err, sym, ap, ◌∙◌, subst}
+use Rattle.std.proofs.Common.{sym, subst}
 use Rattle.std.proofs.lemmas.Result.{err_from_is_err_and}
 use Rattle.mtn_history.specs.Stands.{IsDraft}
 use Rattle.mtn_history.specs.declared.pending.Pending.{Pending}
-use Rattle.mtn_ports.proofs.KeptLemmas.{rose_before, stays_trans}
-use Rattle.mtn_reading.proofs.CertReading.{spoken_errs, told_key, told_never, told_text}
+use Rattle.mtn_ports.proofs.KeptLemmas.{stays_trans}
+use Rattle.mtn_reading.proofs.CertReading.{spoken_errs, told_key, told_text}
 use Rattle.mtn_reading.proofs.certs.read_cert.Goals as goal
 
 pub returns-in_err-found-clause-reads : goal.returns-in_err-found-clause-reads

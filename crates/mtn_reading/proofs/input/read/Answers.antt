@@ -1,7 +1,6 @@
 -- The input, all ids, the packets.
-use Rattle.std.proofs.Common.{◌≡◌, List, None, refl, sym, ◌∙◌}
+use Rattle.std.proofs.Common.{◌≡◌, None, sym, ◌∙◌}
 use Rattle.mtn_imports.specs.Imports.{first_mismatch}
-use Rattle.mtn_packets.specs.declared.packet.Packet.{Packet}
 use Rattle.mtn_reading.specs.Heads.{packets_at}
 use Rattle.mtn_reading.proofs.InputReading.{are_ready, matched, mismatched, unread}
 use Rattle.mtn_reading.proofs.input.read.Goals as goal

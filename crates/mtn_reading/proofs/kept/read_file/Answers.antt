@@ -1,5 +1,5 @@
 use Rattle.std.specs.Prelude.{IfSome}
-use Rattle.std.proofs.Common.{◌≡◌, Result, Some, sym, ap, ◌∙◌, subst, Option}
+use Rattle.std.proofs.Common.{sym, subst, Option}
 use Rattle.std.proofs.lemmas.Result.{err_from_is_err_and}
 use Rattle.mtn_history.specs.Files.{IsFileHeld}
 use Rattle.mtn_history.specs.Stands.{IsDraft}

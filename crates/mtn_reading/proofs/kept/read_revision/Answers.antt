@@ -1,4 +1,3 @@
-use Rattle.std.proofs.Common.{◌≡◌, Result, Ok, Err}
 use Rattle.std.proofs.lemmas.Result.{err_from_is_err_and}
 use Rattle.mtn_reading.proofs.KeptReading.{revision_errs, revision_reads}
 use Rattle.mtn_reading.proofs.kept.read_revision.Goals as goal
