@@ -28,8 +28,8 @@ pub fn read<R: Threads + Sync, I: Ident, K: Keeper>(
     ensures stays { Stays K.contents K.leaves K.faults draft.old.keeper.now draft.new.keeper.now }
     ensures reads { (c : Contents) (s : State) → K.contents draft.new.keeper.now ≡ Some c → IsDraft (I.meaning ident.now) c draft.old.pending s
         → Comes (ReadsInput (I.meaning ident.now) s text.now) (I.meaning ident.now) c result draft.new.pending }
-    ensures damaged { IfSome (K.contents draft.new.keeper.now) (λ c. IsMetaOf (with_all c draft.new.pending.batch) (record { count = draft.new.pending.count; is_new = draft.new.pending.is_new }) →
-        IfErr result (λ e. IfReadDamage e (IsDamage (with_all c draft.new.pending.batch)))) }
+    ensures damaged { IfSome (K.contents draft.new.keeper.now) (λ c. IsMetaOf (with_all c draft.old.pending.batch) (record { count = draft.old.pending.count; is_new = draft.old.pending.is_new }) →
+        IfErr result (λ e. IfReadDamage e (IsDamage (with_all c draft.old.pending.batch)))) }
     ensures failed { result ≡ Err (ReadError.Store StoreError.Failed) → Rose (K.faults draft.old.keeper.now) (K.faults draft.new.keeper.now) }
 {
     mtn_reading::read(rt, alloc, ident, draft, text)
