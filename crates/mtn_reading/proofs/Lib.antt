@@ -1,3 +1,7 @@
 pub mod HeadLemmas
 pub mod MismatchLemmas
 pub mod ReadsLemmas
+pub mod KeptReading
+pub mod AllReading
+pub mod CertReading
+pub mod InputReading

@@ -1,16 +1,10 @@
 -- The first mismatch, found packet by packet.
-use Rattle.std.specs.Prelude.{bytes_eq}
-use Rattle.std.proofs.Common.{◌≡◌, ◌<◌, ◌≤◌, ◌+◌, ℕ, Bool, true, false, cond, zero, suc, List, [], ◌∷◌, ◌++◌, length, get_or, map, take, drop, All, Option, Some, None, refl, sym, ap, ◌∙◌, subst, arith}
+use Rattle.std.proofs.Common.{◌≡◌, ◌<◌, ◌≤◌, ◌+◌, ℕ, zero, suc, List, [], ◌∷◌, ◌++◌, length, get_or, map, take, drop, Option, Some, None, refl, sym, ap, ◌∙◌, subst, arith}
 use Rattle.std.proofs.lemmas.List.{take_all, take_more}
-use Rattle.std.proofs.lemmas.Slice.Eq.{bytes_eq-Decides}
-use Rattle.mtn_base.specs.Hex.{id_of}
-use Rattle.mtn_base.specs.declared.id.Id.{Id}
 use Rattle.mtn_base.specs.declared.refusal.Cause.{Cause}
-use Rattle.mtn_base.specs.declared.refusal.Cause.TheVariants.{IdMismatch}
 use Rattle.mtn_changeset_laws.specs.Changes.{or_else}
-use Rattle.mtn_imports.specs.Imports.{first_mismatch, mismatch, other_id}
+use Rattle.mtn_imports.specs.Imports.{first_mismatch, mismatch}
 use Rattle.mtn_packets.specs.declared.packet.Packet.{Packet}
-use Rattle.mtn_packets.specs.declared.packet.Packet.TheVariants as packet
 use Rattle.mtn_reading.specs.Heads.{packet_at, packets_at}
 use Rattle.mtn_reading.specs.declared.head.Head.{Head}
 

@@ -1,8 +1,8 @@
 -- Packets that are read one after the other.
-use Rattle.std.proofs.Common.{◌≡◌, ◌+◌, ℕ, List, [], ◌∷◌, ◌++◌, length, Option, Some, None, refl, sym, ap, ◌∙◌, subst, arith}
+use Rattle.std.proofs.Common.{◌≡◌, ◌+◌, ℕ, List, [], ◌∷◌, ◌++◌, length, Some, None, refl, ap, ◌∙◌, subst, arith}
 use Rattle.mtn_base.specs.declared.refusal.Cause.{Cause}
 use Rattle.mtn_base.specs.declared.refusal.Refusal.{Refusal}
-use Rattle.mtn_imports.specs.Imports.{Before, Kept, Reads, ReadsFrom, kept, with_more}
+use Rattle.mtn_imports.specs.Imports.{Kept, Reads, ReadsFrom, kept, with_more}
 use Rattle.mtn_model.specs.State.{State}
 use Rattle.mtn_packets.specs.declared.packet.Packet.{Packet}
 

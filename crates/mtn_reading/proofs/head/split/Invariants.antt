@@ -1,5 +1,5 @@
 use Rattle.std.proofs.Common.{◌≡◌, ◌++◌}
-use Rattle.mtn_reading.specs.Heads.{AreHeads, IsWithin, packets_at}
+use Rattle.mtn_reading.specs.Heads.{AreHeads}
 use Rattle.mtn_packets.specs.declared.packet.Packet.{Packet}
 use Rattle.std.proofs.Common.{List}
 use Rattle.mtn_reading.proofs.head.split.Given as goal
