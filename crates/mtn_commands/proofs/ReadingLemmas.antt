@@ -24,7 +24,7 @@ use Rattle.mtn_reading.specs.declared.error.ReadError.TheVariants as error
 use Rattle.mtn_step.specs.Step.{ReadsPackets, Steps, read_outcome}
 use Rattle.mtn_step.specs.declared.call.Call.TheVariants.{Read}
 use Rattle.mtn_commands.specs.Drafts.{Counts as AreCounted, Performs, drafted}
-use Rattle.mtn_commands.specs.Reading.{ToldCounts}
+use Rattle.mtn_commands.specs.Reading.{ToldCounts, command_error}
 use Rattle.mtn_commands.specs.declared.error.CommandError.{CommandError}
 use Rattle.mtn_commands.specs.declared.error.CommandError.TheVariants as command
 use Rattle.mtn_commands.proofs.ReasonLemmas.{reason_of}
@@ -56,20 +56,17 @@ module _ (f : List ℕ → List ℕ) (payload : List ℕ) {K : Type 0} (contents
   }
   read_done counts (Err e) came is = subst (λ (x : CommandError). Target (Err x)) (sym is) wanting
 
-  -- one was refused, or all
-  pub read_refused : (refusal : Refusal) → Came (Err (error.Refused refusal)) → Target (Err (command.Refused refusal))
-  read_refused refusal came = record {
+  -- they were not
+  pub read_failed : (e : ReadError) (r : CommandError) → r ≡ command_error e → Came (Err e) → IfSome (contents new) (λ c. IsCounted before c → IfReadDamage e (IsDamage (with_all c before.batch))) → (e ≡ error.Store Failed → Rose (faults old) (faults new)) → Target (Err r)
+  read_failed (error.Refused refusal) r is came damaged failed = subst (λ (x : CommandError). Target (Err x)) (sym is) record {
     stays = stays;
     done = λ c s told draft. let e = came c s told draft in record { refusal = Some refusal; after = e.0; new = e.1; reads = e.2; is = refl };
     reason = λ counts. tt;
     quiet = tt;
   }
-
-  -- the store gave an error
-  pub read_failed : (e : StoreError) → Came (Err (error.Store e)) → IfSome (contents new) (λ c. IsCounted before c → IfDamage e (IsDamage (with_all c before.batch))) → (e ≡ Failed → Rose (faults old) (faults new)) → Target (Err (command.Store e))
-  read_failed e came damaged failed = record {
+  read_failed (error.Store e) r is came damaged failed = subst (λ (x : CommandError). Target (Err x)) (sym is) record {
     stays = stays;
     done = λ c s told draft. came c s told draft;
-    reason = λ counts. reason_of (drafted before (contents new)) (faults old) (faults new) e failed (damage_of (contents new) before e damaged counts);
+    reason = λ counts. reason_of (drafted before (contents new)) (faults old) (faults new) e (λ same. failed (ap error.Store same)) (damage_of (contents new) before e damaged counts);
     quiet = tt;
   }

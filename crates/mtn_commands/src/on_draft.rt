@@ -34,7 +34,7 @@ pub fn on_draft<I: Ident, K: Keeper>(
     payload: &[u8],
     draft: &mut Draft<'_, K>,
 ) -> Result<Reply, HistoryError>
-    requires { call.now ≢ Call.Read }
+    requires other { call.now ≢ Call.Read }
     ensures same_reference { draft.new.keeper.ghost_name ≡ draft.old.keeper.ghost_name }
     ensures replies { Replies (I.meaning ident.now) K.contents K.leaves K.faults draft.old.keeper.now draft.new.keeper.now draft.old.pending draft.new.pending
         (may_conflict (Some call.now)) (Steps (I.meaning ident.now) call.now payload.now) result }

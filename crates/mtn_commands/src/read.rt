@@ -1,7 +1,7 @@
 // The command `read`.
 ghost use Rattle.std.specs.Prelude.{◌≡◌, IfOk, false};
 ghost use Rattle.mtn_commands.specs.Drafts.{Performs};
-ghost use Rattle.mtn_commands.specs.Reading.{ToldCounts};
+ghost use Rattle.mtn_commands.specs.Reading.{ToldCounts, command_error};
 ghost use Rattle.mtn_imports.specs.Imports.{kept_text};
 ghost use Rattle.mtn_reading.specs.Reading.{kept_of};
 ghost use Rattle.mtn_step.specs.Step.{Steps};
@@ -44,6 +44,16 @@ fn told(alloc: Global, new: &Counts) -> Result<Reply, CommandError>
     }
 }
 
+// The same error for a command.
+fn of_command(error: ReadError) -> CommandError
+    ensures { result ≡ command_error error }
+{
+    match error {
+        ReadError::Refused(refusal) => CommandError::Refused(refusal),
+        ReadError::Store(error) => CommandError::Store(error),
+    }
+}
+
 /// Reads packets: all are kept, or none, and answers how many files, revisions and certificates are new.
 pub fn read<R: Threads + Sync, I: Ident, K: Keeper>(
     rt: &R,
@@ -58,7 +68,6 @@ pub fn read<R: Threads + Sync, I: Ident, K: Keeper>(
 {
     match mtn_reading::read(rt, alloc, ident, draft, payload) {
         Ok(new) => told(alloc, &new),
-        Err(ReadError::Refused(refusal)) => Err(CommandError::Refused(refusal)),
-        Err(ReadError::Store(error)) => Err(CommandError::Store(error)),
+        Err(error) => Err(of_command(error)),
     }
 }

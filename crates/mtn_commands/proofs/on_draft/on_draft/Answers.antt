@@ -63,4 +63,4 @@ pub returns-in-Packets-clause-replies : goal.returns-in-Packets-clause-replies
 returns-in-Packets-clause-replies g c = rw c.in-Packets.is (replies_as _ _ _ _ _ _ _ _ _ _ c.packets.result c.told-in-Packets.result c.told-in-Packets.ensures c.packets.ensures.drafts)
 
 pub unreachable-requires : goal.unreachable-requires
-unreachable-requires g c = c.requires c.in-Read.is
+unreachable-requires g c = c.requires.other c.in-Read.is
