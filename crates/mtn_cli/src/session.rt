@@ -84,7 +84,16 @@ pub fn run_script<R: Threads + Sync, I: Ident, O: Sink, K: Keeper>(
 {
     let mut memory = Memory::new(alloc);
     match script {
-        Script::Bare { job } => one(rt, alloc, ident, Form::Plain, job, &mut memory, sink, keeper),
+        Script::Bare { job } => one(
+            rt,
+            alloc,
+            ident,
+            Form::Plain,
+            job,
+            &mut memory,
+            sink,
+            keeper,
+        ),
         Script::Framed { jobs } => run_jobs(rt, alloc, ident, jobs, &mut memory, sink, keeper),
     }
 }
