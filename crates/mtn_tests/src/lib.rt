@@ -1,7 +1,9 @@
-//! What has to be a test: the keeper over SQLite databases in memory, which values cross threads, and that pieces of work
-//! run at the same time. All other cases are lines of data (`mtn_cases_..`).
+//! What has to be a test: the keeper over SQLite databases in memory, which values cross threads, that pieces of work run at the
+//! same time, and how often the ident is asked. All other cases are lines of data (`mtn_cases_..`).
 #![tactic(auto)]
 
+#[cfg(test)]
+mod counting;
 #[cfg(test)]
 mod keeper;
 #[cfg(test)]

@@ -1,0 +1,76 @@
+// That `read` hashes the payloads of all packets by one call, and nothing besides. No clause says how often the ident is asked.
+ghost use Rattle.sha1.specs.Sha1.{sha1};
+
+use mtn_base::{Bytes, Id, NoMemory, Text};
+use mtn_cli::run;
+use mtn_ports::{Batch, Ident, MemKeeper, MemSink, MemSource, Sha1One};
+use std::alloc::Global;
+use std::sync::atomic::{AtomicU64, Ordering};
+use std::test::Fail;
+use std::thread::Threads;
+
+// `abc`, nothing and `a`, each as a packet.
+const PACKETS: &[u8] = b"[fdata a9993e364706816aba3e25717850c26c9cd0d89d]\nYWJj\n[end]\n[fdata da39a3ee5e6b4b0d3255bfef95601890afd80709]\n[end]\n[fdata 86f7e437faa5a7fce15d1ddcb9eaeaea377667b8]\nYQ==\n[end]\n";
+
+// SHA-1 that counts how often one text and how often many are hashed, and how many these are.
+#[derive(Drop)]
+struct Counting {
+    single: AtomicU64,
+    calls: AtomicU64,
+    texts: AtomicU64,
+}
+
+impl Ident for Counting {
+    ghost meaning = { λ _. sha1 };
+
+    fn pass(&self, _piece: usize) {}
+
+    fn id(&self, text: &[u8]) -> Id {
+        self.single.fetch_add(1, Ordering::SeqCst);
+        Sha1One.id(text)
+    }
+
+    fn ids<R: Threads + Sync>(
+        &self,
+        rt: &R,
+        alloc: Global,
+        texts: &[Text],
+    ) -> Result<Vec<Id>, NoMemory> {
+        self.calls.fetch_add(1, Ordering::SeqCst);
+        self.texts.fetch_add(texts.len() as u64, Ordering::SeqCst);
+        Sha1One.ids(rt, alloc, texts)
+    }
+}
+
+// The status of `read` of the packets, over an empty store in memory.
+fn read<R: Threads + Sync>(rt: &R, alloc: Global, ident: &Counting) -> Option<u8> {
+    let mut words = Vec::new(alloc);
+    words.push(Bytes::from_slice(alloc, b"read").ok()?).ok()?;
+    let mut source = MemSource::new(PACKETS.to_vec(alloc).ok()?, Vec::new(alloc));
+    let mut sink = MemSink::new(alloc, 1000, Vec::new(alloc)).ok()?;
+    let mut keeper = MemKeeper::new(Batch::new(alloc), Vec::new(alloc)).ok()?;
+    let status = run(
+        rt,
+        alloc,
+        &words,
+        ident,
+        &mut source,
+        &mut sink,
+        &mut keeper,
+    );
+    Some(status.number())
+}
+
+#[test]
+fn payloads_are_hashed_by_one_call(rt: HostRuntime) -> Result<(), Fail> {
+    let ident = Counting {
+        single: AtomicU64::new(0),
+        calls: AtomicU64::new(0),
+        texts: AtomicU64::new(0),
+    };
+    assert_eq!(rt; read(&rt, rt.alloc(), &ident), Some(0));
+    assert_eq!(rt; ident.calls.load(Ordering::SeqCst), 1);
+    assert_eq!(rt; ident.texts.load(Ordering::SeqCst), 3);
+    assert_eq!(rt; ident.single.load(Ordering::SeqCst), 0);
+    Ok(())
+}
