@@ -712,7 +712,7 @@ TOYS = [lone_sent, lone_read, lone_cut, child_alone, collisions]
 
 # How many calls of the keeper `read` makes that keeps a file, a root with it and a certificate of that, each new to an empty store;
 # and `packets` of this root.
-READ_CALLS, SENT_CALLS = 6, 8
+READ_CALLS, SENT_CALLS = 7, 8
 
 
 class Lines:
@@ -752,7 +752,10 @@ def failing():
     for call in range(1, READ_CALLS + 2):
         fails = call <= READ_CALLS
         lines.asks(['read'], 6 if fails else 0, b'' if fails else done, text, 'store plain sha1 %d' % call)
-        lines.finds(*([] if fails else keys))
+        if fails:
+            lines.finds()
+    lines.asks(['read'], 0, done, text, 'store plain sha1')
+    lines.finds(*keys)
     lines.ends()
     lines.remark('A source that fails leaves nothing. A sink without room takes a front of the answer, and all is kept.')
     for sets in (['source 1'], ['source 2']):
@@ -767,6 +770,7 @@ def failing():
         fails = call <= READ_CALLS + SENT_CALLS
         lines.asks(['read'], 0, done, text, 'store plain sha1 %d' % call)
         lines.asks(['packets', sha(ROOT)], 6 if fails else 0, b'' if fails else text)
+    lines.asks(['read'], 0, done, text, 'store plain sha1')
     for room in (0, 1, 100, len(text) - 1):
         lines.asks(['packets', sha(ROOT)], 5, text[:room], None, 'sink %d' % room)
     lines.asks(['packets', sha(ROOT)], 0, text, None, 'sink %d' % len(text))
@@ -800,8 +804,8 @@ def damaged():
     after(record(8, key, b'x'), (['packets', sha(ROOT)], 8, shows(8, key, b'x')), (['packets', sha(ROOT), sha(ROOT)], 0, b''))
     after(record(8, key[:-1]), (['packets', sha(ROOT)], 8, shows(8, key[:-1], b'')))
     lines.ends()
-    lines.remark('A name that is no field is shown where a packet names its key, and nothing of the input is kept; where its key goes by the id it is not read.')
-    after(record(7, bytes.fromhex(KEY), b'no field'), (['read'], 8, shows(7, bytes.fromhex(KEY), b'no field'), fdata(b'a') + said), (['get_file', HA], 1, b'refused UnknownFile %s\n' % HA.encode()),
+    lines.remark('A record that is no name of a key is passed over where a packet names its key; where the key goes by its id no name is read.')
+    after(record(7, bytes.fromhex(KEY), b'no field'), (['read'], 1, b'refused InPacket 2 UnknownKey k@x\n', fdata(b'a') + said), (['get_file', HA], 1, b'refused UnknownFile %s\n' % HA.encode()),
           (['read'], 0, counts(1, 0, 1).encode(), fdata(b'a') + rcert(sha(ROOT), b'branch', KEY, b'main')))
     lines.ends()
     return lines
