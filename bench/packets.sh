@@ -3,8 +3,8 @@
 # the same bytes one after the other, beside `git index-pack` of the same files, and its peak of memory as a multiple of the input.
 # What hashing in four pieces takes on all processors, as a part of what it takes on one: hashing is what an input with another id
 # in its last packet takes beside one whose last packet is cut, since the first is refused behind the ids and the second before
-# them, with nothing kept by either. `packets` of 2,000 revisions from a store in a file, as a multiple of `git fast-export` of the
-# same history. The best of five counts. Given a path, that program is measured.
+# them, with nothing kept by either. `packets` of 2,000 revisions, as a multiple of `git fast-export` of the same history: as a
+# request in a session over a store in memory, and as a command of its own over a file with its opening. The best of five counts. Given a path, that program is measured.
 program=$(realpath -m "${1:-$(dirname "${BASH_SOURCE[0]}")/../target/mtn}")
 cd "$(dirname "${BASH_SOURCE[0]}")/.." || exit 1
 [ "$#" -gt 0 ] || ./mtn --version >/dev/null || exit 1
@@ -88,7 +88,10 @@ sending, opening = best([mtn, store, 'packets', revision], nothing), best([mtn, 
 subprocess.run(['git', 'init', '-q', '--bare', path('line')], check=True)
 subprocess.run(['git', '-C', path('line'), 'fast-import', '--quiet'], input=stream, check=True)
 exporting = best(['git', '-C', path('line'), 'fast-export', '--all'], nothing)
-print(f'packets of 2,000 revisions: {sending:.3f} s, {sending / exporting:.2f} times git fast-export (at most 3), of which opening the store takes {opening:.3f} s')
+asked = lambda times: best([mtn, '-', 'stdio'], write('asked', request('read', sent) + request('packets', revision) * times))
+request_of = (asked(41) - asked(1)) / 40
+print(f'packets of 2,000 revisions, a request in a session over memory: {request_of:.3f} s, {request_of / exporting:.2f} times git fast-export (at most 3)')
+print(f'the same from a file, a command of its own: {sending:.3f} s, {sending / exporting:.2f} times, of which opening the store takes {opening:.3f} s, {opening / exporting:.2f} times')
 back = write('sent', sent)
 reading = best(read, back, told=b'files 2199\nrevisions 2000\ncerts 0\n')
 print(f'their read into a store in memory: {reading:.2f} s, {reading / best([mtn, "-", "stdio"], session):.2f} times a session of the commands that keep the same')

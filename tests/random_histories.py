@@ -459,6 +459,9 @@ class History:
         # One more revision is put behind the questions, and one that no order accepts; then they are asked again.
         merged = b''.join(sessions.request('merge', at, chance.choice(self.ids)) for at in self.ids)
         merged += b''.join(sessions.request('merge_heads', '--author=a', '--date=d', '--key=' + sha(b'a'), branch) for branch in BRANCHES)
+        # A commit, and packets: a new file, a revision and a certificate.
+        merged += sessions.request('commit', '--author=a', '--branch=' + BRANCHES[0], '--changelog=c', '--date=d', '--key=' + sha(b'a'), self.texts[last])
+        merged += sessions.request('read', packet_rows.fdata(b'a new content') + packet_rows.rdata(self.texts[last]) + packet_rows.rcert(self.ids[0], b'branch', sha(b'b'), b'read'))
         # Certificates of revisions that every order has accepted.
         certificates, members = self.certify(chance)
         certificates = [words for words in certificates if last not in words]
