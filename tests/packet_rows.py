@@ -703,8 +703,51 @@ def endless():
     return row
 
 
+def certified_in(title, order):
+    """A history of three revisions, accepted in this order, with certificates in the same, and asked by every command of
+    certificates, branches and packets that does not answer in the order of the log."""
+    row = Certified(title)
+    root = {'': None, 'f': H}
+    texts = {'root': revision(root, ('', [add_dir(''), add_file('f', H)]))}
+    r = sha(texts['root'])
+    for name in 'ab':
+        texts[name] = revision({**root, name: H}, (r, [add_file(name, H)]))
+    of = {name: sha(text) for name, text in texts.items()}
+    for name in order:
+        row.asks(['put_revision'], 0, of[name] + '\n', texts[name])
+    for name in order:
+        row.certifies(of[name], 'branch', 'side' if name == 'root' else 'main')
+        row.certifies(of[name], 'author', 'somebody', OTHER, b'signed')
+    row.names_key(OTHER, 'k@x')
+    for at in of.values():
+        row.lists(at)
+    row.heads('main', of['a'], of['b'])
+    row.heads('side', r)
+    row.asks(['branches'], 0, 'main\nside\n')
+    row.refuses(['merge_heads', '--author=a', '--date=d', '--key=' + KEY, 'side'], 'OneHead ' + r)
+    # Packets: a file, a text that is held, and a certificate whose key goes by its name.
+    row.asks(['read'], 0, counts(1, 0, 1), fdata(b'read') + rdata(texts['a']) + rcert(of['a'], b'branch', 'k@x', b'read'))
+    row.held.add((of['a'], 'branch', OTHER, 'read', b''))
+    row.asks(['read'], 1, 'refused InPacket 2 UnknownRevision %s\n' % NONE, fdata(b'other') + rcert(NONE, b'branch', KEY, b'read'))
+    row.heads('read', of['a'])
+    row.lists(of['a'])
+    merged = row.merges_heads(of['a'], of['b'], {**root, 'a': H, 'b': H}, [add_file('b', H)], [add_file('a', H)])
+    last = row.commits({**root, 'a': H, 'b': H, 'c': H}, (merged, [add_file('c', H)]))
+    row.heads('main', last)
+    row.lists(last)
+    return row
+
+
+def certified_in_one_order():
+    return certified_in('A history with certificates.', ['root', 'a', 'b'])
+
+
+def certified_in_another_order():
+    return certified_in('The same history with its certificates in another order answers alike.', ['root', 'b', 'a'])
+
+
 ROWS = [one_file, faults_behind_good_packets, shapes, mismatches, three_and_a_cut, cut_off, cut_behind_the_first, in_their_order, keys, sent, sent_and_read, sent_in_parts, once_each, in_log_order,
-        any_bytes, committed, committed_and_read, *(functools.partial(at_random, seed) for seed in range(10))]
+        any_bytes, committed, committed_and_read, certified_in_one_order, certified_in_another_order, *(functools.partial(at_random, seed) for seed in range(10))]
 # Those that are many or long stay with the program.
 LINED = [made for made in ROWS if made is not cut_off and not isinstance(made, functools.partial)]
 TOYS = [lone_sent, lone_read, lone_cut, child_alone, collisions]
