@@ -10,7 +10,8 @@ use std::test::Fail;
 use std::thread::Threads;
 
 // `abc`, nothing and `a`, each as a packet.
-const PACKETS: &[u8] = b"[fdata a9993e364706816aba3e25717850c26c9cd0d89d]\nYWJj\n[end]\n[fdata da39a3ee5e6b4b0d3255bfef95601890afd80709]\n[end]\n[fdata 86f7e437faa5a7fce15d1ddcb9eaeaea377667b8]\nYQ==\n[end]\n";
+const PACKETS: &[u8] =
+    b"[fdata a9993e364706816aba3e25717850c26c9cd0d89d]\nYWJj\n[end]\n[fdata da39a3ee5e6b4b0d3255bfef95601890afd80709]\n[end]\n[fdata 86f7e437faa5a7fce15d1ddcb9eaeaea377667b8]\nYQ==\n[end]\n";
 
 // SHA-1 that counts how often one text and how often many are hashed, and how many these are.
 #[derive(Drop)]
