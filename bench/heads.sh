@@ -45,12 +45,12 @@ def heads(store, last):
     return spent, (best([mtn, store, 'stdio'], b'l5:heads4:maine' * 3)[0] - spent) / 2
 
 small, large = made(10000), made(100000)
-(fewer, _), (more, request) = heads(*small), heads(*large)
+(fewer, asking), (more, request) = heads(*small), heads(*large)
 printing, _ = best(['sqlite3', large[0], 'SELECT hex(name), hex(body) FROM kept WHERE kind IN (4, 8)'])
 print(f'heads of 100,000 revisions with 400,000 certificates, in a session: {request:.2f} s, sqlite3 printing both tables {printing:.2f} s: {request / printing:.2f} times (at most 5, for the request)')
 opening, _ = best([mtn, large[0], 'get_revision', large[1]])
 print(f'a session of that request alone: {more:.2f} s, {more / printing:.2f} times (at most 5, with the opening), of which opening the store takes {opening:.2f} s')
-print(f'the same of 10,000 revisions: {fewer:.2f} s, so ten times the revisions take {more / fewer:.1f} times as long (at most 12)')
+print(f'of 10,000 revisions, the request: {asking:.3f} s, so ten times the revisions take {request / asking:.1f} times as long (at most 12); the session: {fewer:.2f} s, {more / fewer:.1f} times')
 asked, told = best([mtn, large[0], 'certs', large[1]])
 assert told.count(b'name "') == 4, told
 print(f'the certificates of one revision: {asked:.3f} s, its text {opening:.3f} s: {asked / opening:.2f} times')
