@@ -1,5 +1,5 @@
 // A command over a draft of the keeper.
-ghost use Rattle.std.specs.Prelude.{◌≡◌, IfSome, Some, true};
+ghost use Rattle.std.specs.Prelude.{IfSome, Some, true};
 ghost use Rattle.mtn_cli.specs.Step.{Step};
 ghost use Rattle.mtn_cli.specs.Store.{IsLine, ShowsDamage, is_merging, is_spelled, unbounded};
 ghost use Rattle.mtn_commands.specs.Drafts.{may_conflict};
@@ -15,7 +15,7 @@ use crate::damage::tell;
 use mtn_base::{Bytes, Cause, Refusal};
 use mtn_commands::error::CommandError;
 use mtn_commands::perform::perform;
-use mtn_frame::{Job, Reply, WorkError, Worked};
+use mtn_frame::{Job, WorkError, Worked};
 use mtn_history::{Draft, Memory, Pending};
 use mtn_ports::{Batch, Ident, Keeper};
 use mtn_step::Call;

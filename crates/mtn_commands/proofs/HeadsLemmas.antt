@@ -1,6 +1,6 @@
 -- The heads and branches that a draft's certificates and graph give are those of its state.
 use Rattle.std.specs.Prelude.{Contains, IfSome, ◌↔◌}
-use Rattle.std.proofs.Common.{◌≡◌, ℕ, List, [], ◌∷◌, ◌++◌, Option, Some, Result, Err, sym, ◌∙◌, subst}
+use Rattle.std.proofs.Common.{◌≡◌, ℕ, List, Option, Some, Result, Err, sym, subst}
 use Rattle.mtn_ancestry.specs.declared.pos.LogEntry.{LogEntry}
 use Rattle.mtn_answers.specs.Queries.{IsProperlyAbove}
 use Rattle.mtn_base.specs.Ids.{by_id}

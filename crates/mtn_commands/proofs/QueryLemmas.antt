@@ -1,22 +1,20 @@
 -- What is answered of the graph that a draft tells.
 use Rattle.std.specs.Prelude.{IfSome, MatchBool}
-use Rattle.std.proofs.Common.{◌≡◌, inl, inr, ℕ, Bool, true, false, List, [], length, Option, Some, None, Result, Ok, Err, refl, sym, ap, ◌∙◌, subst, arith}
+use Rattle.std.proofs.Common.{◌≡◌, inl, inr, ℕ, Bool, true, false, List, Option, Some, None, Result, Ok, Err, refl, sym, subst, arith}
 use Rattle.mtn_ancestry.specs.declared.pos.LogEntry.{LogEntry}
 use Rattle.mtn_history_laws.specs.History.{Revision}
 use Rattle.mtn_replay.specs.Graphs.{Tells}
 use Rattle.mtn_replay.specs.Lawful.{IsHistory}
-use Rattle.mtn_replay.proofs.Histories.{history_is_grown, history_none}
 use Rattle.mtn_model.specs.Table.{Contents, body_at}
 use Rattle.mtn_model.specs.State.{State}
 use Rattle.mtn_base.specs.declared.refusal.Cause.TheVariants.{UnknownRevision}
-use Rattle.mtn_replay.proofs.Places.{inside}
 use Rattle.mtn_ports.specs.Causes.{Rose}
 use Rattle.mtn_ports.specs.Kept.{Stays, with_all}
 use Rattle.mtn_history.specs.Damage.{IsDamage}
 use Rattle.mtn_history.specs.Errors.{IfDamage}
 use Rattle.mtn_history.specs.Logs.{IsReadTo, LogDamage, WrongBelow}
 use Rattle.mtn_history.specs.Meta.{Counted, count_key}
-use Rattle.mtn_history.specs.Stands.{IsDraft, IsNew, StandsFor}
+use Rattle.mtn_history.specs.Stands.{IsDraft}
 use Rattle.mtn_history.specs.declared.errors.Damage.{Damage}
 use Rattle.mtn_history.specs.declared.errors.StoreError.{StoreError}
 use Rattle.mtn_history.specs.declared.errors.StoreError.TheVariants.{Failed, Damaged, NoMemory}

@@ -1,8 +1,6 @@
 -- What is read over a draft is the outcome of `read`.
-use Rattle.std.specs.Prelude.{IfErr, IfSome}
-use Rattle.std.proofs.Common.{◌≡◌, ℕ, Bool, false, List, Option, Some, None, Result, Ok, Err, refl, sym, ap, subst}
-use Rattle.mtn_base.specs.declared.refusal.Refusal.{Refusal}
-use Rattle.mtn_frame.specs.Works.{replied}
+use Rattle.std.specs.Prelude.{IfSome}
+use Rattle.std.proofs.Common.{◌≡◌, ℕ, false, List, Option, Some, None, Result, Ok, Err, refl, sym, ap, subst}
 use Rattle.mtn_frame.specs.declared.works.Reply.{Reply}
 use Rattle.mtn_history.specs.Damage.{IsDamage}
 use Rattle.mtn_history.specs.Errors.{IfDamage}
@@ -11,7 +9,6 @@ use Rattle.mtn_history.specs.Stands.{IsDraft}
 use Rattle.mtn_history.specs.declared.errors.StoreError.{StoreError}
 use Rattle.mtn_history.specs.declared.errors.StoreError.TheVariants.{Failed, NoMemory}
 use Rattle.mtn_history.specs.declared.pending.Pending.{Pending}
-use Rattle.mtn_imports.specs.Imports.{Kept, kept_text}
 use Rattle.mtn_model.specs.State.{State}
 use Rattle.mtn_model.specs.Table.{Contents}
 use Rattle.mtn_ports.specs.Causes.{Rose}
@@ -21,7 +18,7 @@ use Rattle.mtn_reading.specs.Reading.{Comes, IfReadDamage, kept_of}
 use Rattle.mtn_reading.specs.declared.counts.Counts.{Counts}
 use Rattle.mtn_reading.specs.declared.error.ReadError.{ReadError}
 use Rattle.mtn_reading.specs.declared.error.ReadError.TheVariants as error
-use Rattle.mtn_step.specs.Step.{ReadsPackets, Steps, read_outcome}
+use Rattle.mtn_step.specs.Step.{Steps}
 use Rattle.mtn_step.specs.declared.call.Call.TheVariants.{Read}
 use Rattle.mtn_commands.specs.Drafts.{Counts as AreCounted, Performs, drafted}
 use Rattle.mtn_commands.specs.Reading.{ToldCounts, command_error}

@@ -1,6 +1,5 @@
 // The command `cert`.
-ghost use Rattle.std.specs.Prelude.{◌≡◌, IfOk, option_copied, None};
-ghost use Rattle.mtn_certs.specs.declared.cert.CertError.{CertError as Broken};
+ghost use Rattle.std.specs.Prelude.{◌≡◌, IfOk, None};
 ghost use Rattle.mtn_commands.specs.Certifying.{cert_error};
 ghost use Rattle.mtn_commands.specs.Drafts.{Drafts};
 ghost use Rattle.mtn_step.specs.Certifying.{signature_of as bytes_of};

@@ -1,6 +1,5 @@
 // The command `merge_heads`.
-ghost use Rattle.std.specs.Prelude.{◌≡◌, ◌++◌, IfOk, OnOk, true};
-ghost use Rattle.hex.specs.Hex.{encode_lower};
+ghost use Rattle.std.specs.Prelude.{◌≡◌, IfOk, true};
 ghost use Rattle.mtn_commands.specs.Drafts.{Replies};
 ghost use Rattle.mtn_step.specs.Certifying.{merge_log as log_of, merge_said as said_of};
 ghost use Rattle.mtn_step.specs.Step.{Steps};

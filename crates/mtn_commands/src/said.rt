@@ -1,6 +1,5 @@
 // What is said of a revision that is put.
-ghost use Rattle.std.specs.Prelude.{◌≡◌, ℕ, List, [], true, None, Some, Err, codes, IfErr, IfOk, IsSome, OnErr, OnOk};
-ghost use Rattle.mtn_base.specs.declared.id.Id.{Id as Named};
+ghost use Rattle.std.specs.Prelude.{◌≡◌, ℕ, List, [], true, None, Some, Err, IfErr, IfOk, IsSome, OnErr, OnOk};
 ghost use Rattle.mtn_certs.specs.Certificates.{certificate, is_field};
 ghost use Rattle.mtn_commands.specs.Certifying.{Certifies};
 ghost use Rattle.mtn_history.specs.Errors.{IfStoreDamage};

@@ -1,5 +1,5 @@
 // Resolutions: their text, and the decisions after them.
-ghost use Rattle.std.specs.Prelude.{◌≡◌, List, ℕ, None, Err, find, IfOk, IfErr, IfSome};
+ghost use Rattle.std.specs.Prelude.{◌≡◌, List, ℕ, None, Err, IfOk, IfErr};
 ghost use Rattle.mtn_conflicts.specs.Lists.{AreConflictsOf};
 ghost use Rattle.mtn_history.specs.Errors.{IfDamage, IfStoreDamage};
 ghost use Rattle.mtn_history.specs.Stands.{IsFounded};

@@ -1,5 +1,5 @@
 // The text of a merge.
-ghost use Rattle.std.specs.Prelude.{◌≡◌, ◌++◌, [], ◌∷◌, map, IfOk, OnOk, Some};
+ghost use Rattle.std.specs.Prelude.{◌≡◌, ◌++◌, map, IfOk, OnOk, Some};
 ghost use Rattle.mtn_basic_io.specs.Spelling.{AreStanzas, spelling};
 ghost use Rattle.mtn_between.specs.Between.{between as between_trees};
 ghost use Rattle.mtn_changes.specs.RevisionText.{edge_stanzas, revision_stanzas};

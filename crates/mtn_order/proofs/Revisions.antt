@@ -8,9 +8,9 @@ use Rattle.mtn_changes.specs.declared.change.Revision.{Revision as Spelled}
 use Rattle.mtn_step.specs.Step.{id_line, unless, PutsRevision}
 use Rattle.mtn_history_laws.specs.History.{Revision}
 use Rattle.mtn_replay.specs.Texts.{text_under}
-use Rattle.mtn_replay.specs.Lawful.{IsHistory, IsNext, Spells}
+use Rattle.mtn_replay.specs.Lawful.{IsHistory, Spells}
 use Rattle.mtn_replay.specs.Making.{made, refusal_of}
-use Rattle.mtn_model.specs.State.{Logged, State}
+use Rattle.mtn_model.specs.State.{State}
 use Rattle.mtn_order.specs.Free.{IsOrderFree}
 use Rattle.mtn_order.proofs.Framing.{is_outcome, other_history, same_unless}
 use Rattle.mtn_replay.proofs.CertLemmas.{lawful_text}

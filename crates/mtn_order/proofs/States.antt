@@ -1,15 +1,10 @@
 -- Lawful states with one more file or text, and two that are the same up to order.
-use Rattle.std.specs.Prelude.{bytes_eq, nat_lt, Contains}
+use Rattle.std.specs.Prelude.{nat_lt, Contains}
 use Rattle.std.specs.FinMap.{get, insert}
-use Rattle.std.proofs.Common.{◌≡◌, ◌≤◌, ℕ, Bool, true, false, cond, List, [], ◌∷◌, ◌++◌, length, Option, Some, None, refl, sym, ap, ◌∙◌, subst, ⊎_elim, arith, if◌then◌else◌}
-use Rattle.std.proofs.lemmas.Bool.Decides.{nat_tests}
+use Rattle.std.proofs.Common.{◌≡◌, ℕ, List, [], ◌∷◌, ◌++◌, length, Some, None, sym, ap, ◌∙◌, subst, ⊎_elim, if◌then◌else◌}
 use Rattle.std.proofs.lemmas.List.Elements.{Contains-append_left, Contains-push, Contains-push_cases}
-use Rattle.std.proofs.lemmas.Slice.Eq.{bytes_eq-Decides}
-use Rattle.mtn_base.specs.Hex.{id_of}
-use Rattle.mtn_base.specs.declared.refusal.Cause.{Cause}
-use Rattle.mtn_base.specs.declared.refusal.Cause.TheVariants.{Collision, TextTooLong}
+use Rattle.mtn_base.specs.declared.refusal.Cause.TheVariants.{TextTooLong}
 use Rattle.mtn_replay.specs.Files.{collision, file_refusal, with_file}
-use Rattle.mtn_replay.proofs.FileLemmas.{insert_held, lawful_more}
 use Rattle.mtn_replay.specs.Lawful.{IsLawful}
 use Rattle.mtn_replay.proofs.CertLemmas.{with_text}
 use Rattle.mtn_model.specs.State.{Logged, State}

@@ -1,19 +1,14 @@
 -- Logs with the same pairs have the same text under an id.
 use Rattle.std.specs.Prelude.{Contains, find, option_map, slice_get}
-use Rattle.std.proofs.Common.{◌≡◌, ◌<◌, ℕ, List, Bool, true, false, true≢false, subst, Option, Some, None, refl, sym, ap, ◌∙◌}
-use Rattle.std.specs.Cmp.Lexicographic.{bytes_decides}
+use Rattle.std.proofs.Common.{◌≡◌, ℕ, List, true, false, true≢false, Option, Some, None, refl, sym, ap, ◌∙◌}
 use Rattle.mtn_base.specs.Hex.{id_of}
-use Rattle.mtn_base.specs.Names.{same_bytes}
-use Rattle.mtn_base.specs.declared.id.Id.{Id}
 use Rattle.mtn_history_laws.specs.History.{Revision}
 use Rattle.mtn_replay.specs.Texts.{text_under}
 use Rattle.mtn_replay.specs.Lawful.{IsHistory}
 use Rattle.mtn_model.specs.State.{Logged}
 use Rattle.mtn_model.specs.Table.{Table}
 use Rattle.mtn_renaming.specs.Order.{HaveSameTexts}
-use Rattle.mtn_replay.proofs.Places.{place_has, place_within, within}
-use Rattle.mtn_replay.specs.Making.{place_of}
-use Rattle.mtn_renaming.proofs.Elements.{at_contains, contains_at, found_at, none_passes}
+use Rattle.mtn_renaming.proofs.Elements.{at_contains, found_at, none_passes}
 use Rattle.mtn_renaming.proofs.Spelling.{ids_differ, named, revision_at}
 use Rattle.mtn_step_laws.proofs.Accepting.{is_under, under}
 

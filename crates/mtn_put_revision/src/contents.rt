@@ -1,5 +1,5 @@
 // The contents that a revision brings.
-ghost use Rattle.std.specs.Prelude.{◌≡◌, List, ℕ, Err, find, is_none, IfOk, IfErr, IfSome};
+ghost use Rattle.std.specs.Prelude.{◌≡◌, List, ℕ, Err, find, is_none, IfOk, IfErr};
 ghost use Rattle.std.specs.FinMap.{get};
 ghost use Rattle.mtn_base.specs.declared.id.Id.{Id as Named};
 ghost use Rattle.mtn_replay.specs.Making.{new_contents};

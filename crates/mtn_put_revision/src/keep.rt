@@ -1,5 +1,5 @@
 // The records of a new revision, put behind the others.
-ghost use Rattle.std.specs.Prelude.{◌≡◌, ◌<◌, ◌≤◌, ◌^◌, [], All, List, ℕ, length, Ok, Err, false, IfOk, IfErr, IfSome, IsTrue, OnErr};
+ghost use Rattle.std.specs.Prelude.{◌≡◌, ◌<◌, ◌≤◌, [], All, List, ℕ, length, Ok, Err, false, IfOk, IfErr, IfSome, IsTrue, OnErr};
 ghost use Rattle.mtn_roster_deltas.specs.Numbering.{shown};
 ghost use Rattle.mtn_changes.specs.declared.change.Edge.{Edge};
 ghost use Rattle.mtn_history_laws.specs.History.{Revision};

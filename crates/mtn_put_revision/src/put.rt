@@ -20,7 +20,7 @@ ghost use Rattle.mtn_put_revision.specs.Accepting.{AcceptsRevision, IsCollided, 
 use crate::over::{NewRevision, over_places};
 use crate::places::places_of;
 use mtn_base::{Cause, Id, MAX_TEXT};
-use mtn_changes::{ChangeTextError, Revision, read_revision};
+use mtn_changes::{ChangeTextError, read_revision};
 use mtn_history::{Draft, HistoryError, StoreError};
 use mtn_ports::{Ident, Keeper};
 use mtn_roster::Roster;

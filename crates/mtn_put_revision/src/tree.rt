@@ -9,9 +9,9 @@ ghost use Rattle.mtn_manifest.specs.Manifest.{manifest_of};
 ghost use Rattle.mtn_model.specs.State.{State};
 ghost use Rattle.mtn_ports.specs.Causes.{Rose};
 ghost use Rattle.mtn_ports.specs.Kept.{Stays, with_all};
-ghost use Rattle.mtn_history.specs.Errors.{IfDamage, IfStoreDamage};
+ghost use Rattle.mtn_history.specs.Errors.{IfStoreDamage};
 ghost use Rattle.mtn_history.specs.Stands.{IsFounded};
-ghost use Rattle.mtn_put_revision.specs.Finding.{IsFound, IsRefusal, IsUnfounded, made_refusal_of};
+ghost use Rattle.mtn_put_revision.specs.Finding.{IsFound, IsRefusal, made_refusal_of};
 
 use crate::contents::unknown_content;
 use crate::unfit::unfit;

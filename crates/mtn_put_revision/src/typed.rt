@@ -1,7 +1,6 @@
 // What the types of a record's values say of them. A record is looked at so only where it cannot be written, to tell that no
 // history has it.
 ghost use Rattle.std.specs.Prelude.{All};
-ghost use Rattle.mtn_records.specs.Fields.{IsNumber};
 ghost use Rattle.mtn_put_revision.specs.Writing.{AreTyped, AreTypedNumbers, IsTyped, IsTypedAttr, IsTypedBody, IsTypedEntry};
 
 use mtn_records::{Numbered, NumberedAttr, NumberedBody, NumberedEntry, RosterRecord};

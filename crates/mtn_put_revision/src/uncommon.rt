@@ -13,7 +13,7 @@ ghost use Rattle.mtn_history.specs.Errors.{IfDamage};
 ghost use Rattle.mtn_history.specs.Stands.{IsFounded};
 ghost use Rattle.mtn_put_revision.specs.Finding.{IsFound, AreIdsAt};
 
-use mtn_ancestry::{Pos, PosSet, WalkError, uncommon};
+use mtn_ancestry::{Pos, WalkError, uncommon};
 use mtn_base::{Id, NoMemory};
 use mtn_history::{Draft, StoreError};
 use mtn_make_roster::Uncommon;

@@ -1,9 +1,7 @@
 // The contents that a revision brings and that were not sent before.
-ghost use Rattle.std.specs.Prelude.{◌≡◌, [], ◌∷◌, List, IfOk, OnOk, filter_map};
-ghost use Rattle.mtn_base.specs.declared.id.Id.{Id as Named};
-ghost use Rattle.mtn_exports.specs.Exports.{new_to};
+ghost use Rattle.std.specs.Prelude.{[], ◌∷◌, IfOk, OnOk, filter_map};
 ghost use Rattle.mtn_replay.specs.Making.{new_content as content_of, new_contents};
-ghost use Rattle.mtn_sending.specs.Sending.{Adds, IsSetOf};
+ghost use Rattle.mtn_sending.specs.Sending.{Adds};
 
 use mtn_base::{Id, NoMemory};
 use mtn_changes::{Change, Edge};

@@ -1,6 +1,5 @@
 // The call that exports.
 ghost use Rattle.std.specs.Prelude.{◌≡◌, List as Seq, ℕ, Err, Contains, IfErr, IfOk, IfSome, Some};
-ghost use Rattle.mtn_ancestry.specs.declared.pos.LogEntry.{LogEntry};
 ghost use Rattle.mtn_base.specs.declared.id.Id.{Id as Named};
 ghost use Rattle.mtn_branches.specs.Graphs.{IsHeldBy};
 ghost use Rattle.mtn_history.specs.Damage.{IsDamage};
