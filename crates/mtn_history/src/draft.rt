@@ -3,6 +3,7 @@ ghost use Rattle.std.specs.Prelude.{◌≡◌, ◌<◌, ◌≤◌, ◌+◌, ◌^
 ghost use Rattle.mtn_model.specs.Table.{Contents, body_at};
 ghost use Rattle.mtn_ports.specs.Causes.{Rose};
 ghost use Rattle.mtn_ports.specs.Kept.{IsBody, IsNext, StaysAbove, with_all};
+ghost use Rattle.mtn_ports.specs.Kept.{AreKeyed, Gets, Steps, TellsBody};
 ghost use Rattle.mtn_history.specs.Asking.{OnlyAsks, first_key};
 ghost use Rattle.mtn_history.specs.Errors.{IfDamage};
 ghost use Rattle.mtn_history.specs.Marked.{IsCounted};
@@ -104,6 +105,40 @@ impl<'a, K: Keeper> Draft<'a, K> {
             return Ok(true);
         }
         Ok(self.keeper.get(table, key, out)?)
+    }
+
+    /// Replaces `out` by the body under a key, of the keeper's records alone. After `false` or an error `out` may hold
+    /// anything. The draft counts what its records tell, which is said here for a caller that asks behind an error.
+    pub fn get_kept(&mut self, table: u8, key: &[u8], out: &mut Vec<u8>) -> Result<bool, StoreError>
+        ensures asks { OnlyAsks K.contents K.leaves K.faults K.reads 1 self.old self.new }
+
+        ensures found { Gets (K.contents self.new.keeper.now) table key.now result out.new.items }
+        ensures counted { IfSome (K.contents self.new.keeper.now) (IsCounted self.new.pending) }
+        ensures failed { result ≡ Err StoreError.Failed → Rose (K.faults self.old.keeper.now) (K.faults self.new.keeper.now) }
+        ensures damaged { IfErr result (λ e. IfDamage e (λ _. ⊥)) }
+    {
+        Ok(self.keeper.get(table, key, out)?)
+    }
+
+    /// Replaces `key` by the least key of a table above `after` and `body` by the body under it, of the keeper's records
+    /// alone, and answers `true`, or answers `false` where there is none. An empty `after` stands before all keys. After
+    /// `false` or an error both may hold anything.
+    pub fn next_kept(
+        &mut self,
+        table: u8,
+        after: &[u8],
+        key: &mut Vec<u8>,
+        body: &mut Vec<u8>,
+    ) -> Result<bool, StoreError>
+        ensures asks { OnlyAsks K.contents K.leaves K.faults K.reads 1 self.old self.new }
+
+        ensures found { Steps (K.contents self.new.keeper.now) table after.now result key.new.items }
+        ensures told { TellsBody (K.contents self.new.keeper.now) table result key.new.items body.new.items }
+        ensures keyed { OnOk result (IfSome (K.contents self.new.keeper.now) AreKeyed) }
+        ensures failed { result ≡ Err StoreError.Failed → Rose (K.faults self.old.keeper.now) (K.faults self.new.keeper.now) }
+        ensures damaged { IfErr result (λ e. IfDamage e (λ _. ⊥)) }
+    {
+        Ok(self.keeper.next_record(table, after, key, body)?)
     }
 
     /// Whether a record is pending under a key.
