@@ -3,7 +3,8 @@
 # the same bytes one after the other, beside `git index-pack` of the same files, and its peak of memory as a multiple of the input.
 # What hashing in four pieces takes on all processors, as a part of what it takes on one: hashing is what an input with another id
 # in its last packet takes beside one whose last packet is cut, since the first is refused behind the ids and the second before
-# them, with nothing kept by either. `packets` of 2,000 revisions, as a multiple of `git fast-export` of the same history: as a
+# them, with nothing kept by either. What the whole `read`, whose input is read in four pieces too, takes on all processors, as a
+# part of what it takes on one. `packets` of 2,000 revisions, as a multiple of `git fast-export` of the same history: as a
 # request in a session over a store in memory, and as a command of its own over a file with its opening. The best of five counts. Given a path, that program is measured.
 program=$(realpath -m "${1:-$(dirname "${BASH_SOURCE[0]}")/../target/mtn}")
 cd "$(dirname "${BASH_SOURCE[0]}")/.." || exit 1
@@ -76,7 +77,7 @@ def ids(words):
 alone, together = ids(['taskset', '-c', '0', *read]), ids(read)
 print(f'the ids in four pieces on {os.cpu_count()} processors: {together:.3f} s, {together / alone:.2f} times one processor (at most 0.6 on 4)')
 whole = best(['taskset', '-c', '0', *read], packets)
-print(f'the whole read: {ours / whole:.2f} times one processor', flush=True)
+print(f'the whole `read` in four pieces on all processors, to one processor: {ours:.2f} s, {ours / whole:.2f} times (at most 0.6 on 4; {whole:.2f} s)', flush=True)
 
 commands, stream = history(2000)
 store, revision = path('line.mtn'), sha(commands[-1][1])

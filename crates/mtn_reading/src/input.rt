@@ -18,10 +18,14 @@ use crate::matched::first_of;
 use crate::{Counts, ReadError};
 use mtn_base::{Cause, NoMemory, Refusal, Text};
 use mtn_history::{Draft, StoreError};
-use mtn_packets::{Packet, PacketError, read_all};
+use mtn_packets::{Packet, PacketError};
+use mtn_pieces::read_in_pieces;
 use mtn_ports::{Ident, Keeper};
 use std::alloc::Global;
 use std::thread::Threads;
+
+// In how many pieces an input is read.
+const PIECES: usize = 4;
 
 // A refusal of all packets together.
 fn refused(cause: Cause) -> ReadError
@@ -59,8 +63,9 @@ fn mismatch<R: Threads + Sync, I: Ident>(
 /// files, revisions and certificates that were not held before. The first refusal is answered otherwise: BadPacket, with the first
 /// bad packet's number, for an input that is no packets; IdMismatch, for the first packet whose id is another than its payload's;
 /// and then that of the first packet whose command is refused. Only this last one has its packet's number, from 1, and the others
-/// have 0. All payloads are hashed by one call, each once; `rt` goes to it alone. The keeper is only asked. After an error what
-/// is pending may have what the packets before it kept: give the draft up. It takes memory for the payloads and for the ids.
+/// have 0. The input is read in four pieces, and all payloads are hashed by one call, each once; `rt` goes to both. The keeper is
+/// only asked. After an error what is pending may have what the packets before it kept: give the draft up. It takes memory for the
+/// payloads and for the ids.
 pub fn read<R: Threads + Sync, I: Ident, K: Keeper>(
     rt: &R,
     alloc: Global,
@@ -76,7 +81,7 @@ pub fn read<R: Threads + Sync, I: Ident, K: Keeper>(
         IfErr result (λ e. IfReadDamage e (IsDamage (with_all c draft.old.pending.batch)))) }
     ensures failed { result ≡ Err (ReadError.Store StoreError.Failed) → Rose (K.faults draft.old.keeper.now) (K.faults draft.new.keeper.now) }
 {
-    let packets = match read_all(alloc, text) {
+    let packets = match read_in_pieces(rt, alloc, PIECES, text) {
         Ok(packets) => packets,
         Err(error) => return Err(unread(error)),
     };

@@ -1,9 +1,10 @@
 //! Reading packets into a draft: what a store keeps of what another store sent.
 //!
-//! An input is read as packets (`mtn_packets`). The *payload* of a packet is a file's bytes or a revision's text, which stands under
-//! an id. The payloads of all packets are hashed by one call of the ident before anything is kept; then the packets go in one after
-//! the other, each as by the command that keeps what it holds: a file, a revision, a certificate. A public key is passed over. The
-//! *head* of a packet is the packet without its payload, so that no payload is copied before it is kept.
+//! An input is read as packets (`mtn_packets`), in four pieces (`mtn_pieces`). The *payload* of a packet is a file's bytes or a
+//! revision's text, which stands under an id. The payloads of all packets are hashed by one call of the ident before anything is
+//! kept; then the packets go in one after the other, each as by the command that keeps what it holds: a file, a revision, a
+//! certificate. A public key is passed over. The *head* of a packet is the packet without its payload, so that no payload is copied
+//! before it is kept.
 //!
 //! The crate above relies on this: over records that stand for a state, [`read`] answers what the input comes to there
 //! (`ReadsInput` of `mtn_imports`). Either it answers how much was not held before, and then the draft stands for the state with all
