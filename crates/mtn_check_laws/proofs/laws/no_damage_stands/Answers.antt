@@ -1,0 +1,8 @@
+use Rattle.mtn_check_laws.proofs.Sound.{clean_stands, stands_clean}
+use Rattle.mtn_check_laws.proofs.laws.no_damage_stands.Goals as goal
+
+pub returns-clause-stands : goal.returns-clause-stands
+returns-clause-stands c f contents clean = clean_stands f contents clean
+
+pub returns-clause-clean : goal.returns-clause-clean
+returns-clause-clean c f contents s stands = stands_clean f contents s stands
