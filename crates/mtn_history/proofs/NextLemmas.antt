@@ -8,9 +8,9 @@ use Rattle.std.specs.declared.cmp.Ordering.{Ordering}
 use Rattle.std.specs.declared.cmp.Ordering.TheVariants.{Less, Equal, Greater}
 use Rattle.std.proofs.lemmas.Cmp.{nat_list_cmp_total}
 use Rattle.mtn_model.specs.Table.{Contents, body_at, nothing}
-use Rattle.mtn_ports.specs.Kept.{IsAbove, IsAboveIf, IsLeast, IsNext, over, with_all}
+use Rattle.mtn_ports.specs.Kept.{IsAbove, IsAboveIf, IsBodyIf, IsLeast, IsNext, over, with_all}
 use Rattle.mtn_ports.specs.declared.batch.Put.{Put}
-use Rattle.mtn_ports.proofs.KeptLemmas.{body_at-over, newest}
+use Rattle.mtn_ports.proofs.KeptLemmas.{body_at-over, least_has_body, newest}
 use Rattle.mtn_history.specs.Asking.{first_key}
 
 over_none : (x : Option (List ℕ)) → over x None ≡ x
@@ -72,6 +72,29 @@ module _ (c : Contents) (ps : List Put) (table : ℕ) (after : List ℕ) where
       by false is =
           (some_kept key next.0.0 next.0.1, λ other a b. none_pending other (least.2 other a (below_both other key first is b)) ∙ next.1 other a b)
 
+  -- the body under it, where none is pending
+  none_body : (found : Bool) (key body : List ℕ) → IsLeast (with_all nothing ps) table after None → IsAboveIf after found key → IsBodyIf c table found key body → IsBodyIf (with_all c ps) table found key body
+  none_body true key body least above told = none_pending key (least key above) ∙ told
+  none_body false key body least above told = tt
+
+  -- what these records put under a key, over any contents
+  abbrev Finds : List ℕ → Option (List ℕ) → Type 0
+  Finds key held = (d : Contents) → body_at (with_all d ps) table key ≡ over held (body_at d table key)
+
+  never_first : (first : List ℕ) → IsLeast (with_all nothing ps) table after (Some first) → Finds first None → ⊥
+  never_first first least finds = least_has_body pending after first least (finds nothing ∙ get-empty (slice_cmp nat_cmp) first)
+
+  -- the body under the lesser of both
+  first_body : (found : Bool) (key first was body : List ℕ) (held : Option (List ℕ)) → IsLeast (with_all nothing ps) table after (Some first) → IsBodyIf c table found key was →
+      Finds (first_key found key first) held → Some body ≡ over held (Some was) → body_at (with_all c ps) table (first_key found key first) ≡ Some body
+  first_body found key first was body (Some own) least told finds is = finds c ∙ sym is
+  first_body false key first was body None least told finds is = absurd (never_first first least finds)
+  first_body true key first was body None least told finds is = by (is_lt (slice_cmp nat_cmp first key)) finds
+    where
+      by : (b : Bool) → Finds (cond (true && not b) key first) None → body_at (with_all c ps) table (cond (true && not b) key first) ≡ Some body
+      by true finds = absurd (never_first first least finds)
+      by false finds = finds c ∙ told ∙ sym is
+
 -- the same where the records are told
 pub next_alone : (told : Option Contents) (ps : List Put) (table : ℕ) (after key : List ℕ) (found : Bool) → IsLeast (with_all nothing ps) table after None →
     IfSome told (λ c. IsNext c table after found key) → IfSome told (λ c. IsNext (with_all c ps) table after found key)
@@ -92,3 +115,17 @@ first_above ps table after key first taken true least is above = subst (IsAbove 
     by true = least.0
     by false = above
 first_above ps table after key first taken false least is above = subst (IsAbove after) (sym is) least.0
+
+pub body_alone : (told : Option Contents) (ps : List Put) (table : ℕ) (after key body : List ℕ) (found : Bool) → IsLeast (with_all nothing ps) table after None → IsAboveIf after found key →
+    IfSome told (λ c. IsBodyIf c table found key body) → IfSome told (λ c. IsBodyIf (with_all c ps) table found key body)
+body_alone None ps table after key body found least above own = tt
+body_alone (Some c) ps table after key body found least above own = none_body c ps table after found key body least above own
+
+pub body_first : (told : Option Contents) (ps : List Put) (table : ℕ) (after key first taken shown was body : List ℕ) (found : Bool) (held : Option (List ℕ)) → IsLeast (with_all nothing ps) table after (Some first) → taken ≡ first_key found key first → shown ≡ taken →
+    IfSome told (λ c. IsBodyIf c table found key was) → ((d : Contents) → body_at (with_all d ps) table shown ≡ over held (body_at d table shown)) → Some body ≡ over held (Some was) →
+    IfSome told (λ c. IsBodyIf (with_all c ps) table true taken body)
+body_first None ps table after key first taken shown was body found held least takes shows own finds is = tt
+body_first (Some c) ps table after key first taken shown was body found held least takes shows own finds is =
+    subst (λ k. body_at (with_all c ps) table k ≡ Some body) (sym takes)
+    (first_body c ps table after found key first was body held least own
+    (subst (λ k. (d : Contents) → body_at (with_all d ps) table k ≡ over held (body_at d table k)) (shows ∙ takes) finds) is)

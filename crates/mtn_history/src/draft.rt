@@ -1,8 +1,8 @@
 // A keeper with pending records.
-ghost use Rattle.std.specs.Prelude.{◌≡◌, ◌<◌, ◌≤◌, ◌+◌, ◌^◌, ◌++◌, true, false, length, Err, IfOk, IfErr, IfSome, IsSome, IsTrue, OnOk, OnErr};
+ghost use Rattle.std.specs.Prelude.{◌≡◌, ◌<◌, ◌≤◌, ◌+◌, ◌^◌, ◌++◌, true, false, length, Err, Some, IfOk, IfErr, IfSome, IsSome, IsTrue, OnOk, OnErr, option_map};
 ghost use Rattle.mtn_model.specs.Table.{Contents, body_at};
 ghost use Rattle.mtn_ports.specs.Causes.{Rose};
-ghost use Rattle.mtn_ports.specs.Kept.{IsBody, IsNext, StaysAbove, with_all};
+ghost use Rattle.mtn_ports.specs.Kept.{AreKeyed, Gets, IsBody, IsBodyIf, IsNext, StaysAbove, Steps, TellsBody, over, with_all};
 ghost use Rattle.mtn_history.specs.Asking.{OnlyAsks, first_key};
 ghost use Rattle.mtn_history.specs.Errors.{IfDamage};
 ghost use Rattle.mtn_history.specs.Marked.{IsCounted};
@@ -106,6 +106,40 @@ impl<'a, K: Keeper> Draft<'a, K> {
         Ok(self.keeper.get(table, key, out)?)
     }
 
+    /// Replaces `out` by the body under a key, of the keeper's records alone. After `false` or an error `out` may hold
+    /// anything. The draft counts what its records tell, which is said here for a caller that asks behind an error.
+    pub fn get_kept(&mut self, table: u8, key: &[u8], out: &mut Vec<u8>) -> Result<bool, StoreError>
+        ensures asks { OnlyAsks K.contents K.leaves K.faults K.reads 1 self.old self.new }
+
+        ensures found { Gets (K.contents self.new.keeper.now) table key.now result out.new.items }
+        ensures counted { IfSome (K.contents self.new.keeper.now) (IsCounted self.new.pending) }
+        ensures failed { result ≡ Err StoreError.Failed → Rose (K.faults self.old.keeper.now) (K.faults self.new.keeper.now) }
+        ensures damaged { IfErr result (λ e. IfDamage e (λ _. ⊥)) }
+    {
+        Ok(self.keeper.get(table, key, out)?)
+    }
+
+    /// Replaces `key` by the least key of a table above `after` and `body` by the body under it, of the keeper's records
+    /// alone, and answers `true`, or answers `false` where there is none. An empty `after` stands before all keys. After
+    /// `false` or an error both may hold anything.
+    pub fn next_kept(
+        &mut self,
+        table: u8,
+        after: &[u8],
+        key: &mut Vec<u8>,
+        body: &mut Vec<u8>,
+    ) -> Result<bool, StoreError>
+        ensures asks { OnlyAsks K.contents K.leaves K.faults K.reads 1 self.old self.new }
+
+        ensures found { Steps (K.contents self.new.keeper.now) table after.now result key.new.items }
+        ensures told { TellsBody (K.contents self.new.keeper.now) table result key.new.items body.new.items }
+        ensures keyed { OnOk result (IfSome (K.contents self.new.keeper.now) AreKeyed) }
+        ensures failed { result ≡ Err StoreError.Failed → Rose (K.faults self.old.keeper.now) (K.faults self.new.keeper.now) }
+        ensures damaged { IfErr result (λ e. IfDamage e (λ _. ⊥)) }
+    {
+        Ok(self.keeper.next_record(table, after, key, body)?)
+    }
+
     /// Whether a record is pending under a key.
     pub(crate) fn is_pending(&self, table: u8, key: &[u8]) -> bool
         ensures there { (c : Contents) → IsTrue result → IsSome (body_at (with_all c self.now.pending.batch) table key.now) }
@@ -128,22 +162,30 @@ impl<'a, K: Keeper> Draft<'a, K> {
         Ok(found && next.as_slice() == key.as_slice())
     }
 
-    /// Replaces `key` by the least key of a table above `after`, of the pending records and the keeper's, and answers `true`,
-    /// or answers `false` where there is none. An empty `after` stands before all keys. After `false` or an error `key` may
-    /// hold anything.
-    pub fn next(&mut self, table: u8, after: &[u8], key: &mut Vec<u8>) -> Result<bool, StoreError>
+    /// Replaces `key` by the least key of a table above `after`, of the pending records and the keeper's, and `body` by the body
+    /// under it, and answers `true`, or answers `false` where there is none. An empty `after` stands before all keys. After
+    /// `false` or an error `key` and `body` may hold anything. It asks the keeper once.
+    pub fn next_record(
+        &mut self,
+        table: u8,
+        after: &[u8],
+        key: &mut Vec<u8>,
+        body: &mut Vec<u8>,
+    ) -> Result<bool, StoreError>
         ensures asks { OnlyAsks K.contents K.leaves K.faults K.reads 1 self.old self.new }
 
         ensures found { IfSome (K.contents self.new.keeper.now) (λ c. IfOk result (λ found. IsNext (with_all c self.old.pending.batch) table after.now found key.new.items)) }
+        ensures told { IfSome (K.contents self.new.keeper.now) (λ c. IfOk result (λ found. IsBodyIf (with_all c self.old.pending.batch) table found key.new.items body.new.items)) }
         ensures above { StaysAbove after.now result key.new.items }
         ensures failed { result ≡ Err StoreError.Failed → Rose (K.faults self.old.keeper.now) (K.faults self.new.keeper.now) }
         ensures damaged { IfErr result (λ e. IfDamage e (λ _. ⊥)) }
     {
-        let found = self.keeper.next(table, after, key)?;
+        let found = self.keeper.next_record(table, after, key, body)?;
         let Some(least) = self.pending.batch.least_above(table, after)? else {
             return Ok(found);
         };
         take_first(found, key, least)?;
+        take_body(body, self.pending.batch.find(table, key))?;
         Ok(true)
     }
 
@@ -236,6 +278,17 @@ fn take_first(found: bool, key: &mut Vec<u8>, pending: &[u8]) -> Result<(), NoMe
     }
     key.clear();
     key.extend_from_slice(pending)?;
+    Ok(())
+}
+
+// Replaces the body that a keeper gave by a pending one, if there is one.
+fn take_body(body: &mut Vec<u8>, pending: Option<&[u8]>) -> Result<(), NoMemory>
+    ensures { OnOk result (Some body.new.items ≡ over (option_map (λ b. b.now) pending.entry) (Some body.old.items)) }
+{
+    if let Some(pending) = pending {
+        body.clear();
+        body.extend_from_slice(pending)?;
+    }
     Ok(())
 }
 

@@ -1,6 +1,6 @@
 // What is asked of the connection, each in a function of its own and with no clause: nothing is claimed yet
 // of what a database holds.
-use crate::statements::{MAKE, OTHERS, OURS, PUT};
+use crate::statements::{MAKE, NEXT_RECORD, OTHERS, OURS, PUT};
 use mtn_ports::{Batch, Put};
 use sqlite::{Alter, Connection, Error, ErrorCode, Transaction, params};
 use sqlite_value::value::ValueRef;
@@ -42,6 +42,29 @@ pub(crate) fn read_bytes<S: Alter>(
     };
     out.clear();
     out.extend_from_slice(bytes)?;
+    Ok(true)
+}
+
+// Replaces `name` and `body` by those of the record that follows one of a kind, and answers whether there is one.
+pub(crate) fn read_record<S: Alter>(
+    connection: &mut Connection<S>,
+    kind: u8,
+    after: &[u8],
+    name: &mut Vec<u8>,
+    body: &mut Vec<u8>,
+) -> Result<bool, Error> {
+    let row = match connection.query_row(NEXT_RECORD, params![u32::from(kind), after]) {
+        Ok(row) => row,
+        Err(Error::QueryReturnedNoRows) => return Ok(false),
+        Err(error) => return Err(error),
+    };
+    let (ValueRef::Blob(found), ValueRef::Blob(held)) = (row.get_ref(0)?, row.get_ref(1)?) else {
+        return Err(Error::InvalidQuery);
+    };
+    name.clear();
+    name.extend_from_slice(found)?;
+    body.clear();
+    body.extend_from_slice(held)?;
     Ok(true)
 }
 

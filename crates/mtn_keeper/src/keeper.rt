@@ -2,7 +2,7 @@
 ghost use Rattle.std.specs.Prelude.{◌≡◌, ◌≤◌, None, ⊤, IfOk, IsErrOf};
 ghost use Rattle.mtn_ports.specs.Causes.{Rose};
 
-use crate::database::{make_table, put_all, read_bytes};
+use crate::database::{make_table, put_all, read_bytes, read_record};
 use crate::statements::{GET, NEXT};
 use mtn_ports::{Batch, KeepError, Keeper};
 use sqlite::{Alter, Connection, Error, ErrorCode};
@@ -86,6 +86,24 @@ impl<S: Alter + Drop> Keeper for SqliteKeeper<S> {
             Ok(true) => match after.cmp(key.as_slice()) {
                 Ordering::Less => Ok(true),
                 // The database gave a key that it was not asked for.
+                _ => Err(self.refuse(Error::SqliteFailure(ErrorCode::DatabaseCorrupt))),
+            },
+            Err(error) => Err(self.refuse(error)),
+        }
+    }
+
+    fn next_record(
+        &mut self,
+        table: u8,
+        after: &[u8],
+        key: &mut Vec<u8>,
+        body: &mut Vec<u8>,
+    ) -> Result<bool, KeepError> {
+        self.reads = self.reads.saturating_add(1);
+        match read_record(&mut self.connection, table, after, key, body) {
+            Ok(false) => Ok(false),
+            Ok(true) => match after.cmp(key.as_slice()) {
+                Ordering::Less => Ok(true),
                 _ => Err(self.refuse(Error::SqliteFailure(ErrorCode::DatabaseCorrupt))),
             },
             Err(error) => Err(self.refuse(error)),

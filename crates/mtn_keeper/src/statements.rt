@@ -16,6 +16,10 @@ pub(crate) const GET: &str = "SELECT body FROM kept WHERE kind = ?1 AND name = ?
 pub(crate) const NEXT: &str =
     "SELECT name FROM kept WHERE kind = ?1 AND name > ?2 ORDER BY name LIMIT 1";
 
+// The same with its body.
+pub(crate) const NEXT_RECORD: &str =
+    "SELECT name, body FROM kept WHERE kind = ?1 AND name > ?2 ORDER BY name LIMIT 1";
+
 // A body under a name, over an earlier one.
 pub(crate) const PUT: &str =
     "INSERT INTO kept (kind, name, body) VALUES (?1, ?2, ?3) ON CONFLICT (kind, name) DO UPDATE SET body = excluded.body";
