@@ -1,43 +1,19 @@
--- The certificates that the keys of a table spell, where each key is that of a lawful certificate.
-use Rattle.std.specs.Prelude.{◌&&◌, ◌==◌, ◌^◌, is_some, map, nat_le, not}
+-- A set of certificates with one for each key of a table.
+use Rattle.std.specs.Prelude.{is_some}
 use Rattle.std.specs.Cmp.{tied_itself}
 use Rattle.std.specs.Cmp.Lexicographic.{slice_cmp}
-use Rattle.std.specs.FinMap.{find, get, get-from_entries, contains_key-keys, keys, slice_cmp-IsAntisymmetric, nat_cmp-IsAntisymmetric}
-use Rattle.std.specs.List.{list_all, list_any}
+use Rattle.std.specs.FinMap.{find, from_entries, get, get-from_entries, contains_key-keys, keys, slice_cmp-IsAntisymmetric, nat_cmp-IsAntisymmetric}
+use Rattle.std.specs.List.{list_any}
 use Rattle.std.specs.Ordering.{eq_by_cmp, is_eq, nat_cmp}
 use Rattle.std.specs.declared.cmp.Ordering.{Ordering}
 use Rattle.std.specs.declared.cmp.Ordering.TheVariants.{Less, Equal, Greater}
-use Rattle.std.proofs.Common.{◌≡◌, ◌≤◌, ◌<◌, ◌||◌, ℕ, Bool, true, false, cond, List, [], ◌∷◌, length, Option, Some, None, refl, sym, ap, ◌∙◌, subst, arith}
-use Rattle.std.proofs.lemmas.Bool.Decides.{nat_tests}
+use Rattle.std.proofs.Common.{◌≡◌, ◌||◌, ℕ, Bool, true, false, cond, List, [], ◌∷◌, Option, Some, None, refl, sym, ap, ◌∙◌, subst}
 use Rattle.std.proofs.lemmas.Cmp.{nat_list_cmp_total}
-use Rattle.mtn_certs.specs.Certificates.{Certificate, is_field, is_field_byte}
+use Rattle.mtn_certs.specs.Certificates.{Certificate}
 use Rattle.mtn_certs.specs.Order.{cert_cmp}
 use Rattle.mtn_certs.proofs.Certs.{certs_total, exact_certs}
-use Rattle.mtn_model.specs.State.{Holds}
+use Rattle.mtn_model.specs.State.{Certificates, Holds}
 use Rattle.mtn_model.specs.Table.{Table}
-use Rattle.mtn_history.specs.Certificates.{AreCertRecords, IsCertKey, cert_key}
-use Rattle.mtn_store_laws.specs.Spelled.{cert_of, certs_in}
-use Rattle.mtn_store_laws.proofs.SpelledCerts.{cert_back}
-
--- the name of a certificate is short
-second_of : (a b c : Bool) → (a && b && c) ≡ true → b ≡ true
-second_of true true c e = refl
-second_of true false c e = absurd cc
-second_of false b c e = absurd cc
-
-short_name : (name : List ℕ) → is_field name ≡ true → length name < 2 ^ 32
-short_name name field = few (length name) (second_of (not (length name == 0)) (nat_le (length name) 255) (list_all is_field_byte name) field)
-  where
-    few : (n : ℕ) → nat_le n 255 ≡ true → n < 2 ^ 32
-    few n e = let low : n ≤ 255 = grind (arith, nat_tests) in omega (arith, low)
-
--- a key spells its certificate
-pub spelled_by : (k : List ℕ) (c : Certificate) → IsCertKey k c → cert_of k ≡ c
-spelled_by k c is = ap cert_of is.whole ∙ cert_back c (short_name c.name is.lawful.name) is.lawful is.revision is.made_by
-
--- keys of a list and what they spell
-abbrev entry_of : List ℕ → Certificate × Unit {0}
-entry_of key = (cert_of key, tt)
 
 abbrev has : List (List ℕ) → List ℕ → Bool
 has ks k = list_any (eq_by_cmp (slice_cmp nat_cmp) k) ks
@@ -50,62 +26,81 @@ tied Greater e = absurd cc
 same_key : (k x : List ℕ) → eq_by_cmp (slice_cmp nat_cmp) k x ≡ true → k ≡ x
 same_key k x e = slice_cmp-IsAntisymmetric nat_cmp-IsAntisymmetric k x (tied (slice_cmp nat_cmp k x) e)
 
-found_of : (ks : List (List ℕ)) (k : List ℕ) → has ks k ≡ true → find cert_cmp (cert_of k) (map entry_of ks) ≡ Some tt
-found_of [] k there = absurd cc
-found_of (x ∷ ks) k there =
-    elim (eq_by_cmp cert_cmp (cert_of k) (cert_of x)) as (λ b. eq_by_cmp cert_cmp (cert_of k) (cert_of x) ≡ b → cond b (Some tt) (find cert_cmp (cert_of k) (map entry_of ks)) ≡ Some tt) [
-      | true ↦ λ e. refl
-      | false ↦ λ e. found_of ks k (later (eq_by_cmp (slice_cmp nat_cmp) k x) refl there e)
-    ] refl
+itself : (k : List ℕ) (ks : List (List ℕ)) → has (k ∷ ks) k ≡ true
+itself k ks = ap (λ b. b || has ks k) (ap is_eq (tied_itself nat_list_cmp_total k))
+
+second : (a b : Bool) → b ≡ true → (a || b) ≡ true
+second true b e = refl
+second false b e = e
+
+in_rest : (x k : List ℕ) (ks : List (List ℕ)) → has ks k ≡ true → has (x ∷ ks) k ≡ true
+in_rest x k ks there = second (eq_by_cmp (slice_cmp nat_cmp) k x) (has ks k) there
+
+abbrev Entries : Type 0
+Entries = List (Certificate × Unit {0})
+
+found_first : (x : Certificate) (es : Entries) → find cert_cmp x ((x, tt) ∷ es) ≡ Some tt
+found_first x es = ap (λ b. cond b (Some tt) (find cert_cmp x es)) (ap is_eq (tied_itself certs_total x))
+
+found_later : (x y : Certificate) (es : Entries) → find cert_cmp x es ≡ Some tt → find cert_cmp x ((y, tt) ∷ es) ≡ Some tt
+found_later x y es found = by (eq_by_cmp cert_cmp x y)
   where
-    later : (b : Bool) → eq_by_cmp (slice_cmp nat_cmp) k x ≡ b → (b || has ks k) ≡ true → eq_by_cmp cert_cmp (cert_of k) (cert_of x) ≡ false → has ks k ≡ true
-    later false same h e = h
-    later true same h e = absurd (
-        let ties : eq_by_cmp cert_cmp (cert_of k) (cert_of x) ≡ true = ap (λ y. eq_by_cmp cert_cmp (cert_of k) (cert_of y)) (sym (same_key k x same)) ∙ ap is_eq (tied_itself certs_total (cert_of k)) in
-        cc)
+    by : (b : Bool) → cond b (Some tt) (find cert_cmp x es) ≡ Some tt
+    by true = refl
+    by false = found
 
-key_of : (ks : List (List ℕ)) (q : Certificate) → find cert_cmp q (map entry_of ks) ≡ Some tt → (k : List ℕ) × (has ks k ≡ true) × (cert_of k ≡ q)
-key_of [] q e = absurd cc
-key_of (x ∷ ks) q e =
-    elim (eq_by_cmp cert_cmp q (cert_of x)) as (λ b. eq_by_cmp cert_cmp q (cert_of x) ≡ b → cond b (Some tt) (find cert_cmp q (map entry_of ks)) ≡ Some tt → (k : List ℕ) × (has (x ∷ ks) k ≡ true) × (cert_of k ≡ q)) [
-      | true ↦ λ same h. (x, first (ap is_eq (tied_itself nat_list_cmp_total x)), sym (exact_certs q (cert_of x) (tied (cert_cmp q (cert_of x)) same)))
-      | false ↦ λ same h. let o = key_of ks q h in (o.0, second (eq_by_cmp (slice_cmp nat_cmp) o.0 x) (has ks o.0) o.1, o.2)
-    ] refl e
-  where
-    first : eq_by_cmp (slice_cmp nat_cmp) x x ≡ true → (eq_by_cmp (slice_cmp nat_cmp) x x || has ks x) ≡ true
-    first e = ap (λ b. b || has ks x) e
+-- a certificate for each of some keys
+module _ (R : List ℕ → Certificate → Type 0) where
+  record Chosen (ks : List (List ℕ)) : Type 0 where
+    entries : Entries
+    to : (k : List ℕ) → has ks k ≡ true → (x : Certificate) × R k x × (find cert_cmp x entries ≡ Some tt)
+    back : (x : Certificate) → find cert_cmp x entries ≡ Some tt → (k : List ℕ) × (has ks k ≡ true) × R k x
 
-    second : (a b : Bool) → b ≡ true → (a || b) ≡ true
-    second true b e = refl
-    second false b e = e
-
--- a table whose keys are those of lawful certificates, with empty bodies
-module _ (t : Table) (each : (k b : List ℕ) → get t k ≡ Some b → (c : Certificate) × IsCertKey k c × (b ≡ [])) where
-  held_key : (q : Certificate) → Holds (certs_in t) q → (k : List ℕ) × (b : List ℕ) × (get t k ≡ Some b) × (cert_of k ≡ q)
-  held_key q held =
-      let k = key_of (keys t) q (sym (get-from_entries certs_total (map entry_of (keys t)) q) ∙ held) in
-      by k.0 (get t k.0) refl k.1 k.2
-    where
-      by : (k : List ℕ) (o : Option (List ℕ)) → get t k ≡ o → has (keys t) k ≡ true → cert_of k ≡ q → (j : List ℕ) × (b : List ℕ) × (get t j ≡ Some b) × (cert_of j ≡ q)
-      by k (Some b) is there same = (k, b, is, same)
-      by k None is there same = absurd (let none : is_some (get t k) ≡ false = ap is_some is in let some : is_some (get t k) ≡ true = contains_key-keys t k ∙ there in cc)
-
-  -- the key of a certificate of the set
-  pub recorded : (q : Certificate) → Holds (certs_in t) q → (k : List ℕ) × (get t k ≡ Some []) × IsCertKey k q
-  recorded q held =
-      let o = held_key q held in
-      let e = each o.0 o.1 o.2 in
-      let same : e.0 ≡ q = sym (spelled_by o.0 e.0 e.1) ∙ o.3 in
-      (o.0, o.2 ∙ ap Some e.2, subst (IsCertKey o.0) same e.1)
-
-  holds_own : (k b : List ℕ) (c : Certificate) → get t k ≡ Some b → IsCertKey k c → Holds (certs_in t) c
-  holds_own k b c at is =
-      ap (get (certs_in t)) (sym (spelled_by k c is)) ∙ get-from_entries certs_total (map entry_of (keys t)) (cert_of k)
-      ∙ found_of (keys t) k (sym (contains_key-keys t k) ∙ ap is_some at)
-
-  -- they are the records of the set that they spell
-  pub are_records : AreCertRecords (certs_in t) t
-  are_records = record {
-    each = λ c held. let o = recorded c held in ap (get t) (sym o.2.whole) ∙ o.1;
-    only = λ k b at. let e = each k b at in (e.0, holds_own k b e.0 at e.1, e.1.whole);
+  one_more : (y : List ℕ) (ks : List (List ℕ)) → (x : Certificate) → R y x → Chosen ks → Chosen (y ∷ ks)
+  one_more y ks x own rest = record {
+    entries = (x, tt) ∷ rest.entries;
+    to = λ k there. to k (eq_by_cmp (slice_cmp nat_cmp) k y) refl there;
+    back = λ z found. back z (eq_by_cmp cert_cmp z x) refl found;
   }
+    where
+      to : (k : List ℕ) (b : Bool) → eq_by_cmp (slice_cmp nat_cmp) k y ≡ b → (b || has ks k) ≡ true → (z : Certificate) × R k z × (find cert_cmp z ((x, tt) ∷ rest.entries) ≡ Some tt)
+      to k true same there = (x, subst (λ j. R j x) (sym (same_key k y same)) own, found_first x rest.entries)
+      to k false same there = let o = rest.to k there in (o.0, o.1, found_later o.0 x rest.entries o.2)
+
+      back : (z : Certificate) (b : Bool) → eq_by_cmp cert_cmp z x ≡ b → cond b (Some tt) (find cert_cmp z rest.entries) ≡ Some tt → (k : List ℕ) × (has (y ∷ ks) k ≡ true) × R k z
+      back z true same found = (y, itself y ks, subst (R y) (sym (exact_certs z x (tied (cert_cmp z x) same))) own)
+      back z false same found = let o = rest.back z found in (o.0, in_rest y o.0 ks o.1, o.2)
+
+  choose : (ks : List (List ℕ)) → ((k : List ℕ) → has ks k ≡ true → (x : Certificate) × R k x) → Chosen ks
+  choose [] each = record { entries = []; to = λ k there. absurd cc; back = λ x found. absurd cc }
+  choose (y ∷ ks) each = let own = each y (itself y ks) in one_more y ks own.0 own.1 (choose ks (λ k there. each k (in_rest y k ks there)))
+
+in_keys : (t : Table) (k b : List ℕ) → get t k ≡ Some b → has (keys t) k ≡ true
+in_keys t k b at = sym (contains_key-keys t k) ∙ ap is_some at
+
+of_keys : (t : Table) (k : List ℕ) → has (keys t) k ≡ true → (b : List ℕ) × (get t k ≡ Some b)
+of_keys t k there = by (get t k) refl
+  where
+    by : (o : Option (List ℕ)) → get t k ≡ o → (b : List ℕ) × (get t k ≡ Some b)
+    by (Some b) is = (b, is)
+    by None is = absurd (let none : is_some (get t k) ≡ false = ap is_some is in let some : is_some (get t k) ≡ true = contains_key-keys t k ∙ there in cc)
+
+-- where a relation has a certificate for each key of a table, a set has one for each, and no others
+module _ (R : List ℕ → Certificate → Type 0) (t : Table) (each : (k b : List ℕ) → get t k ≡ Some b → (x : Certificate) × R k x) where
+  chosen : Chosen R (keys t)
+  chosen = choose R (keys t) (λ k there. let b = of_keys t k there in each k b.0 b.1)
+
+  pub certs : Certificates
+  certs = from_entries chosen.entries
+
+  pub cert_of_key : (k b : List ℕ) → get t k ≡ Some b → (x : Certificate) × R k x × Holds certs x
+  unfolding certs
+  cert_of_key k b at =
+      let o = chosen.to k (in_keys t k b at) in
+      (o.0, o.1, get-from_entries certs_total chosen.entries o.0 ∙ o.2)
+
+  pub key_of_cert : (x : Certificate) → Holds certs x → (k : List ℕ) × R k x
+  unfolding certs
+  key_of_cert x held =
+      let o = chosen.back x (sym (get-from_entries certs_total chosen.entries x) ∙ held) in
+      (o.0, o.2)

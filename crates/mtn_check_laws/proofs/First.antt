@@ -1,6 +1,6 @@
 -- A first damage is one at most, and contents without damage have none.
 use Rattle.std.specs.Prelude.{slice_get}
-use Rattle.std.proofs.Common.{◌≡◌, ◌≤◌, ◌<◌, ◌+◌, ◌^◌, ℕ, zero, suc, List, [], ◌++◌, length, Option, Some, None, refl, sym, ap, ◌∙◌, subst, ◌⊎◌, inl, inr, arith}
+use Rattle.std.proofs.Common.{◌≡◌, ◌≤◌, ◌<◌, ◌^◌, ℕ, zero, suc, List, [], ◌++◌, length, Option, Some, None, refl, sym, ap, ◌∙◌, subst, ◌⊎◌, inl, inr, arith}
 use Rattle.std.proofs.lemmas.Cmp.{nat_list_cmp_total}
 use Rattle.std.specs.FinMap.{slice_cmp-IsAntisymmetric, nat_cmp-IsAntisymmetric}
 use Rattle.std.specs.Ordering.{nat_cmp, ordering_reverse}
@@ -22,7 +22,7 @@ use Rattle.mtn_history.specs.Logs.{IsLogged, UnloggedAt, RepeatedAt}
 use Rattle.mtn_history.specs.Meta.{count_key, version_key, version, VersionDamage}
 use Rattle.mtn_check_laws.specs.Records.{Rule, AllKeep, IsBefore, IsFirstBreak}
 use Rattle.mtn_check_laws.specs.Fronts.{Front, Step, IsEntered, IsTextAt, IsTold, IsStepAt, IsFrontAt, StandsTo}
-use Rattle.mtn_check_laws.specs.FirstDamage.{NoRecord, IsMetaKey, IsUsed, IsFileRecord, IsPlacedIn, IsNameRecord, IsCertRecord, IsCount, WrongCount, TextDamageAt, TellDamageAt, RosterDamageAt, IsDamageAt, at_log, at_text, at_telling, at_roster, IsWalked, IsFirstDamage, in_new, in_count, in_version, in_meta, in_others, in_files, in_walk, unplaced, in_names, in_certs, HoldsNothing, IsWhole, IsClean}
+use Rattle.mtn_check_laws.specs.FirstDamage.{NoRecord, IsMetaKey, IsUsed, IsFileRecord, IsPlacedIn, IsNameRecord, IsCertRecord, IsCount, WrongCount, TextDamageAt, TellDamageAt, RosterDamageAt, IsDamageAt, at_log, at_text, at_telling, at_roster, IsBegun, IsWalked, IsFirstDamage, in_new, in_count, in_version, in_meta, in_others, in_files, in_walk, unplaced, in_names, in_certs, HoldsNothing, IsWhole, IsClean}
 use Rattle.mtn_check_laws.proofs.Walks.{one_body, one_logged, one_rest, one_next, one_front}
 use Rattle.mtn_check_laws.proofs.Standing.{front_stands}
 

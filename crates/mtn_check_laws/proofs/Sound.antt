@@ -1,9 +1,6 @@
--- Contents without damage stand for the state that they spell, and contents that stand for a state have no damage and spell it.
-use Rattle.std.specs.Prelude.{take, drop, bytes_eq, IsSome}
-use Rattle.std.specs.Option.{option_map_or}
-use Rattle.std.specs.Int.{w64, from_be_bytes}
-use Rattle.std.proofs.Common.{◌≡◌, ◌+◌, ℕ, zero, suc, Bool, true, false, cond, List, [], ◌∷◌, ◌++◌, length, Option, Some, None, refl, sym, ap, ◌∙◌, subst, ◌⊎◌, ⊎_elim, inl, inr}
-use Rattle.std.proofs.lemmas.List.{take_at, drop_at}
+-- Contents without damage stand for a state, and contents that stand for a state have no damage.
+use Rattle.std.specs.Prelude.{bytes_eq, IsSome}
+use Rattle.std.proofs.Common.{◌≡◌, ℕ, Bool, true, false, cond, List, [], length, Option, Some, None, refl, sym, ap, ◌∙◌, subst, ◌⊎◌, ⊎_elim, inl, inr}
 use Rattle.std.proofs.lemmas.Cmp.{nat_list_cmp_total}
 use Rattle.std.proofs.lemmas.Slice.Eq.{bytes_eq-Decides}
 use Rattle.std.specs.FinMap.{get, insert, empty, get-empty, same_map, slice_cmp-IsAntisymmetric, nat_cmp-IsAntisymmetric}
@@ -13,22 +10,20 @@ use Rattle.mtn_certs.specs.Certificates.{Certificate}
 use Rattle.mtn_replay.specs.Lawful.{IsHistory, IsLawful}
 use Rattle.mtn_replay.specs.Texts.{text_under}
 use Rattle.mtn_replay.proofs.Histories.{log_is_short}
-use Rattle.mtn_model.specs.State.{Holds, Logged, State, empty_state}
+use Rattle.mtn_model.specs.State.{Certificates, Holds, State, empty_state}
 use Rattle.mtn_model.specs.Table.{Table, Contents, body_at, nothing, no_table}
 use Rattle.mtn_records.specs.Fields.{number_text}
 use Rattle.mtn_history.specs.Certificates.{IsCertKey}
 use Rattle.mtn_history.specs.Meta.{meta_of, count_key, version_key, version}
 use Rattle.mtn_history.specs.Stands.{StandsFor, IsNew, Stands}
 use Rattle.mtn_replay.proofs.FileLemmas.{get_inserted, found_more}
-use Rattle.mtn_history.proofs.MetaLemmas.{held_count, held_version, none_held, told_back}
-use Rattle.mtn_store_laws.specs.Spelled.{held_or_none, certs_in, count_of, id_at, logged_at, log_below, spelled}
-use Rattle.mtn_store_laws.proofs.OneState.{stands_spelled}
-use Rattle.mtn_check_laws.specs.Fronts.{Front, Step, IsStepAt, IsFrontAt, StandsTo}
+use Rattle.mtn_history.proofs.MetaLemmas.{held_count, held_version, none_held}
+use Rattle.mtn_check_laws.specs.Fronts.{Front, StandsTo}
 use Rattle.mtn_check_laws.specs.FirstDamage.{IsCount, IsCertOf, HoldsNothing, IsWhole, IsClean}
 use Rattle.mtn_check_laws.proofs.Walks.{one_body}
 use Rattle.mtn_check_laws.proofs.Standing.{front_stands}
 use Rattle.mtn_check_laws.proofs.Cutting.{stands_walk}
-use Rattle.mtn_check_laws.proofs.Certs.{spelled_by, recorded, are_records}
+use Rattle.mtn_check_laws.proofs.Certs.{certs, cert_of_key, key_of_cert}
 
 clash : (o : Option (List ℕ)) (body : List ℕ) → o ≡ Some body → o ≡ None → ⊥
 clash o body there none = cc
@@ -44,37 +39,10 @@ pub none_in : (t : Table) → ((k b : List ℕ) → get t k ≡ Some b → ⊥) 
 none_in t never = same_map nat_list_cmp_total (slice_cmp-IsAntisymmetric nat_cmp-IsAntisymmetric) t empty
     (λ q. no_get t q (never q) ∙ sym (get-empty (slice_cmp nat_cmp) q))
 
--- the records of a position spell its revision
 module _ (f : List ℕ → List ℕ) (c : Contents) where
-  id_is : (r : ℕ) (front : Front) (s : Step) (step : IsStepAt f c r front s) → id_at c r ≡ step.entry.id.0
-  id_is r front s step =
-      ap (λ o. take 20 (held_or_none o)) step.entered.logged.held ∙ ap (take 20) step.entered.logged.text.whole
-      ∙ take_at step.entry.id.0 _ 20 step.entered.logged.text.formed.0
-
-  logged_is : (r : ℕ) (front : Front) (s : Step) → IsStepAt f c r front s → s.logged ≡ logged_at c r
-  logged_is r front s step =
-      let id = id_is r front s step in
-      let text : drop 8 (held_or_none (body_at c 3 (id_at c r))) ≡ s.logged.text =
-      ap (λ i. drop 8 (held_or_none (body_at c 3 i))) id ∙ ap (λ o. drop 8 (held_or_none o)) step.text.held ∙ drop_at (number_text r) s.logged.text 8 refl in
-      λ i. record { id = (step.text.same ∙ sym id) i; text = sym text i }
-
-  pub walk_log : (r : ℕ) (front : Front) → IsFrontAt f c r front → front.log ≡ log_below c r
-  walk_log zero front is = ap (λ (x : Front). x.log) is
-  walk_log (suc r) front (before, s, walked, step, is) =
-      ap (λ (x : Front). x.log) is ∙ (λ i. walk_log r before walked i ++ logged_is r before s step i ∷ [])
-
   module _ (w : IsWhole f c) where
-    abbrev own : State
-    own = record { files = c 2; log = w.front.log; certs = certs_in (c 8); keys = c 7 }
-
     abbrev count : IsCount c w.number
     count = w.walked.begun.count
-
-    counted : count_of c ≡ w.number
-    counted = ap (λ o. option_map_or (from_be_bytes w64) o 0) count.held ∙ told_back w.number count.limit
-
-    spelled_is : spelled c ≡ own
-    spelled_is = ap (λ (l : List Logged). record { files = c 2; log = l; certs = certs_in (c 8); keys = c 7 }) (ap (log_below c) counted ∙ sym (walk_log w.number w.front w.walked.positions))
 
     meta_get : (q : List ℕ) → get (meta_of version w.number) q ≡ cond (bytes_eq q version_key) (Some version) (cond (bytes_eq q count_key) (Some (number_text w.number)) None)
     meta_get q = get_inserted (insert empty count_key (number_text w.number)) version_key version q
@@ -92,20 +60,23 @@ module _ (f : List ℕ → List ℕ) (c : Contents) where
         by false true differ is = ap (get (c 1)) ((bytes_eq-Decides q count_key).0 is) ∙ count.held
         by false false differ neither = no_get (c 1) q (λ b h. ⊎_elim (other count_key neither) (other version_key differ) (w.walked.begun.meta 1 q b h refl))
 
-    -- the records of certificates are those of the set that they spell
-    cert_keys : (k b : List ℕ) → get (c 8) k ≡ Some b → (x : Certificate) × IsCertKey k x × (b ≡ [])
-    cert_keys k b at = let o = w.certs 8 k b at refl in (o.cert, o.is, o.bare)
+    -- a certificate of a key of table 8
+    record IsOf (k : List ℕ) (x : Certificate) : Type 0 where
+      is : IsCertKey k x
+      spoken_of : IsSome (text_under w.front.log x.revision.0)
+      held : get (c 8) k ≡ Some []
 
-    cert_key_of : (x : Certificate) → Holds (certs_in (c 8)) x → (k : List ℕ) × (get (c 8) k ≡ Some []) × IsCertKey k x
-    cert_key_of x held = recorded (c 8) cert_keys x held
+    cert_at : (k b : List ℕ) → get (c 8) k ≡ Some b → (x : Certificate) × IsOf k x
+    cert_at k b at = let o = w.certs 8 k b at refl in (o.cert, record { is = o.is; spoken_of = o.spoken_of; held = at ∙ ap Some o.bare })
 
-    -- one key is that of one certificate
-    spoken_of : (x : Certificate) → Holds (certs_in (c 8)) x → IsSome (text_under w.front.log x.revision.0)
-    spoken_of x held =
-        let k = cert_key_of x held in
-        let o = w.certs 8 k.0 [] k.1 refl in
-        let same : o.cert ≡ x = sym (spelled_by k.0 o.cert o.is) ∙ spelled_by k.0 x k.2 in
-        subst (λ (y : Certificate). IsSome (text_under w.front.log y.revision.0)) same o.spoken_of
+    abbrev own_certs : Certificates
+    own_certs = certs IsOf (c 8) cert_at
+
+    key_of : (x : Certificate) → Holds own_certs x → (k : List ℕ) × IsOf k x
+    key_of x held = key_of_cert IsOf (c 8) cert_at x held
+
+    abbrev own : State
+    own = record { files = c 2; log = w.front.log; certs = own_certs; keys = c 7 }
 
     own_lawful : IsLawful f own
     own_lawful = record {
@@ -113,11 +84,11 @@ module _ (f : List ℕ → List ℕ) (c : Contents) where
       history = w.front.history;
       log = (front_stands f c w.number w.front w.walked.positions).spelled;
       certs = record {
-        lawful = λ x held. (cert_key_of x held).2.lawful;
-        revisions = λ x held. (cert_key_of x held).2.revision;
-        keys = λ x held. (cert_key_of x held).2.made_by;
+        lawful = λ x held. (key_of x held).1.is.lawful;
+        revisions = λ x held. (key_of x held).1.is.revision;
+        keys = λ x held. (key_of x held).1.is.made_by;
       };
-      spoken_of = spoken_of;
+      spoken_of = λ x held. (key_of x held).1.spoken_of;
       keys = record { ids = λ id name h. (w.names 7 id name h refl).0; names = λ id name h. (w.names 7 id name h refl).1 };
     }
 
@@ -138,21 +109,20 @@ module _ (f : List ℕ → List ℕ) (c : Contents) where
             rosters = record { each = s.rosters; only = λ key body h. (w.placed 5 key body h).roster refl };
           };
           keys = refl;
-          certs = are_records (c 8) cert_keys;
+          certs = record {
+            each = λ x held. let k = key_of x held in ap (get (c 8)) (sym k.1.is.whole) ∙ k.1.held;
+            only = λ k b at. let o = cert_of_key IsOf (c 8) cert_at k b at in (o.0, o.2, o.1.is.whole);
+          };
           others = λ t other. none_in (c t) (λ k b h. w.walked.begun.used t k b h other);
         }
-
-    pub whole_stands : StandsFor f c (spelled c)
-    whole_stands = subst (StandsFor f c) (sym spelled_is) own_stands
 
   holds_none : HoldsNothing c → c ≡ nothing
   holds_none h = λ i t. none_in (c t) (λ k b at. h.none t k b at) i
 
-  pub clean_stands : IsClean f c → Stands f c (spelled c)
-  clean_stands (inl none) =
-      let new : IsNew c empty_state = record { records = holds_none none; state = refl } in
-      subst (Stands f c) (stands_spelled f c empty_state (inl new)) (inl new)
-  clean_stands (inr w) = inr (whole_stands w)
+  -- a state for which contents without damage stand
+  pub clean_stands : IsClean f c → (s : State) × Stands f c s
+  clean_stands (inl none) = (empty_state, inl (record { records = holds_none none; state = refl }))
+  clean_stands (inr w) = (own w, inr (own_stands w))
 
   module _ (s : State) (stands : StandsFor f c s) where
     abbrev pub front : Front
@@ -179,8 +149,8 @@ module _ (f : List ℕ → List ℕ) (c : Contents) where
     file_of : (t : ℕ) (k b : List ℕ) → body_at c t k ≡ Some b → t ≡ 2 → get s.files k ≡ Some b
     file_of t k b h e = ap (λ (m : Table). get m k) (sym stands.base.files) ∙ table_of t 2 k b e h
 
-    cert_at : (t : ℕ) (k b : List ℕ) → body_at c t k ≡ Some b → t ≡ 8 → IsCertOf front k b
-    cert_at t k b h e =
+    record_at : (t : ℕ) (k b : List ℕ) → body_at c t k ≡ Some b → t ≡ 8 → IsCertOf front k b
+    record_at t k b h e =
         let at = table_of t 8 k b e h in
         let o = stands.certs.only k b at in
         let law = stands.lawful.certs in
@@ -214,7 +184,7 @@ module _ (f : List ℕ → List ℕ) (c : Contents) where
         roster = λ e. stands.base.rosters.only k b (table_of t 5 k b e h);
       };
       names = λ t k b h e. (stands.lawful.keys.ids k b (name_at t k b h e), stands.lawful.keys.names k b (name_at t k b h e));
-      certs = λ t k b h e. cert_at t k b h e;
+      certs = λ t k b h e. record_at t k b h e;
     }
 
   new_nothing : (s : State) → IsNew c s → HoldsNothing c

@@ -1,5 +1,7 @@
 //! The laws of the first damage.
 
+use mtn_store_laws::one_state;
+
 ghost use Rattle.std.specs.Prelude.{◌≡◌, ◌≢◌, ◌≤◌, ℕ, List, [], ◌∷◌, ◌++◌, Some, slice_get};
 ghost use Rattle.mtn_history.specs.Damage.{IsShown};
 ghost use Rattle.mtn_history.specs.Revisions.{Kept, IsRosterOf};
@@ -14,7 +16,6 @@ ghost use Rattle.mtn_records.specs.declared.record.RosterRecord.{RosterRecord};
 ghost use Rattle.mtn_store_laws.specs.Spelled.{spelled};
 ghost use Rattle.mtn_check_laws.specs.FirstDamage.{IsFirstDamage, IsClean};
 ghost use Rattle.mtn_check_laws.specs.Fronts.{Front, IsFrontAt, IsKeptNext, StandsTo};
-ghost use Rattle.mtn_check_laws.specs.Records.{Rule, AllKeep};
 ghost use Rattle.mtn_check_laws.specs.Sets.{HaveSets};
 
 /// Contents in which no step of a check finds damage stand for the state that they spell, and contents that stand for a state
@@ -22,7 +23,9 @@ ghost use Rattle.mtn_check_laws.specs.Sets.{HaveSets};
 pub fn no_damage_stands()
     ensures stands { (f : List ℕ → List ℕ) (c : Contents) → IsClean f c → Stands f c (spelled c) }
     ensures clean { (f : List ℕ → List ℕ) (c : Contents) (s : State) → Stands f c s → IsClean f c }
-{}
+{
+    one_state();
+}
 
 /// Contents that stand for a state have no first damage, nor have those in which no step finds any; where there is one, it shows
 /// a record that is held, or a key under which nothing is.
@@ -37,11 +40,10 @@ pub fn one_damage()
     ensures { (f : List ℕ → List ℕ) (c : Contents) (d e : Damage) → IsFirstDamage f c d → IsFirstDamage f c e → d ≡ e }
 {}
 
-/// In contents that a keeper can hold, a rule is kept by all records if it is kept in the tables up to 255 under keys that are not
-/// empty. These are the records that a walk by `next` meets.
+/// In contents that a keeper can hold, each record stands in a table up to 255, under a key that is not empty: so a walk of these
+/// tables by `next` meets all records.
 pub fn all_are_met()
-    ensures { (rule : Rule) (c : Contents) → AreKeyed c →
-        ((table : ℕ) (key body : List ℕ) → table ≤ 255 → key ≢ [] → body_at c table key ≡ Some body → rule table key body) → AllKeep rule c }
+    ensures { (c : Contents) (table : ℕ) (key body : List ℕ) → AreKeyed c → body_at c table key ≡ Some body → (table ≤ 255) × (key ≢ []) }
 {}
 
 /// The records that a walk went over stand for its front: the history that its texts spell, and what is kept of it.
