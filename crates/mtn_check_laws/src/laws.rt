@@ -1,7 +1,5 @@
 //! The laws of the first damage.
 
-use mtn_store_laws::one_state;
-
 ghost use Rattle.std.specs.Prelude.{◌≡◌, ◌≢◌, ◌≤◌, ℕ, List, [], ◌∷◌, ◌++◌, Some, slice_get};
 ghost use Rattle.mtn_history.specs.Damage.{IsShown};
 ghost use Rattle.mtn_history.specs.Revisions.{Kept, IsRosterOf};
@@ -17,6 +15,8 @@ ghost use Rattle.mtn_store_laws.specs.Spelled.{spelled};
 ghost use Rattle.mtn_check_laws.specs.FirstDamage.{IsFirstDamage, IsClean};
 ghost use Rattle.mtn_check_laws.specs.Fronts.{Front, IsFrontAt, IsKeptNext, StandsTo};
 ghost use Rattle.mtn_check_laws.specs.Sets.{HaveSets};
+
+use mtn_store_laws::one_state;
 
 /// Contents in which no step of a check finds damage stand for the state that they spell, and contents that stand for a state
 /// are such.
