@@ -1,0 +1,9 @@
+mod Walks
+mod Standing
+mod Cutting
+mod Certs
+mod Sound
+mod First
+mod Rosters
+mod Due
+mod Meeting

@@ -1,0 +1,4 @@
+pub mod Records
+pub mod Sets
+pub mod Fronts
+pub mod FirstDamage
