@@ -2,7 +2,7 @@
 ghost use Rattle.std.specs.Prelude.{◌≡◌, ◌≤◌, ◌↔◌, IfOk, IfSome, IsErrOf, IsOk, IsTrue, OnErr, OnOk};
 ghost use Rattle.mtn_model.specs.Table.{nothing};
 ghost use Rattle.mtn_ports.specs.Causes.{RisesByOne, Rose};
-ghost use Rattle.mtn_ports.specs.Kept.{Adds, AreKeyed, Gets, MayLeave, Same, Stays, StaysAbove, Steps, with_all};
+ghost use Rattle.mtn_ports.specs.Kept.{Adds, AreKeyed, Gets, MayLeave, Same, Stays, StaysAbove, Steps, TellsBody, with_all};
 ghost use Rattle.mtn_ports.specs.Memory.{called, is_listed, keeper_calls, kept, none_yet};
 
 use mtn_base::NoMemory;
@@ -38,6 +38,25 @@ pub fn next<K: Keeper>(
     ensures reads { RisesByOne (K.reads keeper.old) (K.reads keeper.new) }
 {
     keeper.next(table, after, key)
+}
+
+/// As `Keeper::next_record`.
+pub fn next_record<K: Keeper>(
+    keeper: &mut K,
+    table: u8,
+    after: &[u8],
+    key: &mut Vec<u8>,
+    body: &mut Vec<u8>,
+) -> Result<bool, KeepError>
+    ensures found { Steps (K.contents keeper.new) table after.now result key.new.items }
+    ensures told { TellsBody (K.contents keeper.new) table result key.new.items body.new.items }
+    ensures above { StaysAbove after.now result key.new.items }
+    ensures keyed { OnOk result (IfSome (K.contents keeper.new) AreKeyed) }
+    ensures stays { Stays K.contents K.leaves K.faults keeper.old keeper.new }
+    ensures failed { IsErrOf result KeepError.Failed → Rose (K.faults keeper.old) (K.faults keeper.new) }
+    ensures reads { RisesByOne (K.reads keeper.old) (K.reads keeper.new) }
+{
+    keeper.next_record(table, after, key, body)
 }
 
 /// As `Keeper::apply`.
