@@ -4,11 +4,15 @@
 //! meet these clauses, a body that they refuse is no body of the call.
 #![tactic(auto)]
 
-ghost use Rattle.std.specs.Prelude.{◌≡◌, IfOk, map};
+ghost use Rattle.std.specs.Prelude.{◌≡◌, List as Seq, IfErr, IfOk, MatchResult, map};
 ghost use Rattle.sha1.specs.Sha1.{sha1};
 ghost use Rattle.mtn_base.specs.Hex.{id_of};
+ghost use Rattle.mtn_packets.specs.Faults.{IsError};
+ghost use Rattle.mtn_packets.specs.Packets.{ArePackets};
+ghost use Rattle.mtn_packets.specs.declared.packet.Packet.{Packet as P};
 
 use mtn_base::{Id, NoMemory, Text};
+use mtn_packets::{Packet, PacketError};
 use mtn_pieces::{FreeGate, Gate, Sha1Many};
 use mtn_ports::Ident;
 use std::alloc::Global;
@@ -43,4 +47,18 @@ pub fn id(many: &Sha1Many<FreeGate>, text: &[u8]) -> Id
     ensures { result.0 ≡ sha1 text.now }
 {
     many.id(text)
+}
+
+/// As `mtn_pieces::read_in_pieces`.
+pub fn read_in_pieces<R: Threads>(
+    rt: &R,
+    alloc: Global,
+    pieces: usize,
+    text: &[u8],
+) -> Result<Vec<Packet>, PacketError>
+    ensures ok { IfOk result (λ v. ArePackets v.items text.now) }
+    ensures err { IfErr result (λ e. IsError e text.now) }
+    ensures only { (packets : Seq P) → ArePackets packets text.now → MatchResult result (λ v. v.items ≡ packets) (λ e. e ≡ PacketError.NoMemory) }
+{
+    mtn_pieces::read_in_pieces(rt, alloc, pieces, text)
 }

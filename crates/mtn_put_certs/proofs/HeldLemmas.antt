@@ -4,17 +4,13 @@ use Rattle.std.specs.Cmp.{nat_cmp_total, tied_itself}
 use Rattle.std.specs.Cmp.Lexicographic.{slice_cmp}
 use Rattle.std.specs.FinMap.{get, get-empty}
 use Rattle.std.specs.Ordering.{nat_cmp, ordering_then}
-use Rattle.std.proofs.Common.{◌≡◌, ◌↔◌, ◌+◌, ◌<◌, ◌≤◌, ⊎_elim, inl, inr, length, take, get_or, ℕ, Bool, true, false, List, [], ◌∷◌, ◌++◌, Option, Some, None, Result, Ok, Err, refl, sym, ap, ◌∙◌, subst}
-use Rattle.std.proofs.lemmas.List.{take_all, take_more}
-use Rattle.std.proofs.lemmas.List.Elements.{Contains-append_left, Contains-push, Contains-push_cases}
-use Rattle.mtn_base.specs.Lists.{IsListOf}
-use Rattle.mtn_base.specs.Names.{bytes_cmp}
+use Rattle.std.proofs.Common.{◌≡◌, ◌↔◌, inl, inr, ℕ, Bool, true, false, List, [], ◌∷◌, ◌++◌, Option, Some, None, Result, Ok, Err, refl, sym, ap, ◌∙◌, subst}
 use Rattle.mtn_base.specs.declared.id.Id.{Id}
 use Rattle.mtn_certs.specs.Certificates.{Certificate, IsIdBytes, is_field}
 use Rattle.mtn_certs.specs.Order.{cert_cmp}
 use Rattle.mtn_model.specs.State.{Holds, State}
 use Rattle.mtn_model.specs.Table.{Contents, body_at}
-use Rattle.mtn_ports.specs.Kept.{IsAbove, IsBody, with_all}
+use Rattle.mtn_ports.specs.Kept.{IsAbove, IsBody, Same, with_all}
 use Rattle.mtn_records.specs.Apart.{id_apart}
 use Rattle.mtn_records.specs.Fields.{field_text, id_text}
 use Rattle.mtn_history.specs.Certificates.{CertDamage, IsCertKey, KeyDamage, cert_key}
@@ -26,9 +22,11 @@ use Rattle.mtn_history.specs.declared.errors.StoreError.{StoreError}
 use Rattle.mtn_history.specs.declared.errors.StoreError.TheVariants.{Damaged, Failed, NoMemory}
 use Rattle.mtn_history.specs.declared.pending.Pending.{Pending}
 use Rattle.mtn_history.proofs.CertRecords.{no_cert_damage, no_key_damage}
-use Rattle.mtn_put_certs.specs.Reading.{AreBehind, AreCertsOf, AreRecorded}
-use Rattle.mtn_put_certs.specs.Walking.{IsBehind, IsHeldBehind}
+use Rattle.mtn_put_certs.specs.Parts.{AreParts, parts_of}
+use Rattle.mtn_put_certs.specs.Reading.{AreAllBehind, AreBehind, IsCertBehind, IsNextCert, IsRecorded}
+use Rattle.mtn_put_certs.specs.Walking.{IsBehind, IsFollowing, IsNoneAbove}
 use Rattle.mtn_put_certs.proofs.CertLemmas.{are_parts, held_by, one_key}
+use Rattle.mtn_put_certs.proofs.Walking.{AreUpTo, at_end, moved_to, none_yet, one_more}
 
 -- ---- fronts of keys
 
@@ -65,37 +63,26 @@ record_of false f c s stands x held =
     let law = stands.lawful.certs in
     (stands.certs.each x held, record { whole = refl; lawful = law.lawful x held; revision = law.revisions x held; made_by = law.keys x held })
 
--- the certificates of all keys behind a front
-pub are_behind : (b : Bool) (f : List ℕ → List ℕ) (c : Contents) (s : State) → MatchBool b (IsNew c s) (StandsFor f c s) → (front : List ℕ) (keys : List (List ℕ)) (certs : List Certificate) →
-    IsListOf bytes_cmp (IsHeldBehind c 8 front) keys → AreCertsOf keys certs → AreBehind s front certs
-are_behind b f c s stands front keys certs listed read x = (
+parts_in : (c : Contents) (x : Certificate) → IsRecorded c x → AreParts (parts_of x)
+parts_in c x own = are_parts x own.key.lawful own.key.revision own.key.made_by
+
+-- the certificates whose records are behind a front
+are_behind : (b : Bool) (f : List ℕ → List ℕ) (c : Contents) (s : State) → MatchBool b (IsNew c s) (StandsFor f c s) → (front : List ℕ) (certs : List Certificate) → AreAllBehind c front certs → AreBehind s front certs
+are_behind b f c s stands front certs read x = (
   λ among.
-      let k = (read x).0 among in
-      let h = (listed.exact k.0).0 k.1 in
-      let body = body_of (body_at c 8 k.0) h.1 in (
-        held_by b f c s x body.0 stands (are_parts x k.2.lawful k.2.revision k.2.made_by) (ap (body_at c 8) (sym k.2.whole) ∙ body.1),
-        subst (IsBehind front) k.2.whole h.0,
-      ),
+      let own = (read x).0 among in
+      let body = body_of (body_at c 8 (cert_key x)) own.0.there in
+      (held_by b f c s x body.0 stands (parts_in c x own.0) body.1, own.1),
   λ held.
       let r = record_of b f c s stands x held.0 in
-      (read x).1 (cert_key x, (listed.exact (cert_key x)).1 (held.1, ap is_some r.0), r.1),
+      (read x).1 (record { key = r.1; there = ap is_some r.0 }, held.1),
 )
 
-pub told_behind : (f : List ℕ → List ℕ) (told : Option Contents) (p : Pending) (c : Contents) (s : State) (front : List ℕ) (keys : List (List ℕ)) (certs : List Certificate) →
-    told ≡ Some c → IsDraft f c p s → IfSome told (λ d. IsListOf bytes_cmp (IsHeldBehind (with_all d p.batch) 8 front) keys) → AreCertsOf keys certs → AreBehind s front certs
-told_behind f told p c s front keys certs at draft listed read =
-    are_behind p.is_new f (with_all c p.batch) s draft.stands front keys certs (subst (λ o. IfSome o (λ d. IsListOf bytes_cmp (IsHeldBehind (with_all d p.batch) 8 front) keys)) at listed) read
+pub behind_told : (f : List ℕ → List ℕ) (c : Contents) (p : Pending) (s : State) (front : List ℕ) (certs : List Certificate) → IsDraft f c p s → AreAllBehind (with_all c p.batch) front certs → AreBehind s front certs
+behind_told f c p s front certs draft read = are_behind p.is_new f (with_all c p.batch) s draft.stands front certs read
 
--- the certificates of keys that have records
-pub recorded_behind : (told : Option Contents) (p : Pending) (c : Contents) (front : List ℕ) (keys : List (List ℕ)) (certs : List Certificate) →
-    told ≡ Some c → IfSome told (λ d. IsListOf bytes_cmp (IsHeldBehind (with_all d p.batch) 8 front) keys) → AreCertsOf keys certs → AreRecorded (with_all c p.batch) certs
-recorded_behind told p c front keys certs at listed read x among =
-    let own : IsListOf bytes_cmp (IsHeldBehind (with_all c p.batch) 8 front) keys = subst (λ o. IfSome o (λ d. IsListOf bytes_cmp (IsHeldBehind (with_all d p.batch) 8 front) keys)) at listed in
-    let k = (read x).0 among in
-    record {
-      key = subst (λ key. IsCertKey key x) k.2.whole k.2;
-      there = subst (λ key. IsSome (body_at (with_all c p.batch) 8 key)) k.2.whole ((own.exact k.0).0 k.1).1;
-    }
+pub at_told : (told : Option Contents) (c : Contents) (P : Contents → Type 0) → told ≡ Some c → IfSome told P → P c
+at_told told c P at fact = subst (λ o. IfSome o P) at fact
 
 -- those of one revision
 pub of_revision : (f : List ℕ → List ℕ) (c : Contents) (p : Pending) (s : State) → IsDraft f c p s → (revision : Id) (front : List ℕ) (certs : List Certificate) → front ≡ revision.0 → IsIdBytes revision.0 → AreBehind s front certs →
@@ -115,47 +102,51 @@ of_all s front certs is behind x =
     let own : AreBehind s [] certs = subst (λ k. AreBehind s k certs) is behind in
     (λ among. ((own x).0 among).0, λ held. (own x).1 (held, behind_none x))
 
--- ---- key by key
-
-next_cert : (keys : List (List ℕ)) (certs : List Certificate) (key : List ℕ) (cert : Certificate) → IsCertKey key cert → AreCertsOf keys certs → AreCertsOf (keys ++ key ∷ []) (certs ++ cert ∷ [])
-next_cert keys certs key cert is read x = (
-  λ among. ⊎_elim (λ old. let k = (read x).0 old in (k.0, Contains-append_left keys (key ∷ []) k.0 k.1, k.2)) (λ new. (key, Contains-push keys key, subst (IsCertKey key) new is)) (Contains-push_cases certs cert x among),
-  λ k. ⊎_elim (λ old. Contains-append_left certs (cert ∷ []) x ((read x).1 (k.0, old, k.2)))
-      (λ new.
-      let same : cert ≡ x = one_key cert x (are_parts cert is.lawful is.revision is.made_by) (are_parts x k.2.lawful k.2.revision k.2.made_by) (sym is.whole ∙ new ∙ k.2.whole) in
-      subst (Contains (certs ++ cert ∷ [])) same (Contains-push certs cert))
-      (Contains-push_cases keys key k.0 k.1),
-)
-
-pub one_more_cert : (keys : List (List ℕ)) (i : ℕ) (certs more : List Certificate) (key shown : List ℕ) (cert : Certificate) → i < length keys → key ≡ get_or keys i key → shown ≡ key → more ≡ certs ++ cert ∷ [] → IsCertKey shown cert →
-    AreCertsOf (take i keys) certs → AreCertsOf (take (i + 1) keys) more
-one_more_cert keys i certs more key shown cert lt at shows is own read =
-    subst (λ ks. AreCertsOf ks more) (ap (λ k. take i keys ++ k ∷ []) at ∙ sym (take_more keys i key lt))
-    (subst (AreCertsOf (take i keys ++ key ∷ [])) (sym is) (next_cert (take i keys) certs key cert (subst (λ k. IsCertKey k cert) shows own) read))
-
-pub all_certs : (keys : List (List ℕ)) (i : ℕ) (certs : List Certificate) → length keys ≤ i → AreCertsOf (take i keys) certs → AreCertsOf keys certs
-all_certs keys i certs le read = subst (λ ks. AreCertsOf ks certs) (take_all i keys le) read
-
--- ---- where the records are told
+-- ---- record by record
 
 pub told_if : (told : Option Contents) (P : Contents → Type 0) → ((c : Contents) → told ≡ Some c → P c) → IfSome told P
 told_if None P fact = tt
 told_if (Some c) P fact = fact c refl
 
-pub all_held : (told : Option Contents) (p q : Pending) (c : Contents) (front : List ℕ) (keys shown : List (List ℕ)) → told ≡ Some c → q ≡ p → shown ≡ keys → IfSome told (λ d. IsListOf bytes_cmp (IsHeldBehind (with_all d p.batch) 8 front) keys) →
-    (key : List ℕ) → Contains shown key → IsSome (body_at (with_all c q.batch) 8 key)
-all_held told p q c front keys shown at same shows listed key among =
-    let own : IsListOf bytes_cmp (IsHeldBehind (with_all c p.batch) 8 front) keys = subst (λ o. IfSome o (λ d. IsListOf bytes_cmp (IsHeldBehind (with_all d p.batch) 8 front) keys)) at listed in
-    subst (λ (x : Pending). IsSome (body_at (with_all c x.batch) 8 key)) (sym same) ((own.exact key).0 (subst (λ ks. Contains ks key) shows among)).1
+-- the certificates that were read up to a key
+abbrev pub AreRead : Contents → List ℕ → List ℕ → List Certificate → Type 0
+AreRead c front last certs = AreUpTo (IsCertBehind c front) cert_key last certs
 
-pub moved_damage : {T : Type 0} (r : Result T StoreError) (p q : Pending) (c : Contents) → q ≡ p → IfErr r (λ e. IfDamage e (CertDamage (with_all c q.batch))) → IfErr r (λ e. IfDamage e (CertDamage (with_all c p.batch)))
-moved_damage r p q c same fact = subst (λ (x : Pending). IfErr r (λ e. IfDamage e (CertDamage (with_all c x.batch)))) same fact
+pub none_read : (told : Option Contents) (p : Pending) (front last : List ℕ) (certs : List Certificate) → last ≡ front → certs ≡ [] → IfSome told (λ c. AreRead (with_all c p.batch) front last certs)
+none_read told p front last certs first none = told_if told (λ c. AreRead (with_all c p.batch) front last certs)
+    (λ c at. subst (AreRead (with_all c p.batch) front last) (sym none) (subst (λ l. AreRead (with_all c p.batch) front l []) (sym first) (none_yet (IsCertBehind (with_all c p.batch) front) cert_key front (λ x own. own.1.above))))
 
-pub cert_damaged : {T : Type 0} (r : Result T StoreError) (e : StoreError) (p q : Pending) (c : Contents) (key : List ℕ) → r ≡ Err e → q ≡ p → (IsSome (body_at (with_all c q.batch) 8 key) → IfDamage e (CertDamage (with_all c q.batch))) →
-    IsSome (body_at (with_all c p.batch) 8 key) → IfErr r (λ x. IfDamage x (CertDamage (with_all c p.batch)))
-cert_damaged {T} r e p q c key is same fact held =
-    subst (λ (x : Result T StoreError). IfErr x (λ y. IfDamage y (CertDamage (with_all c p.batch)))) (sym is)
-    (subst (λ (x : Pending). IsSome (body_at (with_all c x.batch) 8 key) → IfDamage e (CertDamage (with_all c x.batch))) same fact held)
+cert_more : (c : Contents) (front last key : List ℕ) (certs : List Certificate) (x : Certificate) → IsNextCert c front last key (Some x) → AreRead c front last certs → AreRead c front key (certs ++ x ∷ [])
+cert_more c front last key certs x next so_far =
+    one_more (IsCertBehind c front) cert_key last key certs (λ y own above under. next.2 (cert_key y) above under (own.1, own.0.there)) so_far x next.0
+    (λ y own same. one_key x y (parts_in c x next.0.0) (parts_in c y own.0) (sym next.1 ∙ sym same))
+
+-- one more certificate
+pub one_more_cert : (old new : Option Contents) (p q : Pending) (front last key : List ℕ) (certs more : List Certificate) (x : Certificate) (found : Option Certificate) → Same old new → q ≡ p → found ≡ Some x → more ≡ certs ++ x ∷ [] →
+    IfSome new (λ c. IsNextCert (with_all c q.batch) front last key found) → IfSome old (λ c. AreRead (with_all c p.batch) front last certs) → IfSome new (λ c. AreRead (with_all c p.batch) front key more)
+one_more_cert old None p q front last key certs more x found kept same is made next so_far = tt
+one_more_cert old (Some c) p q front last key certs more x found kept same is made next so_far =
+    let d = with_all c p.batch in
+    let follows : IsNextCert d front last key (Some x) = subst (λ (r : Pending). IsNextCert (with_all c r.batch) front last key (Some x)) same (subst (IsNextCert (with_all c q.batch) front last key) is next) in
+    subst (AreRead d front key) (sym made) (cert_more d front last key certs x follows (subst (λ o. IfSome o (λ e. AreRead (with_all e p.batch) front last certs)) (kept c refl) so_far))
+
+-- none is left
+pub all_read : (old new : Option Contents) (p q : Pending) (front last key : List ℕ) (certs : List Certificate) (found : Option Certificate) → Same old new → q ≡ p → found ≡ None →
+    IfSome new (λ c. IsNextCert (with_all c q.batch) front last key found) → IfSome old (λ c. AreRead (with_all c p.batch) front last certs) → IfSome new (λ c. AreAllBehind (with_all c p.batch) front certs)
+all_read old None p q front last key certs found kept same is next so_far = tt
+all_read old (Some c) p q front last key certs found kept same is next so_far =
+    let d = with_all c p.batch in
+    let none : IsNoneAbove d 8 front last = subst (λ (r : Pending). IsNoneAbove (with_all c r.batch) 8 front last) same (subst (IsNextCert (with_all c q.batch) front last key) is next) in
+    at_end (IsCertBehind d front) cert_key last certs (λ y own above. none (cert_key y) above (own.1, own.0.there)) (subst (λ o. IfSome o (λ e. AreRead (with_all e p.batch) front last certs)) (kept c refl) so_far)
+
+-- the damage of the record that follows
+pub next_damaged : {T : Type 0} (told : Option Contents) (p q : Pending) (front last key body shown seen : List ℕ) (found : Option (List ℕ × List ℕ)) (r : Result T StoreError) (e : StoreError) → q ≡ p → found ≡ Some (key, body) → shown ≡ key → seen ≡ body → r ≡ Err e →
+    IfSome told (λ c. IsFollowing (with_all c q.batch) 8 front last found) → ((c : Contents) → body_at c 8 shown ≡ Some seen → IfDamage e (CertDamage c)) → IfSome told (λ c. IfErr r (λ x. IfDamage x (CertDamage (with_all c p.batch))))
+next_damaged None p q front last key body shown seen found r e same is shows sees fails next damage = tt
+next_damaged {T} (Some c) p q front last key body shown seen found r e same is shows sees fails next damage =
+    let at = moved_to (Some c) q p 8 front last last found (Some (key, body)) same refl is next in
+    subst (λ (x : Result T StoreError). IfErr x (λ y. IfDamage y (CertDamage (with_all c p.batch)))) (sym fails)
+    (damage (with_all c p.batch) (ap (body_at (with_all c p.batch) 8) shows ∙ at.1 ∙ ap Some (sym sees)))
 
 -- ---- damage
 

@@ -1,6 +1,6 @@
 -- A certificate of a revision that the log does not have: what is shown for it is one of the draft's records.
 use Rattle.std.specs.Prelude.{Contains, IfErr, IfSome, IsSome, option_map, slice_get}
-use Rattle.std.proofs.Common.{◌≡◌, ◌≢◌, ◌<◌, inl, inr, ℕ, Bool, List, true, false, Option, Some, None, Result, Err, sym, ap, ◌∙◌, subst, arith}
+use Rattle.std.proofs.Common.{◌≡◌, ◌<◌, inl, inr, ℕ, List, Option, Some, None, Result, Err, sym, ap, ◌∙◌, subst, arith}
 use Rattle.mtn_ancestry.specs.declared.pos.LogEntry.{LogEntry}
 use Rattle.mtn_base.specs.declared.id.Id.{Id}
 use Rattle.mtn_branches.specs.Graphs.{IsHeldBy}
@@ -11,7 +11,6 @@ use Rattle.mtn_history.specs.Damage.{IsDamage}
 use Rattle.mtn_history.specs.Errors.{IfDamage}
 use Rattle.mtn_history.specs.Logs.{IsHeldAt, IsLogged, IsReadTo, WrongBelow}
 use Rattle.mtn_history.specs.Marked.{IsCounted}
-use Rattle.mtn_history.specs.Meta.{Counted, IsMetaOf}
 use Rattle.mtn_history.specs.Places.{IsFoundAt, IsPlaced, UnplacedBelow}
 use Rattle.mtn_history.specs.Stands.{IsFounded, Stands}
 use Rattle.mtn_history.specs.declared.errors.Damage.{Damage}

@@ -1,26 +1,20 @@
--- Key by key behind a front.
-use Rattle.std.specs.Prelude.{Contains, IfSome, IsSome, is_some}
-use Rattle.std.specs.List.{AllByRecursion}
-use Rattle.std.specs.List.Sorted.{IsStrictlySortedBy}
-use Rattle.std.specs.Cmp.{tied_itself}
+-- Record by record behind a front.
+use Rattle.std.specs.Prelude.{Contains, IfSome, is_some}
+use Rattle.std.specs.Cmp.{nat_cmp_total, tied_itself}
 use Rattle.std.specs.Cmp.Lexicographic.{pointwise, slice_cmp}
 use Rattle.std.specs.FinMap.{slice_cmp-IsAntisymmetric, nat_cmp-IsAntisymmetric}
 use Rattle.std.specs.Ordering.{nat_cmp, ordering_reverse, ordering_then}
 use Rattle.std.specs.declared.cmp.Ordering.{Ordering}
 use Rattle.std.specs.declared.cmp.Ordering.TheVariants.{Less, Equal, Greater}
-use Rattle.std.proofs.Common.{◌≡◌, ◌⊎◌, ⊎_elim, inl, inr, ℕ, Bool, true, false, List, [], ◌∷◌, ◌++◌, length, take, drop, Option, Some, None, Result, Err, refl, sym, ap, ◌∙◌, subst, eqb}
+use Rattle.std.proofs.Common.{◌≡◌, ◌↔◌, ◌⊎◌, ⊎_elim, inl, inr, ℕ, Bool, true, false, List, [], ◌∷◌, ◌++◌, length, take, drop, Option, Some, None, refl, sym, ap, ◌∙◌, subst, eqb}
 use Rattle.std.proofs.lemmas.Bool.Decides.{Decides-eqb}
 use Rattle.std.proofs.lemmas.Cmp.{nat_list_cmp_total}
-use Rattle.std.specs.Cmp.{nat_cmp_total}
 use Rattle.std.proofs.lemmas.List.Elements.{Contains-append_left, Contains-push, Contains-push_cases}
 use Rattle.std.proofs.lemmas.Slice.Eq.{starts_is}
-use Rattle.mtn_base.specs.Names.{bytes_cmp}
-use Rattle.mtn_base.proofs.IdOrder.{contains_head, contains_later, contains_nil}
-use Rattle.mtn_base.specs.Lists.{IsListOf}
+use Rattle.mtn_base.proofs.IdOrder.{contains_nil}
 use Rattle.mtn_model.specs.Table.{Contents, body_at}
-use Rattle.mtn_ports.specs.Kept.{IsAbove, IsAboveIf, IsNext, Same, with_all}
+use Rattle.mtn_ports.specs.Kept.{IsAbove, IsAboveIf, IsBodyIf, IsNext, with_all}
 use Rattle.mtn_ports.specs.declared.batch.Put.{Put}
-use Rattle.mtn_history.specs.declared.errors.StoreError.{StoreError}
 use Rattle.mtn_history.specs.declared.pending.Pending.{Pending}
 use Rattle.mtn_put_certs.specs.Walking.{IsFollowing, IsFrom, IsHeldBehind}
 
@@ -68,21 +62,17 @@ between (x ∷ xs) (y ∷ ys) rest a b = heads x y xs ys rest (λ c d. between x
 -- ---- one step
 
 module _ (c : Contents) (table : ℕ) (front last : List ℕ) where
-  there : (key body : List ℕ) → body_at c table key ≡ Some body → IsSome (body_at c table key)
-  there key body found = ap is_some found
-
   never : (other : List ℕ) → body_at c table other ≡ None → IsHeldBehind c table front other → ⊥
   never other none held = let some : is_some (body_at c table other) ≡ true = held.1 in let no : is_some (body_at c table other) ≡ false = ap is_some none in cc
 
   pub none_follows : (key : List ℕ) → IsNext c table last false key → IsFollowing c table front last None
   none_follows key next other above held = never other (next other above) held
 
-  pub key_follows : (key : List ℕ) (test : Bool) → IsFrom front last → IsAbove last key → IsNext c table last true key → test ≡ pointwise eqb front (take (length front) key) → test ≡ true → IsFollowing c table front last (Some key)
-  key_follows key test from above next is begins = (
-    (
-      record { above = from_on front last key from above; rest = drop (length front) key; whole = (starts_is Decides-eqb key front test is).0 begins },
-      there key next.0.0 next.0.1,
-    ),
+  pub record_follows : (key body : List ℕ) (test : Bool) → IsFrom front last → IsAbove last key → IsNext c table last true key → body_at c table key ≡ Some body → test ≡ pointwise eqb front (take (length front) key) → test ≡ true →
+      IsFollowing c table front last (Some (key, body))
+  record_follows key body test from above next own is begins = (
+    record { above = from_on front last key from above; rest = drop (length front) key; whole = (starts_is Decides-eqb key front test is).0 begins },
+    own,
     above,
     λ other a b held. never other (next.1 other a b) held,
   )
@@ -96,95 +86,64 @@ module _ (c : Contents) (table : ℕ) (front last : List ℕ) where
       goes_on : (rest : List ℕ) → key ≡ front ++ rest → ⊥
       goes_on rest whole = let begun : test ≡ true = (starts_is Decides-eqb key front test is).1 rest whole in cc
 
--- ---- the keys so far
+-- ---- what was found so far
 
-pub record AreUpTo (c : Contents) (table : ℕ) (front last : List ℕ) (keys : List (List ℕ)) : Type 0 where
-  pub ascending : IsStrictlySortedBy bytes_cmp keys
-  pub sound : (k : List ℕ) → Contains keys k → IsHeldBehind c table front k
-  pub top : (k : List ℕ) → Contains keys k → IsAbove last k → ⊥
-  pub all : (k : List ℕ) → IsHeldBehind c table front k → (IsAbove last k → ⊥) → Contains keys k
+-- the items that are wanted up to a key, each with a key of its own
+pub record AreUpTo {A : Type 0} (Is : A → Type 0) (key_of : A → List ℕ) (last : List ℕ) (items : List A) : Type 0 where
+  pub sound : (x : A) → Contains items x → Is x
+  pub all : (x : A) → Is x → (IsAbove last (key_of x) → ⊥) → Contains items x
 
-pushed : (keys : List (List ℕ)) (key : List ℕ) → IsStrictlySortedBy bytes_cmp keys → ((k : List ℕ) → Contains keys k → bytes_cmp k key ≡ Less) → IsStrictlySortedBy bytes_cmp (keys ++ key ∷ [])
-unfolding IsStrictlySortedBy
-pushed [] key up below = (tt, tt)
-pushed (x ∷ xs) key up below = (each xs up.0, pushed xs key up.1 (λ k c. below k (contains_later x xs c)))
-  where
-    each : (ys : List (List ℕ)) → AllByRecursion (λ y. bytes_cmp x y ≡ Less) ys → AllByRecursion (λ y. bytes_cmp x y ≡ Less) (ys ++ key ∷ [])
-    each [] all = (below x (contains_head x xs), tt)
-    each (y ∷ ys) all = (all.0, each ys all.1)
+module _ {A : Type 0} (Is : A → Type 0) (key_of : A → List ℕ) where
+  pub none_yet : (front : List ℕ) → ((x : A) → Is x → IsAbove front (key_of x)) → AreUpTo Is key_of front []
+  none_yet front above = record { sound = λ x in_none. absurd (contains_nil in_none); all = λ x is far. absurd (far (above x is)) }
 
-none_sorted : IsStrictlySortedBy bytes_cmp []
-unfolding IsStrictlySortedBy
-none_sorted = tt
+  not_above : (a k : List ℕ) → (a ≡ k) ⊎ IsAbove k a → IsAbove a k → ⊥
+  not_above a k (inl e) above = not_itself k (subst (λ x. IsAbove x k) e above)
+  not_above a k (inr b) above = not_both a k above b
 
-module _ (c : Contents) (table : ℕ) (front : List ℕ) where
-  pub none_yet : AreUpTo c table front front []
-  none_yet = record {
-    ascending = none_sorted;
-    sound = λ k in_none. absurd (contains_nil in_none);
-    top = λ k in_none. absurd (contains_nil in_none);
-    all = λ k held far. absurd (far held.0.above);
-  }
+  module _ (last key : List ℕ) (items : List A) (between : (x : A) → Is x → IsAbove last (key_of x) → IsAbove (key_of x) key → ⊥) (so_far : AreUpTo Is key_of last items) where
+    earlier : (x : A) → Is x → IsAbove (key_of x) key → Contains items x
+    earlier x is under = ⊎_elim (λ above. absurd (between x is above under)) (λ r. so_far.all x is (not_above last (key_of x) r)) (which last (key_of x))
 
-  pub one_more : (last key : List ℕ) (keys : List (List ℕ)) → IsFollowing c table front last (Some key) → AreUpTo c table front last keys → AreUpTo c table front key (keys ++ key ∷ [])
-  one_more last key keys next so_far = record {
-    ascending = pushed keys key so_far.ascending below;
-    sound = λ k in_all. ⊎_elim (λ old. so_far.sound k old) (λ new. subst (IsHeldBehind c table front) new next.0) (Contains-push_cases keys key k in_all);
-    top = λ k in_all far. ⊎_elim (λ old. not_both k key (below k old) far) (λ new. not_itself key (subst (IsAbove key) (sym new) far)) (Contains-push_cases keys key k in_all);
-    all = λ k held far. ⊎_elim (λ above. ⊎_elim (λ past. absurd (far past)) (λ r. ⊎_elim (λ e. subst (Contains (keys ++ key ∷ [])) e (Contains-push keys key)) (λ under. absurd (next.2 k above under held)) r) (which key k))
-        (λ r. Contains-append_left keys (key ∷ []) k (so_far.all k held (not_above last k r))) (which last k);
-  }
-    where
-      below : (k : List ℕ) → Contains keys k → IsAbove k key
-      below k old = ⊎_elim (λ a. absurd (so_far.top k old a)) (λ r. ⊎_elim (λ e. subst (λ x. IsAbove x key) e next.1) (λ b. on k last key b next.1) r) (which last k)
+    pub one_more : (item : A) → Is item → ((x : A) → Is x → key_of x ≡ key → item ≡ x) → AreUpTo Is key_of key (items ++ item ∷ [])
+    one_more item own alone = record {
+      sound = λ x among. ⊎_elim (λ old. so_far.sound x old) (λ new. subst Is new own) (Contains-push_cases items item x among);
+      all = λ x is far. ⊎_elim (λ past. absurd (far past))
+          (λ r. ⊎_elim (λ e. subst (Contains (items ++ item ∷ [])) (alone x is (sym e)) (Contains-push items item)) (λ under. Contains-append_left items (item ∷ []) x (earlier x is under)) r) (which key (key_of x));
+    }
 
-      not_above : (a k : List ℕ) → (a ≡ k) ⊎ IsAbove k a → IsAbove a k → ⊥
-      not_above a k (inl e) above = not_itself k (subst (λ x. IsAbove x k) e above)
-      not_above a k (inr b) above = not_both a k above b
+    pub none_more : ((x : A) → Is x → key_of x ≡ key → ⊥) → AreUpTo Is key_of key items
+    none_more other = record {
+      sound = so_far.sound;
+      all = λ x is far. ⊎_elim (λ past. absurd (far past)) (λ r. ⊎_elim (λ e. absurd (other x is (sym e))) (λ under. earlier x is under) r) (which key (key_of x));
+    }
 
-  pub no_more : (last : List ℕ) (keys : List (List ℕ)) → IsFollowing c table front last None → AreUpTo c table front last keys → IsListOf bytes_cmp (IsHeldBehind c table front) keys
-  no_more last keys none so_far = record {
-    ascending = so_far.ascending;
-    exact = λ k. (so_far.sound k, λ held. so_far.all k held (λ above. none k above held));
-  }
+  pub at_end : (last : List ℕ) (items : List A) → ((x : A) → Is x → IsAbove last (key_of x) → ⊥) → AreUpTo Is key_of last items → (x : A) → Contains items x ↔ Is x
+  at_end last items none so_far x = (so_far.sound x, λ is. so_far.all x is (λ above. none x is above))
 
 -- ---- where the records are told
 
-module _ (told : Option Contents) (ps : List Put) (table : ℕ) (front last key shown : List ℕ) (found test : Bool) (from : IsFrom front last) (there : found ≡ true) (above : IsAboveIf last found key)
-    (next : IfSome told (λ c. IsNext (with_all c ps) table last found key)) (shows : shown ≡ key) (is : test ≡ pointwise eqb front (take (length front) shown)) where
+module _ (told : Option Contents) (ps : List Put) (table : ℕ) (front last key body shown : List ℕ) (found test : Bool) (from : IsFrom front last) (there : found ≡ true) (above : IsAboveIf last found key)
+    (next : IfSome told (λ c. IsNext (with_all c ps) table last found key)) (own : IfSome told (λ c. IsBodyIf (with_all c ps) table found key body)) (shows : shown ≡ key) (is : test ≡ pointwise eqb front (take (length front) shown)) where
   tests : test ≡ pointwise eqb front (take (length front) key)
   tests = is ∙ ap (λ k. pointwise eqb front (take (length front) k)) shows
 
   is_above : IsAbove last key
   is_above = subst (λ b. IsAboveIf last b key) there above
 
-  over : (P : Contents → Type 0) → ((c : Contents) → IsNext (with_all c ps) table last true key → P c) → (o : Option Contents) → IfSome o (λ c. IsNext (with_all c ps) table last found key) → IfSome o P
-  over P f None h = tt
-  over P f (Some c) h = f c (subst (λ b. IsNext (with_all c ps) table last b key) there h)
+  over : (P : Contents → Type 0) → ((c : Contents) → IsNext (with_all c ps) table last true key → body_at (with_all c ps) table key ≡ Some body → P c) →
+      (o : Option Contents) → IfSome o (λ c. IsNext (with_all c ps) table last found key) → IfSome o (λ c. IsBodyIf (with_all c ps) table found key body) → IfSome o P
+  over P f None h b = tt
+  over P f (Some c) h b = f c (subst (λ t. IsNext (with_all c ps) table last t key) there h) (subst (λ t. IsBodyIf (with_all c ps) table t key body) there b)
 
   pub told_past : test ≡ false → IfSome told (λ c. IsFollowing (with_all c ps) table front last None)
-  told_past ends = over (λ c. IsFollowing (with_all c ps) table front last None) (λ c n. past_front (with_all c ps) table front last key test from is_above n tests ends) told next
+  told_past ends = over (λ c. IsFollowing (with_all c ps) table front last None) (λ c n b. past_front (with_all c ps) table front last key test from is_above n tests ends) told next own
 
-  pub told_follows : (given : List ℕ) → given ≡ key → test ≡ true → IfSome told (λ c. IsFollowing (with_all c ps) table front last (Some given))
-  told_follows given same goes_on =
-      over (λ c. IsFollowing (with_all c ps) table front last (Some given)) (λ c n. subst (λ k. IsFollowing (with_all c ps) table front last (Some k)) (sym same) (key_follows (with_all c ps) table front last key test from is_above n tests goes_on)) told next
-
--- step by step
-pub told_none : (told : Option Contents) (ps : List Put) (table : ℕ) (front : List ℕ) → IfSome told (λ c. AreUpTo (with_all c ps) table front front [])
-told_none None ps table front = tt
-told_none (Some c) ps table front = none_yet (with_all c ps) table front
-
-pub told_more : (old new : Option Contents) (ps : List Put) (table : ℕ) (front last key : List ℕ) (keys more : List (List ℕ)) → Same old new → more ≡ keys ++ key ∷ [] →
-    IfSome new (λ c. IsFollowing (with_all c ps) table front last (Some key)) → IfSome old (λ c. AreUpTo (with_all c ps) table front last keys) → IfSome new (λ c. AreUpTo (with_all c ps) table front key more)
-told_more old None ps table front last key keys more same is next so_far = tt
-told_more old (Some c) ps table front last key keys more same is next so_far =
-    subst (AreUpTo (with_all c ps) table front key) (sym is) (one_more (with_all c ps) table front last key keys next (subst (λ o. IfSome o (λ d. AreUpTo (with_all d ps) table front last keys)) (same c refl) so_far))
-
-pub told_end : (old new : Option Contents) (ps : List Put) (table : ℕ) (front last : List ℕ) (keys : List (List ℕ)) → Same old new →
-    IfSome new (λ c. IsFollowing (with_all c ps) table front last None) → IfSome old (λ c. AreUpTo (with_all c ps) table front last keys) → IfSome new (λ c. IsListOf bytes_cmp (IsHeldBehind (with_all c ps) table front) keys)
-told_end old None ps table front last keys same none so_far = tt
-told_end old (Some c) ps table front last keys same none so_far =
-    no_more (with_all c ps) table front last keys none (subst (λ o. IfSome o (λ d. AreUpTo (with_all d ps) table front last keys)) (same c refl) so_far)
+  pub told_follows : (given held : List ℕ) → given ≡ key → held ≡ body → test ≡ true → IfSome told (λ c. IsFollowing (with_all c ps) table front last (Some (given, held)))
+  told_follows given held same holds goes_on =
+      over (λ c. IsFollowing (with_all c ps) table front last (Some (given, held)))
+      (λ c n b. subst (λ k. IsFollowing (with_all c ps) table front last (Some (k, held))) (sym same) (subst (λ x. IsFollowing (with_all c ps) table front last (Some (key, x))) (sym holds)
+      (record_follows (with_all c ps) table front last key body test from is_above n b tests goes_on))) told next own
 
 pub from_itself : (front : List ℕ) → IsFrom front front
 from_itself front above = not_itself front above
@@ -192,12 +151,10 @@ from_itself front above = not_itself front above
 pub from_later : (front last key : List ℕ) → IsFrom front last → IsAbove last key → IsFrom front key
 from_later front last key from above far = not_both front key (from_on front last key from above) far
 
-pub moved_to : (told : Option Contents) (p q : Pending) (table : ℕ) (front last shown : List ℕ) (found known : Option (List ℕ)) → p ≡ q → shown ≡ last → found ≡ known →
+-- the same of another moment
+pub moved_to : (told : Option Contents) (p q : Pending) (table : ℕ) (front last shown : List ℕ) (found known : Option (List ℕ × List ℕ)) → p ≡ q → shown ≡ last → found ≡ known →
     IfSome told (λ c. IsFollowing (with_all c p.batch) table front shown found) → IfSome told (λ c. IsFollowing (with_all c q.batch) table front last known)
 moved_to told p q table front last shown found known same shows is fact =
     subst (λ (x : Pending). IfSome told (λ c. IsFollowing (with_all c x.batch) table front last known)) same
     (subst (λ l. IfSome told (λ c. IsFollowing (with_all c p.batch) table front l known)) shows
     (subst (λ o. IfSome told (λ c. IsFollowing (with_all c p.batch) table front shown o)) is fact))
-
-pub same_error : {T : Type 0} (r : Result T StoreError) (a b : StoreError) → r ≡ Err a → r ≡ Err b → a ≡ b
-same_error r a b x y = cc

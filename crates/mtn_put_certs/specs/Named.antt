@@ -1,20 +1,25 @@
 -- The keys that have a name.
-use Rattle.std.specs.Prelude.{◌≡◌, ◌↔◌, ℕ, List, Option, Some, None, Contains}
+use Rattle.std.specs.Prelude.{◌≡◌, ◌↔◌, ℕ, Bool, true, List, [], Option, Some, None, Contains}
 use Rattle.std.specs.FinMap.{get}
-use Rattle.mtn_base.specs.declared.id.Id.{Id}
 use Rattle.mtn_model.specs.Table.{Contents, Table, body_at}
+use Rattle.mtn_put_certs.specs.Walking.{IsBehind, IsNoneAbove, IsNoneBetween}
 
--- those of some keys of table 7 that have a name
-abbrev pub AreNamed : Contents → List (List ℕ) → List ℕ → List (List ℕ) → Type 0
-AreNamed c keys name named = (key : List ℕ) → Contains named key ↔ (Contains keys key × (body_at c 7 key ≡ Some name))
+-- a key of table 7 that is not empty has a name
+abbrev pub IsNamed : Contents → List ℕ → List ℕ → Type 0
+IsNamed c name key = IsBehind [] key × (body_at c 7 key ≡ Some name)
 
--- the keys that have a name
+-- whether the first such key above another has a name, if there is one
+abbrev pub IsNextNamed : Contents → List ℕ → List ℕ → List ℕ → Option Bool → Type 0
+IsNextNamed c name last key None = IsNoneAbove c 7 [] last
+IsNextNamed c name last key (Some is) = IsBehind [] key × ((is ≡ true) ↔ (body_at c 7 key ≡ Some name)) × IsNoneBetween c 7 [] last key
+
+-- the keys that have it
+abbrev pub AreNamed : Contents → List ℕ → List (List ℕ) → Type 0
+AreNamed c name named = (key : List ℕ) → Contains named key ↔ IsNamed c name key
+
+-- the same in a state
 abbrev pub HaveName : Table → List ℕ → List (List ℕ) → Type 0
 HaveName keys name named = (key : List ℕ) → Contains named key ↔ (get keys key ≡ Some name)
-
--- each of them has a record of table 7 with it
-abbrev pub AreHeld : Contents → List ℕ → List (List ℕ) → Type 0
-AreHeld c name named = (key : List ℕ) → Contains named key → body_at c 7 key ≡ Some name
 
 -- the one that all of some keys are, if there is one
 abbrev pub IsOnly : List (List ℕ) → Option (List ℕ) → Type 0

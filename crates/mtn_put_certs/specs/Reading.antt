@@ -11,7 +11,7 @@ use Rattle.mtn_history.specs.declared.errors.Damage.{Damage}
 use Rattle.mtn_history.specs.declared.errors.Damage.TheVariants.{Bad, Missing}
 use Rattle.mtn_model.specs.State.{Holds, State}
 use Rattle.mtn_model.specs.Table.{Contents, Table, body_at}
-use Rattle.mtn_put_certs.specs.Walking.{IsBehind}
+use Rattle.mtn_put_certs.specs.Walking.{IsBehind, IsNoneAbove, IsNoneBetween}
 
 -- the certificate that a key of table 8 is that of, if it is one's
 abbrev pub IsCertOf : List ℕ → Option Certificate → Type 0
@@ -22,10 +22,6 @@ IsCertOf key None = (cert : Certificate) → IsCertKey key cert → ⊥
 abbrev pub IsRecordOf : List ℕ → List ℕ → Option Certificate → Type 0
 IsRecordOf key body (Some cert) = IsCertKey key cert
 IsRecordOf key body None = (body ≢ []) ⊎ ((cert : Certificate) → IsCertKey key cert → ⊥)
-
--- the certificates of these keys
-abbrev pub AreCertsOf : List (List ℕ) → List Certificate → Type 0
-AreCertsOf keys certs = (x : Certificate) → Contains certs x ↔ ((key : List ℕ) × Contains keys key × IsCertKey key x)
 
 -- the certificates whose keys begin with a front and go on
 abbrev pub AreBehind : State → List ℕ → List Certificate → Type 0
@@ -38,6 +34,18 @@ pub record IsRecorded (c : Contents) (x : Certificate) : Type 0 where
 
 abbrev pub AreRecorded : Contents → List Certificate → Type 0
 AreRecorded c certs = (x : Certificate) → Contains certs x → IsRecorded c x
+
+-- the certificate has its record, whose key begins with a front and goes on
+abbrev pub IsCertBehind : Contents → List ℕ → Certificate → Type 0
+IsCertBehind c front x = IsRecorded c x × IsBehind front (cert_key x)
+
+abbrev pub AreAllBehind : Contents → List ℕ → List Certificate → Type 0
+AreAllBehind c front certs = (x : Certificate) → Contains certs x ↔ IsCertBehind c front x
+
+-- the certificate of the first such record above a key, and its own key, if there is one
+abbrev pub IsNextCert : Contents → List ℕ → List ℕ → List ℕ → Option Certificate → Type 0
+IsNextCert c front last key None = IsNoneAbove c 8 front last
+IsNextCert c front last key (Some x) = IsCertBehind c front x × (key ≡ cert_key x) × IsNoneBetween c 8 front last key
 
 -- the graph has the revision of each
 abbrev pub AreKnown : List LogEntry → List Certificate → Type 0

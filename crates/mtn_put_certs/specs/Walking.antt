@@ -13,11 +13,18 @@ pub record IsBehind (front key : List ℕ) : Type 0 where
 abbrev pub IsHeldBehind : Contents → ℕ → List ℕ → List ℕ → Type 0
 IsHeldBehind c table front key = IsBehind front key × IsSome (body_at c table key)
 
--- the first of these keys above another, if there is one
-abbrev pub IsFollowing : Contents → ℕ → List ℕ → List ℕ → Option (List ℕ) → Type 0
-IsFollowing c table front last None = (other : List ℕ) → IsAbove last other → IsHeldBehind c table front other → ⊥
-IsFollowing c table front last (Some key) =
-    IsHeldBehind c table front key × IsAbove last key × ((other : List ℕ) → IsAbove last other → IsAbove other key → IsHeldBehind c table front other → ⊥)
+-- none of these keys stands above the first and below the second
+abbrev pub IsNoneBetween : Contents → ℕ → List ℕ → List ℕ → List ℕ → Type 0
+IsNoneBetween c table front last key = (other : List ℕ) → IsAbove last other → IsAbove other key → IsHeldBehind c table front other → ⊥
+
+-- none of these keys stands above another
+abbrev pub IsNoneAbove : Contents → ℕ → List ℕ → List ℕ → Type 0
+IsNoneAbove c table front last = (other : List ℕ) → IsAbove last other → IsHeldBehind c table front other → ⊥
+
+-- the first record above a key whose own key is one of these, if there is one
+abbrev pub IsFollowing : Contents → ℕ → List ℕ → List ℕ → Option (List ℕ × List ℕ) → Type 0
+IsFollowing c table front last None = IsNoneAbove c table front last
+IsFollowing c table front last (Some r) = IsBehind front r.0 × (body_at c table r.0 ≡ Some r.1) × IsAbove last r.0 × IsNoneBetween c table front last r.0
 
 -- the front is not above it
 abbrev pub IsFrom : List ℕ → List ℕ → Type 0

@@ -10,7 +10,7 @@
 //! log does not have. Damage is answered only where the draft's records stand for no state.
 //!
 //! Cost: a certificate that is put reads the text of its revision and its own record; a name reads its own record. One that is
-//! read is two records, its key and its body; the names of keys are a record for each key, and to look for a name reads all names.
+//! read is one call of the keeper; the names of keys are a record for each key, and to look for a name reads all names.
 #![tactic(auto)]
 
 mod damaged;
@@ -28,4 +28,3 @@ pub use logged::graph_and_certs;
 pub use named::key_named;
 pub use names::{key_name, names_of, put_key};
 pub use put::{hold_cert, put_cert};
-pub use walk::keys_behind;

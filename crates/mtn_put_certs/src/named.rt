@@ -1,6 +1,6 @@
 // The key that has a name.
-ghost use Rattle.std.specs.Prelude.{◌≡◌, ◌≢◌, ◌↔◌, ◌++◌, [], ◌∷◌, if◌then◌else◌, List, ℕ, Some, Err, Contains, IfErr, IfOk, IfSome, IsTrue, MatchOption, OnOk, length};
-ghost use Rattle.mtn_model.specs.Table.{Contents, body_at};
+ghost use Rattle.std.specs.Prelude.{◌≡◌, ◌≢◌, ◌++◌, [], ◌∷◌, if◌then◌else◌, List, ℕ, Some, Err, IfErr, IfOk, IfSome, MatchOption, OnOk, length};
+ghost use Rattle.mtn_model.specs.Table.{Contents};
 ghost use Rattle.mtn_model.specs.State.{State};
 ghost use Rattle.mtn_ports.specs.Causes.{Rose};
 ghost use Rattle.mtn_ports.specs.Kept.{Stays, with_all};
@@ -9,33 +9,34 @@ ghost use Rattle.mtn_history.specs.Certificates.{KeyDamage};
 ghost use Rattle.mtn_history.specs.Errors.{IfDamage};
 ghost use Rattle.mtn_history.specs.Stands.{IsDraft};
 ghost use Rattle.mtn_model.specs.Keys.{IsKeyOf};
-ghost use Rattle.mtn_put_certs.specs.Named.{AreHeld, AreNamed, HaveName, IsOnly};
+ghost use Rattle.mtn_put_certs.specs.Named.{AreNamed, IsNextNamed, IsOnly};
+ghost use Rattle.mtn_put_certs.specs.Walking.{IsFrom};
 
 use crate::damaged::bad;
-use crate::walk::keys_behind;
+use crate::walk::following;
 use mtn_base::{Bytes, Id, NoMemory};
 use mtn_history::{Draft, KEYS, StoreError};
 use mtn_ports::Keeper;
-use std::alloc::Global;
 
-// Whether a key has a name.
-fn has_name<K: Keeper>(
+// Whether the first key above another has a name. That key is the last one then.
+fn next_named<K: Keeper>(
     draft: &mut Draft<'_, K>,
-    key: &[u8],
     name: &[u8],
-) -> Result<bool, StoreError>
+    last: &mut Bytes,
+) -> Result<Option<bool>, StoreError>
+    requires { IsFrom [] last.old }
     ensures asks { OnlyAsks K.contents K.leaves K.faults K.reads 1 draft.old draft.new }
 
-    ensures found { (c : Contents) → K.contents draft.new.keeper.now ≡ Some c
-        → IfOk result (λ is. IsTrue is ↔ (body_at (with_all c draft.old.pending.batch) 7 key.now ≡ Some name.now)) }
+    ensures from { OnOk result (IsFrom [] last.new) }
+    ensures found { IfSome (K.contents draft.new.keeper.now) (λ c. IfOk result (IsNextNamed (with_all c draft.old.pending.batch) name.now last.old last.new)) }
     ensures sound { IfErr result (λ e. IfDamage e (λ _. ⊥)) }
     ensures failed { result ≡ Err StoreError.Failed → Rose (K.faults draft.old.keeper.now) (K.faults draft.new.keeper.now) }
 {
-    let mut held = Vec::new(draft.alloc());
-    if !draft.get(KEYS, key, &mut held)? {
-        return Ok(false);
-    }
-    Ok(held.as_slice() == name)
+    let Some((key, held)) = following(draft, KEYS, &[], last.as_slice())? else {
+        return Ok(None);
+    };
+    *last = key;
+    Ok(Some(held.as_slice() == name))
 }
 
 // One more key, if it is one.
@@ -47,27 +48,6 @@ fn add_key(named: &mut Vec<Bytes>, key: &Bytes, is: bool) -> Result<(), NoMemory
         named.push(key)?;
     }
     Ok(())
-}
-
-// Those of some keys that have a name.
-fn keys_with<K: Keeper>(
-    draft: &mut Draft<'_, K>,
-    keys: &[Bytes],
-    name: &[u8],
-) -> Result<Vec<Bytes>, StoreError>
-    ensures same_reference { draft.new.keeper.ghost_name ≡ draft.old.keeper.ghost_name }
-    ensures stays { Stays K.contents K.leaves K.faults draft.old.keeper.now draft.new.keeper.now }
-    ensures pending { draft.new.pending ≡ draft.old.pending }
-    ensures found { (c : Contents) → K.contents draft.new.keeper.now ≡ Some c → IfOk result (λ named. AreNamed (with_all c draft.old.pending.batch) keys.now name.now named.items) }
-    ensures sound { IfErr result (λ e. IfDamage e (λ _. ⊥)) }
-    ensures failed { result ≡ Err StoreError.Failed → Rose (K.faults draft.old.keeper.now) (K.faults draft.new.keeper.now) }
-{
-    let mut named = Vec::new(draft.alloc());
-    for key in keys {
-        let is = has_name(draft, key.as_slice(), name)?;
-        add_key(&mut named, key, is)?;
-    }
-    Ok(named)
 }
 
 // The one that all of these keys are.
@@ -91,19 +71,24 @@ fn id_of(key: &[u8]) -> Option<Id>
     if rest.is_empty() { Some(Id(*id)) } else { None }
 }
 
-// The keys that have a name.
+// The keys that have a name. Each key is asked for once, and one more is.
 fn keys_named<K: Keeper>(draft: &mut Draft<'_, K>, name: &[u8]) -> Result<Vec<Bytes>, StoreError>
     ensures same_reference { draft.new.keeper.ghost_name ≡ draft.old.keeper.ghost_name }
     ensures stays { Stays K.contents K.leaves K.faults draft.old.keeper.now draft.new.keeper.now }
     ensures pending { draft.new.pending ≡ draft.old.pending }
-    ensures found { (f : List ℕ → List ℕ) (c : Contents) (s : State) → K.contents draft.new.keeper.now ≡ Some c → IsDraft f c draft.old.pending s
-        → IfOk result (λ named. HaveName s.keys name.now named.items) }
-    ensures held { (c : Contents) → K.contents draft.new.keeper.now ≡ Some c → IfOk result (λ named. AreHeld (with_all c draft.old.pending.batch) name.now named.items) }
+    ensures read { (c : Contents) → K.contents draft.new.keeper.now ≡ Some c → IfOk result (λ named. AreNamed (with_all c draft.old.pending.batch) name.now named.items) }
     ensures sound { IfErr result (λ e. IfDamage e (λ _. ⊥)) }
     ensures failed { result ≡ Err StoreError.Failed → Rose (K.faults draft.old.keeper.now) (K.faults draft.new.keeper.now) }
 {
-    let keys = keys_behind(draft, KEYS, &[])?;
-    keys_with(draft, &keys, name)
+    let mut named = Vec::new(draft.alloc());
+    let mut last = Bytes::new(draft.alloc());
+    for _ in 0..u64::MAX {
+        let Some(has) = next_named(draft, name, &mut last)? else {
+            return Ok(named);
+        };
+        add_key(&mut named, &last, has)?;
+    }
+    Err(StoreError::NoMemory)
 }
 
 /// The key that alone has a name: none where no key has it, or several have. Each key name is read. A key that is no id is damage.

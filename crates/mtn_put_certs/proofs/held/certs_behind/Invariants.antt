@@ -2,8 +2,8 @@ use Rattle.std.proofs.Common.{◌≡◌}
 use Rattle.std.specs.Prelude.{IfSome}
 use Rattle.mtn_ports.specs.Kept.{Stays, with_all}
 use Rattle.mtn_put_certs.specs.Walking.{IsFrom}
-use Rattle.mtn_put_certs.proofs.Walking.{AreUpTo}
-use Rattle.mtn_put_certs.proofs.walk.keys_behind.Given as goal
+use Rattle.mtn_put_certs.proofs.HeldLemmas.{AreRead}
+use Rattle.mtn_put_certs.proofs.held.certs_behind.Given as goal
 
 abbrev pub invariant-loop : goal.invariant-loop
 invariant-loop g l = record {
@@ -11,5 +11,5 @@ invariant-loop g l = record {
   stays : Stays g.K.Keeper.contents g.K.Keeper.leaves g.K.Keeper.faults l.fn.draft.keeper.now l.draft.keeper.now;
   pending : l.draft.pending ≡ l.fn.draft.pending;
   from : IsFrom l.front l.last;
-  so_far : IfSome (g.K.Keeper.contents l.draft.keeper.now) (λ c. AreUpTo (with_all c l.fn.draft.pending.batch) l.table l.front l.last l.keys.items);
+  so_far : IfSome (g.K.Keeper.contents l.draft.keeper.now) (λ c. AreRead (with_all c l.fn.draft.pending.batch) l.front l.last l.certs.items);
 }
