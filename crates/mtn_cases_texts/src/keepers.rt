@@ -54,10 +54,16 @@ fn ask<K: Keeper>(
     };
     let table = u8::try_from(number(table.as_slice())?).ok()?;
     let mut text = Vec::new(alloc);
+    let mut body = Vec::new(alloc);
     let found = match word {
         b"get" => keeper.get(table, key.as_slice(), &mut text),
+        b"record" => keeper.next_record(table, key.as_slice(), &mut text, &mut body),
         _ => keeper.next(table, key.as_slice(), &mut text),
     };
+    if word == b"record".as_slice() {
+        text.push(b'=').ok()?;
+        text.extend_from_slice(&body).ok()?;
+    }
     said(found, &text, out)
 }
 
@@ -75,8 +81,8 @@ fn steps<K: Keeper>(alloc: Global, keeper: &mut K, all: &[Bytes], out: &mut Vec<
 }
 
 /// `keeper FAILING STEP..`, `doubtful FAILING STEP..`: the numbers of the calls that fail, and then `apply:TABLE:KEY:BODY`,
-/// `get:TABLE:KEY`, `next:TABLE:AFTER`. A blank stands behind each answer, and behind those of `keeper` how many records were
-/// asked for.
+/// `get:TABLE:KEY`, `next:TABLE:AFTER`, `record:TABLE:AFTER`, which answers KEY=BODY. A blank stands behind each answer, and behind
+/// those of `keeper` how many records were asked for.
 pub fn answer(alloc: Global, word: &[u8], args: &[Bytes], out: &mut Vec<u8>) -> Option<()> {
     let (failing, all) = args.split_first()?;
     let failing = numbers(alloc, failing.as_slice())?;
