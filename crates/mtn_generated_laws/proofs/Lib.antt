@@ -1,0 +1,4 @@
+pub mod OneGeneration
+pub mod LawfulGrowth
+pub mod SomeGeneration
+pub mod KeptFiles

@@ -1,0 +1,34 @@
+//! Laws of generated histories that rest on those of the commands, over the definitions of `mtn_generated` alone. Nothing here runs.
+//!
+//! The crates above rely on this: generating comes to one thing, and over a lawful state to something; the state with all revisions
+//! is lawful, and has every file that was put for them.
+#![tactic(auto)]
+
+ghost use Rattle.std.specs.Prelude.{◌≡◌, ◌<◌, ◌≤◌, ℕ, List, Some, Ok, Contains};
+ghost use Rattle.std.specs.FinMap.{get};
+ghost use Rattle.mtn_generated.specs.Growing.{Answer, Generates, Grown};
+ghost use Rattle.mtn_generated.specs.Numbered.{files_of, work_at};
+ghost use Rattle.mtn_model.specs.State.{State};
+ghost use Rattle.mtn_replay.specs.Lawful.{IsLawful, Keeps};
+
+/// Generating a number of revisions over a state comes to one thing at most.
+pub fn one_generation()
+    ensures { (f : List ℕ → List ℕ) (n : ℕ) (s : State) (a b : Answer) → Generates f n s a → Generates f n s b → a ≡ b }
+{}
+
+/// Over a lawful state it comes to something.
+pub fn some_generation()
+    ensures { (f : List ℕ → List ℕ) (n : ℕ) (s : State) → IsLawful f s → (answer : Answer) × Generates f n s answer }
+{}
+
+/// The state with all revisions is lawful.
+pub fn grown_is_lawful()
+    ensures { (f : List ℕ → List ℕ) (n : ℕ) (s : State) (g : Grown) → IsLawful f s → Generates f n s (Ok g) → IsLawful f g.state }
+{}
+
+/// It has the files that were there before (`before`), and those of each revision, under their ids (`files`).
+pub fn files_are_held()
+    ensures before { (f : List ℕ → List ℕ) (n : ℕ) (s : State) (g : Grown) → Generates f n s (Ok g) → Keeps s.files g.state.files }
+    ensures files { (f : List ℕ → List ℕ) (n i : ℕ) (s : State) (g : Grown) (text : List ℕ) → Generates f n s (Ok g) → 0 < i → i ≤ n →
+        Contains (files_of i (work_at i)) text → get g.state.files (f text) ≡ Some text }
+{}
