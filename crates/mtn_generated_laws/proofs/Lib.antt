@@ -2,3 +2,4 @@ pub mod OneGeneration
 pub mod LawfulGrowth
 pub mod SomeGeneration
 pub mod KeptFiles
+pub mod Siblings

@@ -6,8 +6,14 @@
 
 ghost use Rattle.std.specs.Prelude.{◌≡◌, ◌<◌, ◌≤◌, ℕ, List, Some, Ok, Contains};
 ghost use Rattle.std.specs.FinMap.{get};
+ghost use Rattle.mtn_conflicts.specs.Lists.{AreConflictsOf, IsNone};
+ghost use Rattle.mtn_conflicts.specs.declared.lists.Conflicts.{Conflicts};
+ghost use Rattle.mtn_decide.specs.Decisions.{IsInOrder, Merge};
+ghost use Rattle.mtn_decide.specs.Graph.{IsMergeOf};
 ghost use Rattle.mtn_generated.specs.Growing.{Answer, Generates, Grown};
 ghost use Rattle.mtn_generated.specs.Numbered.{files_of, work_at};
+ghost use Rattle.mtn_generated_laws.specs.Siblings.{AreSiblings};
+ghost use Rattle.mtn_history_laws.specs.History.{IsGrown, Revision};
 ghost use Rattle.mtn_model.specs.State.{State};
 ghost use Rattle.mtn_replay.specs.Lawful.{IsLawful, Keeps};
 
@@ -31,4 +37,11 @@ pub fn files_are_held()
     ensures before { (f : List ℕ → List ℕ) (n : ℕ) (s : State) (g : Grown) → Generates f n s (Ok g) → Keeps s.files g.state.files }
     ensures files { (f : List ℕ → List ℕ) (n i : ℕ) (s : State) (g : Grown) (text : List ℕ) → Generates f n s (Ok g) → 0 < i → i ≤ n →
         Contains (files_of i (work_at i)) text → get g.state.files (f text) ≡ Some text }
+{}
+
+/// A merge of two children of one revision has no conflict where they have the same nodes in the same slots, and none of them
+/// changes a scalar that the other changes.
+pub fn siblings_do_not_conflict()
+    ensures { (h : List Revision) (parent left right : ℕ) (m : Merge) (c : Conflicts) → IsGrown h → AreSiblings h parent left right → IsInOrder m → IsMergeOf h left right m →
+        AreConflictsOf m c → IsNone c }
 {}
