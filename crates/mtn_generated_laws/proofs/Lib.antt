@@ -3,3 +3,4 @@ pub mod LawfulGrowth
 pub mod SomeGeneration
 pub mod KeptFiles
 pub mod Siblings
+pub mod Sides

@@ -1,12 +1,11 @@
 -- A merge of two children of one revision that change different things has no conflict.
-use Rattle.std.specs.Prelude.{Contains, IsSome, IsTrue, map, option_and_then, option_map, slice_get}
+use Rattle.std.specs.Prelude.{Contains, IsSome, map, option_and_then, option_map, slice_get}
 use Rattle.std.specs.Cmp.{first_so, second_so}
 use Rattle.std.specs.List.{list_all}
-use Rattle.std.proofs.Common.{◌≡◌, ◌≢◌, ◌<◌, ◌⊎◌, ℕ, zero, suc, Bool, true, false, cond, List, [], ◌∷◌, ◌++◌, length, Option, Some, None, refl, sym, ◌∙◌, ap, subst, ⊎_elim, inl, inr}
+use Rattle.std.proofs.Common.{◌≡◌, ◌<◌, ◌⊎◌, ℕ, zero, suc, Bool, true, false, cond, List, [], ◌∷◌, length, Option, Some, None, refl, sym, ◌∙◌, ap, subst, ⊎_elim, inl, inr}
 use Rattle.mtn_ancestry.specs.Ancestors.{IsAncestor}
 use Rattle.mtn_ancestry.specs.Ancestors.IsAncestor.{itself, through}
-use Rattle.mtn_base.specs.Names.{bytes_cmp, name_cmp, same_bytes, same_name}
-use Rattle.mtn_base.specs.declared.id.Id.{Id}
+use Rattle.mtn_base.specs.Names.{bytes_cmp, same_bytes}
 use Rattle.mtn_base.specs.declared.name.NodeName.{NodeName}
 use Rattle.mtn_base.proofs.Finding.{Split, later}
 use Rattle.mtn_base.proofs.IdOrder.{contains_cases, contains_head, contains_nil}
@@ -22,7 +21,6 @@ use Rattle.mtn_conflicts.specs.Slots.{HasRoot, IsDuplicate, IsInLoop, IsMisnamed
 use Rattle.mtn_conflicts.proofs.Nodes.{distinct}
 use Rattle.mtn_decide.specs.declared.decision.AttrChoice.TheVariants.{Clash as AttrClash}
 use Rattle.mtn_decide.specs.declared.decision.AttrDecision.{AttrDecision}
-use Rattle.mtn_decide.specs.declared.decision.ContentChoice.TheVariants.{Clash as ContentClash}
 use Rattle.mtn_decide.specs.declared.decision.Decision.{Decision}
 use Rattle.mtn_decide.specs.declared.decision.Pending.{Pending}
 use Rattle.mtn_decide.specs.declared.decision.SlotChoice.{SlotChoice}
@@ -249,7 +247,7 @@ module _ (h : List Revision) (p l r : ℕ) (sib : AreSiblings h p l r) (m : Merg
       let torn : a.0.choice ≡ AttrClash t.0 t.1 = ap (λ (y : NodeName × AttrDecision). y.1.choice) a.2 ∙ t.2 in
       let keys : has_keys_in_order d.0 ≡ true = keys_at ds d.0 order.keys d.1 in
       let chosen_there : choice_of d.0.attrs a.0.key ≡ Some a.0.choice =
-          ap (option_map (λ (b : AttrDecision). b.choice)) (own bytes_cmp same_bytes (λ (b : AttrDecision). b.key) bytes_total same_bytes-is same_bytes-self d.0.attrs keys a.0 a.1) in
+      ap (option_map (λ (b : AttrDecision). b.choice)) (own bytes_cmp same_bytes (λ (b : AttrDecision). b.key) bytes_total same_bytes-is same_bytes-self d.0.attrs keys a.0 a.1) in
       no_clash h p l r sib (AttrOf d.0.name a.0.key) (Clashing (AttrValue t.0) (AttrValue t.1)) (AttrValue t.0) (AttrValue t.1) refl
       (decided (AttrOf d.0.name a.0.key) d.0 (Clashing (AttrValue t.0) (AttrValue t.1)) (named d.0 d.1) (ap (option_map attr_verdict) (chosen_there ∙ ap Some torn)))
 

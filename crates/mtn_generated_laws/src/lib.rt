@@ -4,8 +4,11 @@
 //! is lawful, and has every file that was put for them.
 #![tactic(auto)]
 
-ghost use Rattle.std.specs.Prelude.{◌≡◌, ◌<◌, ◌≤◌, ℕ, List, Some, Ok, Contains};
+ghost use Rattle.std.specs.Prelude.{◌≡◌, ◌<◌, ◌≤◌, ℕ, List, [], ◌∷◌, Some, Ok, Contains};
 ghost use Rattle.std.specs.FinMap.{get};
+ghost use Rattle.mtn_base.specs.declared.id.Id.{Id};
+ghost use Rattle.mtn_changes.specs.declared.change.Change.TheVariants.{Patch, Set};
+ghost use Rattle.mtn_changeset_laws.specs.Changes.{tree_after};
 ghost use Rattle.mtn_conflicts.specs.Lists.{AreConflictsOf, IsNone};
 ghost use Rattle.mtn_conflicts.specs.declared.lists.Conflicts.{Conflicts};
 ghost use Rattle.mtn_decide.specs.Decisions.{IsInOrder, Merge};
@@ -13,7 +16,7 @@ ghost use Rattle.mtn_decide.specs.Graph.{IsMergeOf};
 ghost use Rattle.mtn_generated.specs.Growing.{Answer, Generates, Grown};
 ghost use Rattle.mtn_generated.specs.Numbered.{files_of, work_at};
 ghost use Rattle.mtn_generated_laws.specs.Siblings.{AreSiblings};
-ghost use Rattle.mtn_history_laws.specs.History.{IsGrown, Revision};
+ghost use Rattle.mtn_history_laws.specs.History.{IsGrown, Revision, parents_at, tree_at};
 ghost use Rattle.mtn_model.specs.State.{State};
 ghost use Rattle.mtn_replay.specs.Lawful.{IsLawful, Keeps};
 
@@ -44,4 +47,11 @@ pub fn files_are_held()
 pub fn siblings_do_not_conflict()
     ensures { (h : List Revision) (parent left right : ℕ) (m : Merge) (c : Conflicts) → IsGrown h → AreSiblings h parent left right → IsInOrder m → IsMergeOf h left right m →
         AreConflictsOf m c → IsNone c }
+{}
+
+/// A child that patches a file, and another that sets an attribute, are such children.
+pub fn patch_and_set_are_siblings()
+    ensures { (h : List Revision) (parent left right : ℕ) (p q : List (List ℕ)) (from to x y : Id) (key value : List ℕ) → parents_at h left ≡ parent ∷ [] → parents_at h right ≡ parent ∷ [] →
+        tree_at h left ≡ tree_after (tree_at h parent) (Patch p from to ∷ []) x → tree_at h right ≡ tree_after (tree_at h parent) (Set q key value ∷ []) y →
+        AreSiblings h parent left right }
 {}
