@@ -4,3 +4,4 @@ pub mod SomeGeneration
 pub mod KeptFiles
 pub mod Siblings
 pub mod Sides
+pub mod Readable
