@@ -1,0 +1,4 @@
+pub mod Counted
+pub mod Texts
+pub mod Following
+pub mod Stopping

@@ -1,0 +1,52 @@
+//! The history that is generated from a number, in definitions and laws. Nothing here runs.
+//!
+//! Two sides are grown from one root with ten files: on the left a file is patched, on the right an attribute of that file is set,
+//! both are merged, and the directory of the files is renamed; so it goes on by the number of the revision (`specs/Numbered.antt`).
+//! Each file and each revision goes into the state as by the command that keeps it, and the first refusal ends all
+//! (`specs/Growing.antt`).
+//!
+//! The crates above rely on this: how many merges and files there are is a formula of the number of revisions; no two of the files
+//! are the same; a patch names the content that its file had; and the directory keeps its name until a revision renames it.
+#![tactic(auto)]
+
+ghost use Rattle.std.specs.Prelude.{◌≡◌, ◌≢◌, ℕ, ◌+◌, ◌-◌, ◌/◌, ◌<◌, ◌≤◌, ◌^◌, List, ◌++◌, length, codes, decimal, Err};
+ghost use Rattle.mtn_base.specs.declared.refusal.Cause.TheVariants.{StoreNotEmpty};
+ghost use Rattle.mtn_generated.specs.Growing.{Answer, Generates, Grows, Stop};
+ghost use Rattle.mtn_generated.specs.Growing.Stop.{Refused};
+ghost use Rattle.mtn_generated.specs.Numbered.{directory_at, file_at, file_text, files_to, merges_to, work_at};
+ghost use Rattle.mtn_generated.specs.Numbered.Work.{Patches, Renames};
+ghost use Rattle.mtn_model.specs.State.{State};
+
+/// Every fourth revision is a merge. There are ten files at first, and one more every fourth revision from the second on.
+pub fn counts()
+    ensures merges { (n : ℕ) → merges_to n ≡ n / 4 }
+    ensures files { (n : ℕ) → 0 < n → files_to n ≡ 10 + (n + 2) / 4 }
+{}
+
+/// The texts of two files, or of one file at two revisions, differ.
+pub fn texts_differ()
+    ensures { (j i k m : ℕ) → j < 2 ^ 64 → i < 2 ^ 64 → k < 2 ^ 64 → m < 2 ^ 64 → file_text j i ≡ file_text k m → (j ≡ k) × (i ≡ m) }
+{}
+
+/// A patch names the content that its file had: that of forty revisions before, where the same file was patched (`again`), or else
+/// that of the first revision, under number 0; no revision between patches that file (`between`).
+pub fn patches_follow()
+    ensures again { (i : ℕ) → work_at i ≡ Patches → 40 < i → (work_at (i - 40) ≡ Patches) × (file_at (i - 40) ≡ file_at i) }
+    ensures between { (i k : ℕ) → work_at i ≡ Patches → work_at k ≡ Patches → i - 40 < k → k < i → file_at k ≢ file_at i }
+{}
+
+/// The directory keeps its name until a revision renames it, which gives it its own number.
+pub fn directories_stay()
+    ensures kept { (i : ℕ) → 0 < i → work_at (i + 1) ≢ Renames → directory_at (i + 1) ≡ directory_at i }
+    ensures renamed { (i : ℕ) → work_at i ≡ Renames → directory_at i ≡ codes "d" ++ decimal i }
+{}
+
+/// Where the log has a revision, their number is the refusal.
+pub fn log_must_be_empty()
+    ensures { (f : List ℕ → List ℕ) (n : ℕ) (s : State) (answer : Answer) → 0 < length s.log → Generates f n s answer → answer ≡ Err (Refused (StoreNotEmpty (length s.log))) }
+{}
+
+/// What has stopped at a revision stays so, however many more were asked for.
+pub fn first_stop_stays()
+    ensures { (f : List ℕ → List ℕ) (s : State) (m n : ℕ) (stop : Stop) → m ≤ n → Grows f s m (Err stop) → Grows f s n (Err stop) }
+{}
