@@ -851,6 +851,12 @@ def damaged():
     after(record(7, bytes.fromhex(KEY), b'no field'), (['read'], 1, b'refused InPacket 2 UnknownKey k@x\n', fdata(b'a') + said), (['get_file', HA], 1, b'refused UnknownFile %s\n' % HA.encode()),
           (['read'], 0, counts(1, 0, 1).encode(), fdata(b'a') + rcert(sha(ROOT), b'branch', KEY, b'main')))
     lines.ends()
+    lines.remark('A damage that a packet behind the first meets is shown as well, the record or the key that is missing; the records stay.')
+    child, another = fdata(b'a') + rdata(CHILD), fdata(b'b') + rdata(revision({'': None, 'f': H}, ('', [add_dir(''), add_file('f', sha(b'b'))])))
+    after(record(4, at, b'abc'), (['read'], 8, shows(4, at, b'abc'), child), (['get_file', HA], 1, b'refused UnknownFile %s\n' % HA.encode()))
+    after(record(5, at, b'abc'), (['read'], 8, shows(5, at, b'abc'), child), (['get_file', HA], 1, b'refused UnknownFile %s\n' % HA.encode()))
+    after(record(1, b'count', b'\0' * 7 + b'\2'), (['read'], 8, b'missing 4 0000000000000001\n', another))
+    lines.ends()
     return lines
 
 

@@ -1,6 +1,6 @@
 //! The top call.
 ghost use Rattle.std.specs.Prelude.{◌≡◌, IfOk};
-ghost use Rattle.mtn_cli.specs.Run.{HeadsMergesAreDecided, MergesAreDecided, OrderFree, Outcomes, Scripts, StaysLawful, is_read};
+ghost use Rattle.mtn_cli.specs.Run.{HeadsMergesAreDecided, MergesAreDecided, OrderFree, Outcomes, ReadsPackets, Scripts, StaysLawful, is_read};
 ghost use Rattle.mtn_cli.specs.Store.{IsLine, ShowsDamage, is_merging, is_spelled};
 ghost use Rattle.mtn_words.specs.Words.{Reads, command_of};
 ghost use Rattle.mtn_frame.specs.Frame.{Completes, HasCauses, LeavesRecords, Meets, Survives, TellsDamage, Writes};
@@ -30,7 +30,7 @@ pub fn run<R: Threads + Sync, I: Ident, S: Source, O: Sink, K: Keeper>(
         (record { contents = K.contents keeper.new; left = S.left source.new; written = O.written sink.new }) result }
     ensures same { LeavesRecords (session_words words.now) (K.contents keeper.old) (K.contents keeper.new) result }
     ensures written { Writes IsLine (session_words words.now) (O.written sink.old) (O.written sink.new) result }
-    ensures damage { TellsDamage (ShowsDamage (I.meaning ident.now)) (session_words words.now)
+    ensures damage { TellsDamage (ShowsDamage (I.meaning ident.now) (ReadsPackets words.now (S.left source.old) (S.left source.new))) (session_words words.now)
         (record { contents = K.contents keeper.old; left = S.left source.old; written = O.written sink.old })
         (record { contents = K.contents keeper.new; left = S.left source.new; written = O.written sink.new }) result }
     ensures lawful { StaysLawful (I.meaning ident.now) (K.contents keeper.old) (K.contents keeper.new) }

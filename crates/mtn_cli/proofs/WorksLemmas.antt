@@ -19,14 +19,15 @@ use Rattle.mtn_commands.specs.declared.error.CommandError.{CommandError}
 use Rattle.mtn_commands.specs.declared.error.CommandError.TheVariants.{Refused, Store}
 use Rattle.mtn_frame.specs.Script.{refused}
 use Rattle.mtn_history.specs.declared.pending.Pending.{Pending}
-use Rattle.mtn_history.specs.Damage.{IsDamage}
+use Rattle.mtn_history.specs.Damage.{IsDamage, IsShown}
+use Rattle.mtn_history.specs.declared.errors.Damage.{Damage}
 use Rattle.mtn_history.specs.Errors.{IfDamage}
 use Rattle.mtn_history.specs.Meta.{IsMetaOf}
 use Rattle.mtn_history.specs.Stands.{Stands, IsDraft}
 use Rattle.mtn_history.proofs.FileLemmas.{draft_stands}
 use Rattle.mtn_history.proofs.MetaLemmas.{no_damage, shown}
-use Rattle.mtn_commands.proofs.ReasonLemmas.{reason_of, wider_command_reason}
-use Rattle.mtn_commands.specs.Drafts.{Counts, HasCommandReason, IsCommandQuiet, Performed, Performs, drafted}
+use Rattle.mtn_commands.proofs.ReasonLemmas.{command_reason, reason_of, wider_command_reason}
+use Rattle.mtn_commands.specs.Drafts.{Counts, HasCommandReason, IsCommandDamage, IsCommandQuiet, Performed, Performs, drafted}
 use Rattle.mtn_cli.specs.Store.{IsLine, IsTold, ShowsDamage}
 
 -- a fact of told records
@@ -77,9 +78,9 @@ none_put : (merges : Bool) (pending before after : Pending) (r : Result Reply Co
 none_put merges pending before after (Ok reply) none is quiet = λ on. let q = quiet on in (q.0, ap (λ (p : Pending). p.batch) (q.1 ∙ is) ∙ none)
 none_put merges pending before after (Err e) none is quiet = tt
 
-module _ (f : List ℕ → List ℕ) {M : Type 0} (Knows : M → Contents → Type 0) {K : Type 0} (contents : K → Option Contents) (leaves : K → Contents → Type 0) (faults asked : K → ℕ) (merges : Bool) (Outcomes : State → Outcome → Type 0) where
+module _ (f : List ℕ → List ℕ) {M : Type 0} (Knows : M → Contents → Type 0) {K : Type 0} (contents : K → Option Contents) (leaves : K → Contents → Type 0) (faults asked : K → ℕ) (merges reading : Bool) (Outcomes : State → Outcome → Type 0) where
   abbrev Target : K → K → M → Result Worked WorkError → Type 0
-  Target old new m r = Works (Stands f) (ShowsDamage f) IsLine Knows contents leaves faults asked old new m true merges Outcomes (λ s n. ⊥) r
+  Target old new m r = Works (Stands f) (ShowsDamage f (reading ≡ true)) IsLine Knows contents leaves faults asked old new m true merges Outcomes (λ s n. ⊥) r
 
   -- what an error means over records that stand for a state
   abbrev Erred : State → CommandError → Type 0
@@ -90,20 +91,20 @@ module _ (f : List ℕ → List ℕ) {M : Type 0} (Knows : M → Contents → Ty
   pub record Over (old new : K) (after : Pending) (r : Result Reply CommandError) : Type 0 where
     pub stays : Stays contents leaves faults old new
     pub done : (c : Contents) (s : State) → contents new ≡ Some c → Stands f c s → Performed f c s (Outcomes s) r after
-    pub reason : HasCommandReason (contents new) (faults old) (faults new) r
+    pub reason : HasCommandReason f reading (contents new) (faults old) (faults new) r
     pub quiet : PutsNone merges after r
 
   pub over : (old opened begun new : K) (pending before after : Pending) (r : Result Reply CommandError) → Stays contents leaves faults old opened →
       ((c : Contents) (s : State) → contents opened ≡ Some c → Stands f c s → IsDraft f c pending s) → pending.batch ≡ [] →
       IfSome (contents opened) (λ c. IsMetaOf c (record { count = pending.count; is_new = pending.is_new })) → begun ≡ opened → before ≡ pending →
-      Performs f contents leaves faults begun new before after merges Outcomes r → Over old new after r
+      Performs f contents leaves faults begun new before after merges reading Outcomes r → Over old new after r
   over old opened begun new pending before after r stays opens none counted same is drafts =
       let to_begun : Stays contents leaves faults old begun = subst (Stays contents leaves faults old) (sym same) stays in
       record {
         stays = stays_trans contents leaves faults old begun new to_begun drafts.stays;
         done = λ c s now stands. drafts.done c s now (subst (λ (p : Pending). IsDraft f c p s) (sym is) (opens c s (ap contents (sym same) ∙ drafts.stays.same c now) stands));
-        reason = wider_command_reason (contents new) (faults old) (faults begun) (faults new) (faults new) r to_begun.later (omega arith)
-            (subst (λ told. HasCommandReason told (faults begun) (faults new) r) (nothing_over before (contents new) (ap (λ (p : Pending). p.batch) is ∙ none))
+        reason = wider_command_reason f reading (contents new) (faults old) (faults begun) (faults new) (faults new) r to_begun.later (omega arith)
+            (subst (λ told. HasCommandReason f reading told (faults begun) (faults new) r) (nothing_over before (contents new) (ap (λ (p : Pending). p.batch) is ∙ none))
             (drafts.reason (counts_of (contents opened) (contents new) pending before none is (λ c now. ap contents (sym same) ∙ drafts.stays.same c now) counted)));
         quiet = none_put merges pending before after r none is drafts.quiet;
       }
@@ -133,9 +134,18 @@ module _ (f : List ℕ → List ℕ) {M : Type 0} (Knows : M → Contents → Ty
   erred_over s c (Refused refusal) p drafted = drafted
   erred_over s c (Store e) p drafted = drafted
 
+  -- what a damage tells of its records
+  is_shown_by : (c : Contents) (d : Damage) → IsCommandDamage f reading c d → IsShown c d
+  is_shown_by c d (inl own) = shown c d own
+  is_shown_by c d (inr unfit) = unfit.1.shown
+
+  has_no_state : (c : Contents) (d : Damage) → IsCommandDamage f reading c d → (s : State) → Stands f c s → ⊥
+  has_no_state c d (inl own) s stands = no_damage f c s d stands own
+  has_no_state c d (inr unfit) s stands = unfit.1.unfit s stands
+
   -- an error with nothing put
   pub erred : (old new : K) (m : M) (e : CommandError) (out : WorkError) → IsTold e out → Stays contents leaves faults old new →
-      ((c : Contents) (s : State) → contents new ≡ Some c → Stands f c s → Erred s e) → HasCommandReason (contents new) (faults old) (faults new) (Err e) → IfSome (contents new) (Knows m) → Target old new m (Err out)
+      ((c : Contents) (s : State) → contents new ≡ Some c → Stands f c s → Erred s e) → HasCommandReason f reading (contents new) (faults old) (faults new) (Err e) → IfSome (contents new) (Knows m) → Target old new m (Err out)
   erred old new m (Refused refusal) out is stays done reason known = subst (λ o. Target old new m (Err o)) (sym is) record {
     stays = stays;
     done = done;
@@ -158,8 +168,8 @@ module _ (f : List ℕ → List ℕ) {M : Type 0} (Knows : M → Contents → Ty
     reason = (
       refl,
       λ c now.
-          let cause = at_told (contents new) (λ x. IsDamage x d) c now reason in
-          record { damage = d; cause = cause; is_shown = shown c d cause; no_state = λ s stands. no_damage f c s d stands cause; is = refl },
+          let cause = at_told (contents new) (λ x. IsCommandDamage f reading x d) c now reason in
+          record { damage = d; cause = cause; is_shown = is_shown_by c d cause; no_state = λ s stands. has_no_state c d cause s stands; is = refl },
       (d, refl),
     );
     few_reads = λ c s n now stands none. absurd none;
@@ -171,7 +181,7 @@ module _ (f : List ℕ → List ℕ) {M : Type 0} (Knows : M → Contents → Ty
       ((c : Contents) (s : State) → contents new ≡ Some c → Stands f c s → IfDamage e (λ _. ⊥)) → (e ≡ Failed → Rose (faults old) (faults new)) →
       IfSome (contents new) (λ c. IfDamage e (IsDamage c)) → IfSome (contents new) (Knows m) → Target old new m (Err out)
   open_failed old new m e out is stays sound failed damaged known =
-      erred old new m (Store e) out is stays sound (reason_of (contents new) (faults old) (faults new) e failed damaged) known
+      erred old new m (Store e) out is stays sound (command_reason f reading (contents new) (faults old) (faults new) e (reason_of (contents new) (faults old) (faults new) e failed damaged)) known
 
   -- the command gave an error
   pub failed : (old new : K) (m : M) (after : Pending) (e : CommandError) (out : WorkError) → IsTold e out → Over old new after (Err e) → IfSome (contents new) (Knows m) → Target old new m (Err out)

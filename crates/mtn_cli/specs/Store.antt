@@ -1,16 +1,22 @@
 -- The commands of a store, as the frame sees them.
-use Rattle.std.specs.Prelude.{◌≡◌, ◌⊎◌, List, ℕ, Bool, is_some}
+use Rattle.std.specs.Prelude.{◌≡◌, ◌⊎◌, List, ℕ, Bool, false, is_some}
+use Rattle.std.specs.List.{list_any}
 use Rattle.mtn_model.specs.State.{State}
 use Rattle.mtn_model.specs.Table.{Contents}
 use Rattle.mtn_words.specs.Calls.{call_of}
 use Rattle.mtn_cli.specs.Texts.{damage_line}
 use Rattle.mtn_frame.specs.Script.{Bounds}
+use Rattle.mtn_frame.specs.declared.script.Job.{Job}
+use Rattle.mtn_frame.specs.declared.script.Job.TheVariants.{BadInput, Call}
+use Rattle.mtn_frame.specs.declared.script.Script.{Script}
+use Rattle.mtn_frame.specs.declared.script.Script.TheVariants.{Bare, Framed}
 use Rattle.mtn_frame.specs.declared.works.WorkError.{WorkError}
 use Rattle.mtn_frame.specs.declared.works.WorkError.TheVariants as work
 use Rattle.mtn_history.specs.Damage.{IsDamage, IsShown}
 use Rattle.mtn_history.specs.Stands.{Stands}
-use Rattle.mtn_commands.specs.Drafts.{may_conflict}
+use Rattle.mtn_commands.specs.Drafts.{may_conflict, reads_packets}
 use Rattle.mtn_history.specs.declared.errors.Damage.{Damage}
+use Rattle.mtn_reading.specs.Unfit.{IsUnfit}
 use Rattle.mtn_commands.specs.declared.error.CommandError.{CommandError}
 use Rattle.mtn_commands.specs.declared.error.CommandError.TheVariants.{Refused, Store}
 use Rattle.mtn_history.specs.declared.errors.StoreError.TheVariants.{Failed, Damaged, NoMemory}
@@ -23,6 +29,18 @@ is_spelled words = is_some (call_of words)
 abbrev pub is_merging : List (List ℕ) → Bool
 is_merging words = may_conflict (call_of words)
 
+-- words of the command that reads packets, a job of such words, and a script with such a job
+abbrev pub is_reading : List (List ℕ) → Bool
+is_reading words = reads_packets (call_of words)
+
+abbrev pub job_reading : Job → Bool
+job_reading (Call words payload) = is_reading words
+job_reading (BadInput number) = false
+
+abbrev pub script_reading : Script → Bool
+script_reading (Bare job) = job_reading job
+script_reading (Framed jobs) = list_any job_reading jobs
+
 -- how many records a command asks for is not bounded yet
 abbrev pub unbounded : Bounds
 unbounded words payload = λ s n. ⊥
@@ -31,10 +49,11 @@ unbounded words payload = λ s n. ⊥
 abbrev pub IsLine : List ℕ → Type 0
 IsLine line = (damage : Damage) × (line ≡ damage_line damage)
 
--- A damage of these records, and its line. Under this ident they stand for no state.
-pub record ShowsDamage (f : List ℕ → List ℕ) (c : Contents) (line : List ℕ) : Type 0 where
+-- A damage of these records, and its line. Under this ident they stand for no state. Where packets are read, `Reads`, it may be no
+-- damage of them alone, but a record of such as stand for no state.
+pub record ShowsDamage (f : List ℕ → List ℕ) (Reads : Type 0) (c : Contents) (line : List ℕ) : Type 0 where
   pub damage : Damage
-  pub cause : IsDamage c damage
+  pub cause : IsDamage c damage ⊎ (Reads × IsUnfit f c damage)
   pub is_shown : IsShown c damage
   pub no_state : (s : State) → Stands f c s → ⊥
   pub is : line ≡ damage_line damage

@@ -1,7 +1,7 @@
 // One job, and the jobs of a session one after the other.
 ghost use Rattle.std.specs.Prelude.{IfSome};
 ghost use Rattle.mtn_cli.specs.Step.{Step};
-ghost use Rattle.mtn_cli.specs.Store.{IsLine, ShowsDamage, is_merging, is_spelled, unbounded};
+ghost use Rattle.mtn_cli.specs.Store.{IsLine, ShowsDamage, is_merging, is_spelled, job_reading, script_reading, unbounded};
 ghost use Rattle.mtn_frame.specs.One.{One};
 ghost use Rattle.mtn_frame.specs.Script.{BoundsJob, Does};
 ghost use Rattle.mtn_frame.specs.Session.{RunsJobs, RunsScript, script_merging, script_spelled};
@@ -31,7 +31,7 @@ fn one<R: Threads + Sync, I: Ident, O: Sink, K: Keeper>(
     keeper: &mut K,
 ) -> Status
     requires { IfSome (K.contents keeper.old) (Knows memory.old) }
-    ensures { One (Stands (I.meaning ident.now)) (ShowsDamage (I.meaning ident.now)) IsLine Knows K.contents K.leaves K.faults K.reads keeper.old keeper.new memory.new
+    ensures { One (Stands (I.meaning ident.now)) (ShowsDamage (I.meaning ident.now) (job_reading job.now ≡ true)) IsLine Knows K.contents K.leaves K.faults K.reads keeper.old keeper.new memory.new
         (O.written sink.old) (O.written sink.new) (O.faults sink.old) (O.faults sink.new) form (job_spelled is_spelled job.now) (job_merging is_merging job.now) (Does (Step (I.meaning ident.now)) job.now) (BoundsJob unbounded job.now) result }
 {
     let worked = work_job(rt, alloc, ident, job, memory, keeper);
@@ -55,7 +55,7 @@ fn run_jobs<R: Threads + Sync, I: Ident, O: Sink, K: Keeper>(
     keeper: &mut K,
 ) -> Status
     requires { IfSome (K.contents keeper.old) (Knows memory.old) }
-    ensures { RunsJobs (Stands (I.meaning ident.now)) (ShowsDamage (I.meaning ident.now)) (Does (Step (I.meaning ident.now))) K.contents K.leaves K.faults keeper.old keeper.new
+    ensures { RunsJobs (Stands (I.meaning ident.now)) (ShowsDamage (I.meaning ident.now) (list_any job_reading jobs.now ≡ true)) (Does (Step (I.meaning ident.now))) K.contents K.leaves K.faults keeper.old keeper.new
         (O.written sink.old) (O.written sink.new) (O.faults sink.old) (O.faults sink.new) jobs.now result }
 {
     for (number, job) in jobs.as_slice().iter().enumerate() {
@@ -79,7 +79,7 @@ pub fn run_script<R: Threads + Sync, I: Ident, O: Sink, K: Keeper>(
     sink: &mut O,
     keeper: &mut K,
 ) -> Status
-    ensures { RunsScript (Stands (I.meaning ident.now)) (ShowsDamage (I.meaning ident.now)) IsLine (Does (Step (I.meaning ident.now))) (BoundsJob unbounded) K.contents K.leaves K.faults K.reads keeper.old keeper.new
+    ensures { RunsScript (Stands (I.meaning ident.now)) (ShowsDamage (I.meaning ident.now) (script_reading script.now ≡ true)) IsLine (Does (Step (I.meaning ident.now))) (BoundsJob unbounded) K.contents K.leaves K.faults K.reads keeper.old keeper.new
         (O.written sink.old) (O.written sink.new) (O.faults sink.old) (O.faults sink.new) script.now (script_spelled is_spelled script.now) (script_merging is_merging script.now) result }
 {
     let mut memory = Memory::new(alloc);

@@ -1,6 +1,6 @@
 // The top call.
 ghost use Rattle.std.specs.Prelude.{◌≡◌, IfOk};
-ghost use Rattle.mtn_cli.specs.Run.{HeadsMergesAreDecided, MergesAreDecided, OrderFree, Outcomes, Scripts, StaysLawful, is_read};
+ghost use Rattle.mtn_cli.specs.Run.{HeadsMergesAreDecided, MergesAreDecided, OrderFree, Outcomes, ReadsPackets, Scripts, StaysLawful, is_read};
 ghost use Rattle.mtn_cli.specs.Step.{Step};
 ghost use Rattle.mtn_cli.specs.Store.{IsLine, ShowsDamage, is_merging, is_spelled, unbounded};
 ghost use Rattle.mtn_frame.specs.Frame.{Completes, HasCauses, LeavesRecords, Meets, Survives, TellsDamage, Writes};
@@ -50,7 +50,7 @@ fn run_words<R: Threads + Sync, I: Ident, S: Source, O: Sink, K: Keeper>(
     sink: &mut O,
     keeper: &mut K,
 ) -> Status
-    ensures { Runs (Stands (I.meaning ident.now)) (ShowsDamage (I.meaning ident.now)) IsLine (Does (Step (I.meaning ident.now))) (λ input. unbounded words.now (fed (reads is_spelled takes_payload words.now) input)) (λ input. IsScript takes_payload words.now (fed (reads is_spelled takes_payload words.now) input))
+    ensures { Runs (Stands (I.meaning ident.now)) (ShowsDamage (I.meaning ident.now) (ReadsPackets words.now (S.left source.old) (S.left source.new))) IsLine (Does (Step (I.meaning ident.now))) (λ input. unbounded words.now (fed (reads is_spelled takes_payload words.now) input)) (λ input. IsScript takes_payload words.now (fed (reads is_spelled takes_payload words.now) input))
         (session_words words.now) (in_grammar is_spelled words.now) (is_merge is_merging words.now) (reads is_spelled takes_payload words.now)
         (record { contents = K.contents keeper.old; left = S.left source.old; written = O.written sink.old })
         (record { contents = K.contents keeper.new; left = S.left source.new; written = O.written sink.new })
@@ -95,7 +95,7 @@ pub fn run<R: Threads + Sync, I: Ident, S: Source, O: Sink, K: Keeper>(
         (record { contents = K.contents keeper.new; left = S.left source.new; written = O.written sink.new }) result }
     ensures same { LeavesRecords (session_words words.now) (K.contents keeper.old) (K.contents keeper.new) result }
     ensures written { Writes IsLine (session_words words.now) (O.written sink.old) (O.written sink.new) result }
-    ensures damage { TellsDamage (ShowsDamage (I.meaning ident.now)) (session_words words.now)
+    ensures damage { TellsDamage (ShowsDamage (I.meaning ident.now) (ReadsPackets words.now (S.left source.old) (S.left source.new))) (session_words words.now)
         (record { contents = K.contents keeper.old; left = S.left source.old; written = O.written sink.old })
         (record { contents = K.contents keeper.new; left = S.left source.new; written = O.written sink.new }) result }
     ensures lawful { StaysLawful (I.meaning ident.now) (K.contents keeper.old) (K.contents keeper.new) }

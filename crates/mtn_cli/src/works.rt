@@ -1,8 +1,8 @@
 // A command over a draft of the keeper.
 ghost use Rattle.std.specs.Prelude.{IfSome, Some, true};
 ghost use Rattle.mtn_cli.specs.Step.{Step};
-ghost use Rattle.mtn_cli.specs.Store.{IsLine, ShowsDamage, is_merging, is_spelled, unbounded};
-ghost use Rattle.mtn_commands.specs.Drafts.{may_conflict};
+ghost use Rattle.mtn_cli.specs.Store.{IsLine, ShowsDamage, is_merging, is_reading, is_spelled, job_reading, unbounded};
+ghost use Rattle.mtn_commands.specs.Drafts.{may_conflict, reads_packets};
 ghost use Rattle.mtn_frame.specs.Script.{BoundsJob, Does};
 ghost use Rattle.mtn_frame.specs.Works.{Works, is_merging as job_merging, is_spelled as job_spelled};
 ghost use Rattle.mtn_history.specs.Memory.{Knows};
@@ -47,7 +47,7 @@ fn work_on<R: Threads + Sync, I: Ident, K: Keeper>(
     keeper: &mut K,
 ) -> Result<Worked, WorkError>
     requires { IfSome (K.contents keeper.old) (Knows memory.old) }
-    ensures { Works (Stands (I.meaning ident.now)) (ShowsDamage (I.meaning ident.now)) IsLine Knows K.contents K.leaves K.faults K.reads keeper.old keeper.new memory.new
+    ensures { Works (Stands (I.meaning ident.now)) (ShowsDamage (I.meaning ident.now) (reads_packets (Some call.now) ≡ true)) IsLine Knows K.contents K.leaves K.faults K.reads keeper.old keeper.new memory.new
         true (may_conflict (Some call.now)) (Steps (I.meaning ident.now) call.now payload.now) (λ s n. ⊥) result }
 {
     let pending = match Pending::open(alloc, memory, keeper) {
@@ -85,7 +85,7 @@ fn work_words<R: Threads + Sync, I: Ident, K: Keeper>(
     keeper: &mut K,
 ) -> Result<Worked, WorkError>
     requires { IfSome (K.contents keeper.old) (Knows memory.old) }
-    ensures { Works (Stands (I.meaning ident.now)) (ShowsDamage (I.meaning ident.now)) IsLine Knows K.contents K.leaves K.faults K.reads keeper.old keeper.new memory.new
+    ensures { Works (Stands (I.meaning ident.now)) (ShowsDamage (I.meaning ident.now) (is_reading words.now ≡ true)) IsLine Knows K.contents K.leaves K.faults K.reads keeper.old keeper.new memory.new
         (is_spelled words.now) (is_merging words.now) (Step (I.meaning ident.now) words.now payload.now) (unbounded words.now payload.now) result }
 {
     match read_words(alloc, words) {
@@ -105,7 +105,7 @@ pub fn work_job<R: Threads + Sync, I: Ident, K: Keeper>(
     keeper: &mut K,
 ) -> Result<Worked, WorkError>
     requires { IfSome (K.contents keeper.old) (Knows memory.old) }
-    ensures { Works (Stands (I.meaning ident.now)) (ShowsDamage (I.meaning ident.now)) IsLine Knows K.contents K.leaves K.faults K.reads keeper.old keeper.new memory.new
+    ensures { Works (Stands (I.meaning ident.now)) (ShowsDamage (I.meaning ident.now) (job_reading job.now ≡ true)) IsLine Knows K.contents K.leaves K.faults K.reads keeper.old keeper.new memory.new
         (job_spelled is_spelled job.now) (job_merging is_merging job.now) (Does (Step (I.meaning ident.now)) job.now) (BoundsJob unbounded job.now) result }
 {
     match job {

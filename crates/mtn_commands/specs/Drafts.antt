@@ -1,5 +1,5 @@
 -- What the function behind a command ensures, the same words for each.
-use Rattle.std.specs.Prelude.{◌≡◌, List, Option, Some, Result, Ok, Err, ℕ, Bool, true, false, ⊤, IfSome, option_map}
+use Rattle.std.specs.Prelude.{◌≡◌, ◌⊎◌, List, Option, Some, Result, Ok, Err, ℕ, Bool, true, false, ⊤, IfSome, option_map}
 use Rattle.mtn_commands.specs.declared.error.CommandError.{CommandError}
 use Rattle.mtn_commands.specs.declared.error.CommandError.TheVariants as command
 use Rattle.mtn_frame.specs.Script.{refused as refused_with}
@@ -15,6 +15,7 @@ use Rattle.mtn_history.specs.Errors.{IfDamage}
 use Rattle.mtn_history.specs.Meta.{IsMetaOf}
 use Rattle.mtn_history.specs.Stands.{IsDraft}
 use Rattle.mtn_history.specs.declared.pending.Pending.{Pending}
+use Rattle.mtn_history.specs.declared.errors.Damage.{Damage}
 use Rattle.mtn_history.specs.declared.errors.StoreError.{StoreError}
 use Rattle.mtn_history.specs.declared.errors.StoreError.TheVariants.{Failed, Damaged, NoMemory}
 use Rattle.mtn_history.specs.declared.errors.HistoryError.{HistoryError}
@@ -23,9 +24,10 @@ use Rattle.mtn_base.specs.declared.refusal.Cause.TheVariants.{UnknownRevision}
 use Rattle.mtn_graph_queries.specs.declared.query.QueryError.{QueryError}
 use Rattle.mtn_graph_queries.specs.declared.query.QueryError.TheVariants.{Unknown}
 use Rattle.mtn_graph_queries.specs.declared.query.QueryError.TheVariants as query
+use Rattle.mtn_reading.specs.Unfit.{IsUnfit}
 use Rattle.mtn_step.specs.Step.{done, refused}
 use Rattle.mtn_step.specs.declared.call.Call.{Call}
-use Rattle.mtn_step.specs.declared.call.Call.TheVariants.{Merge, MergeHeads}
+use Rattle.mtn_step.specs.declared.call.Call.TheVariants.{Merge, MergeHeads, Read}
 
 -- what a command answers for a query without an answer
 abbrev pub query_refusal : QueryError → HistoryError
@@ -113,10 +115,24 @@ Performed f c s Is (Ok reply) p = (t : State) × Is (replied reply t) × IsDraft
 Performed f c s Is (Err (command.Refused refusal)) p = Is (refused_with refusal s)
 Performed f c s Is (Err (command.Store e)) p = IfDamage e (λ _. ⊥)
 
-abbrev pub HasCommandReason : Option Contents → ℕ → ℕ → Result Reply CommandError → Type 0
-HasCommandReason told before now (Ok reply) = ⊤
-HasCommandReason told before now (Err (command.Refused refusal)) = ⊤
-HasCommandReason told before now (Err (command.Store e)) = Reason told before now e
+-- a command that reads packets
+abbrev pub reads_packets : Option Call → Bool
+reads_packets (Some Read) = true
+reads_packets _ = false
+
+-- A damage of these records. Where packets are read, it may be a record of such as stand for no state
+abbrev pub IsCommandDamage : (List ℕ → List ℕ) → Bool → Contents → Damage → Type 0
+IsCommandDamage f reading c d = IsDamage c d ⊎ ((reading ≡ true) × IsUnfit f c d)
+
+abbrev pub CommandReason : (List ℕ → List ℕ) → Bool → Option Contents → ℕ → ℕ → StoreError → Type 0
+CommandReason f reading told before now Failed = Rose before now
+CommandReason f reading told before now (Damaged d) = IfSome told (λ c. IsCommandDamage f reading c d)
+CommandReason f reading told before now NoMemory = ⊤
+
+abbrev pub HasCommandReason : (List ℕ → List ℕ) → Bool → Option Contents → ℕ → ℕ → Result Reply CommandError → Type 0
+HasCommandReason f reading told before now (Ok reply) = ⊤
+HasCommandReason f reading told before now (Err (command.Refused refusal)) = ⊤
+HasCommandReason f reading told before now (Err (command.Store e)) = CommandReason f reading told before now e
 
 abbrev pub IsCommandQuiet : Bool → Pending → Pending → Result Reply CommandError → Type 0
 IsCommandQuiet merges before after (Ok reply) = reply.conflicts ≡ true → (merges ≡ true) × (after ≡ before)
@@ -124,8 +140,8 @@ IsCommandQuiet merges before after (Err e) = ⊤
 
 -- what any command does over a draft
 pub record Performs (f : List ℕ → List ℕ) {K : Type 0} (contents : K → Option Contents) (leaves : K → Contents → Type 0) (faults : K → ℕ) (old new : K)
-    (before after : Pending) (merges : Bool) (Outcomes : State → Outcome → Type 0) (result : Result Reply CommandError) : Type 0 where
+    (before after : Pending) (merges reading : Bool) (Outcomes : State → Outcome → Type 0) (result : Result Reply CommandError) : Type 0 where
   pub stays : Stays contents leaves faults old new
   pub done : (c : Contents) (s : State) → contents new ≡ Some c → IsDraft f c before s → Performed f c s (Outcomes s) result after
-  pub reason : Counts before (contents new) → HasCommandReason (drafted before (contents new)) (faults old) (faults new) result
+  pub reason : Counts before (contents new) → HasCommandReason f reading (drafted before (contents new)) (faults old) (faults new) result
   pub quiet : IsCommandQuiet merges before after result

@@ -1,6 +1,6 @@
 // Any command over a draft.
-ghost use Rattle.std.specs.Prelude.{◌≡◌, Some};
-ghost use Rattle.mtn_commands.specs.Drafts.{Performs, may_conflict};
+ghost use Rattle.std.specs.Prelude.{◌≡◌, [], Some};
+ghost use Rattle.mtn_commands.specs.Drafts.{Performs, may_conflict, reads_packets};
 ghost use Rattle.mtn_step.specs.Step.{Steps};
 
 use crate::error::{CommandError, whole};
@@ -13,7 +13,7 @@ use mtn_step::Call;
 use std::alloc::Global;
 use std::thread::Threads;
 
-/// What a command does over a draft, and replies: its line of the step. `rt` is for the ids of many packets.
+/// What a command does over a draft with nothing pending, and replies: its line of the step. `rt` is for the ids of many packets.
 pub fn perform<R: Threads + Sync, I: Ident, K: Keeper>(
     rt: &R,
     alloc: Global,
@@ -22,9 +22,10 @@ pub fn perform<R: Threads + Sync, I: Ident, K: Keeper>(
     payload: &[u8],
     draft: &mut Draft<'_, K>,
 ) -> Result<Reply, CommandError>
+    requires bare { draft.old.pending.batch ≡ [] }
     ensures same_reference { draft.new.keeper.ghost_name ≡ draft.old.keeper.ghost_name }
     ensures performs { Performs (I.meaning ident.now) K.contents K.leaves K.faults draft.old.keeper.now draft.new.keeper.now draft.old.pending draft.new.pending
-        (may_conflict (Some call.now)) (Steps (I.meaning ident.now) call.now payload.now) result }
+        (may_conflict (Some call.now)) (reads_packets (Some call.now)) (Steps (I.meaning ident.now) call.now payload.now) result }
 {
     match call {
         Call::Read => read(rt, alloc, ident, payload, draft),

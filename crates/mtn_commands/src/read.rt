@@ -1,5 +1,5 @@
 // The command `read`.
-ghost use Rattle.std.specs.Prelude.{◌≡◌, IfOk, false};
+ghost use Rattle.std.specs.Prelude.{◌≡◌, [], IfOk, false, true};
 ghost use Rattle.mtn_commands.specs.Drafts.{Performs};
 ghost use Rattle.mtn_commands.specs.Reading.{ToldCounts, command_error};
 ghost use Rattle.mtn_imports.specs.Imports.{kept_text};
@@ -62,9 +62,10 @@ pub fn read<R: Threads + Sync, I: Ident, K: Keeper>(
     payload: &[u8],
     draft: &mut Draft<'_, K>,
 ) -> Result<Reply, CommandError>
+    requires bare { draft.old.pending.batch ≡ [] }
     ensures same_reference { draft.new.keeper.ghost_name ≡ draft.old.keeper.ghost_name }
     ensures performs { Performs (I.meaning ident.now) K.contents K.leaves K.faults draft.old.keeper.now draft.new.keeper.now draft.old.pending draft.new.pending
-        false (Steps (I.meaning ident.now) Call.Read payload.now) result }
+        false true (Steps (I.meaning ident.now) Call.Read payload.now) result }
 {
     match mtn_reading::read(rt, alloc, ident, draft, payload) {
         Ok(new) => told(alloc, &new),

@@ -1,6 +1,6 @@
 -- The packets of some heads, one after the other.
 use Rattle.std.specs.Prelude.{IfSome}
-use Rattle.std.proofs.Common.{◌≡◌, ◌<◌, ◌≤◌, ◌+◌, ℕ, suc, List, length, get_or, take, drop, Option, Some, None, Ok, Err, sym, ◌∙◌, subst, arith}
+use Rattle.std.proofs.Common.{◌≡◌, ◌<◌, ◌≤◌, ◌+◌, ℕ, suc, List, length, get_or, take, drop, Option, Some, None, Ok, Err, inl, sym, ◌∙◌, subst, arith}
 use Rattle.std.proofs.lemmas.List.{take_all}
 use Rattle.mtn_history.specs.Damage.{IsDamage}
 use Rattle.mtn_history.specs.Errors.{IfStoreDamage}
@@ -8,7 +8,7 @@ use Rattle.mtn_history.specs.Meta.{IsMetaOf}
 use Rattle.mtn_history.specs.Stands.{IsDraft}
 use Rattle.mtn_history.specs.declared.errors.HistoryError.{HistoryError}
 use Rattle.mtn_history.specs.declared.errors.HistoryError.TheVariants as history
-use Rattle.mtn_history.specs.declared.errors.StoreError.TheVariants.{Damaged, Failed, NoMemory}
+use Rattle.mtn_history.specs.declared.errors.StoreError.TheVariants.{Failed}
 use Rattle.mtn_history.specs.declared.pending.Pending.{Pending}
 use Rattle.mtn_imports.specs.Imports.{Kept, ReadsFrom, with_more}
 use Rattle.mtn_model.specs.State.{State}
@@ -16,13 +16,15 @@ use Rattle.mtn_model.specs.Table.{Contents}
 use Rattle.mtn_packets.specs.declared.packet.Packet.{Packet}
 use Rattle.mtn_ports.specs.Kept.{with_all}
 use Rattle.mtn_reading.specs.Heads.{packet_at, packets_at}
-use Rattle.mtn_reading.specs.Reading.{Comes, IfReadDamage, IsNumbered, ReadsTo, kept_of, undamaged}
+use Rattle.mtn_reading.specs.Reading.{Comes, IfReadDamage, IsNumbered, ReadsTo, kept_of}
+use Rattle.mtn_reading.specs.Unfit.{SpoilsReading}
 use Rattle.mtn_reading.specs.declared.counts.Counts.{Counts}
 use Rattle.mtn_reading.specs.declared.error.ReadError.{ReadError}
 use Rattle.mtn_reading.specs.declared.error.ReadError.TheVariants.{Store}
 use Rattle.mtn_reading.specs.declared.head.Head.{Head}
 use Rattle.mtn_reading.proofs.MismatchLemmas.{about, so_many, up_to}
 use Rattle.mtn_reading.proofs.ReadsLemmas.{one_more, refused}
+use Rattle.mtn_reading.proofs.UnfitReading.{wider}
 
 -- the answer so far: a state that the packets of the heads up to a place lead to
 abbrev pub Reached : (List ℕ → List ℕ) → Contents → State → List (List ℕ) → List Head → Kept → Pending → Type 0
@@ -56,20 +58,20 @@ module _ (f : List ℕ → List ℕ) (c : Contents) (s : State) (payloads : List
 
 -- a packet's damage is one of the draft's records as they are then
 module _ (number : ℕ) (error : HistoryError) (e : ReadError) (named : IsNumbered number error e) where
-  shown : (c : Contents) (p : Pending) → IfStoreDamage error (IsDamage (with_all c p.batch)) → IfReadDamage e (IsDamage (with_all c p.batch))
-  shown c p damaged = by error named damaged
+  shown : (f : List ℕ → List ℕ) (c : Contents) (p : Pending) → IfStoreDamage error (IsDamage (with_all c p.batch)) → IfReadDamage e (SpoilsReading f (with_all c p.batch))
+  shown f c p damaged = by error named damaged
     where
-      by : (error : HistoryError) → IsNumbered number error e → IfStoreDamage error (IsDamage (with_all c p.batch)) → IfReadDamage e (IsDamage (with_all c p.batch))
-      by (history.Refused cause) is damage = subst (λ (x : ReadError). IfReadDamage x (IsDamage (with_all c p.batch))) (sym is) tt
-      by (history.Store x) is damage = subst (λ (x : ReadError). IfReadDamage x (IsDamage (with_all c p.batch))) (sym is) damage
+      by : (error : HistoryError) → IsNumbered number error e → IfStoreDamage error (IsDamage (with_all c p.batch)) → IfReadDamage e (SpoilsReading f (with_all c p.batch))
+      by (history.Refused cause) is damage = subst (λ (x : ReadError). IfReadDamage x (SpoilsReading f (with_all c p.batch))) (sym is) tt
+      by (history.Store x) is damage = subst (λ (y : ReadError). IfReadDamage y (SpoilsReading f (with_all c p.batch))) (sym is) (wider (IsDamage (with_all c p.batch)) (SpoilsReading f (with_all c p.batch)) (λ d own. inl own) x damage)
 
-  pub damage_shown : (told : Option Contents) (before after : Pending) → after ≡ before →
+  pub damage_shown : (f : List ℕ → List ℕ) (told : Option Contents) (before after : Pending) → after ≡ before →
       IfSome told (λ c. IsMetaOf (with_all c before.batch) (record { count = before.count; is_new = before.is_new }) → IfStoreDamage error (IsDamage (with_all c before.batch))) →
-      IfSome told (λ c. IsMetaOf (with_all c after.batch) (record { count = after.count; is_new = after.is_new }) → IfReadDamage e (IsDamage (with_all c after.batch)))
-  damage_shown None before after same damaged = tt
-  damage_shown (Some c) before after same damaged =
-      subst (λ (p : Pending). IsMetaOf (with_all c p.batch) (record { count = p.count; is_new = p.is_new }) → IfReadDamage e (IsDamage (with_all c p.batch))) (sym same)
-      (λ counted. shown c before (damaged counted))
+      IfSome told (λ c. IsMetaOf (with_all c after.batch) (record { count = after.count; is_new = after.is_new }) → IfReadDamage e (SpoilsReading f (with_all c after.batch)))
+  damage_shown f None before after same damaged = tt
+  damage_shown f (Some c) before after same damaged =
+      subst (λ (p : Pending). IsMetaOf (with_all c p.batch) (record { count = p.count; is_new = p.is_new }) → IfReadDamage e (SpoilsReading f (with_all c p.batch))) (sym same)
+      (λ counted. shown f c before (damaged counted))
 
   -- a fault is the packet's
   pub fault_of : e ≡ Store Failed → error ≡ history.Store Failed
@@ -78,10 +80,3 @@ module _ (number : ℕ) (error : HistoryError) (e : ReadError) (named : IsNumber
       by : (error : HistoryError) → IsNumbered number error e → error ≡ history.Store Failed
       by (history.Refused cause) at = absurd (let x = sym at ∙ is in cc)
       by (history.Store x) at = let same : Store x ≡ Store Failed = sym at ∙ is in cc
-
--- an error without its damage says no more
-pub quiet : (f : List ℕ → List ℕ) (c : Contents) (s : State) (packet : Packet) (error : HistoryError) (p : Pending) → ReadsTo f c s packet (Err error) p → ReadsTo f c s packet (Err (undamaged error)) p
-quiet f c s packet (history.Refused cause) p reads = reads
-quiet f c s packet (history.Store Failed) p reads = tt
-quiet f c s packet (history.Store (Damaged d)) p reads = tt
-quiet f c s packet (history.Store NoMemory) p reads = tt

@@ -5,3 +5,4 @@ pub mod KeptReading
 pub mod AllReading
 pub mod CertReading
 pub mod InputReading
+pub mod UnfitReading

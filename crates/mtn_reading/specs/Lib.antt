@@ -1,3 +1,4 @@
 pub mod Counting
 pub mod Heads
 pub mod Reading
+pub mod Unfit

@@ -12,7 +12,7 @@ use Rattle.mtn_history.specs.Stands.{IsDraft}
 use Rattle.mtn_history.specs.declared.errors.Damage.{Damage}
 use Rattle.mtn_history.specs.declared.errors.HistoryError.{HistoryError}
 use Rattle.mtn_history.specs.declared.errors.HistoryError.TheVariants as history
-use Rattle.mtn_history.specs.declared.errors.StoreError.TheVariants.{Damaged, Failed, NoMemory}
+use Rattle.mtn_history.specs.declared.errors.StoreError.TheVariants.{NoMemory}
 use Rattle.mtn_history.specs.declared.pending.Pending.{Pending}
 use Rattle.mtn_imports.specs.Imports.{Kept, Reads, kept, one_new, too_long, unknown_key, unknown_revision}
 use Rattle.mtn_model.specs.State.{State}
@@ -91,13 +91,6 @@ pub record IsOne (new : Counts) : Type 0 where
 abbrev pub IsNumbered : ℕ → HistoryError → ReadError → Type 0
 IsNumbered number (history.Refused cause) e = e ≡ Refused (record { packet = number; cause = cause })
 IsNumbered number (history.Store error) e = e ≡ Store error
-
--- an error without its damage
-abbrev pub undamaged : HistoryError → HistoryError
-undamaged (history.Refused cause) = history.Refused cause
-undamaged (history.Store Failed) = history.Store Failed
-undamaged (history.Store (Damaged d)) = history.Store NoMemory
-undamaged (history.Store NoMemory) = history.Store NoMemory
 
 -- what is answered for an input that is no packets
 abbrev pub IsFault : PacketError → ReadError → Type 0

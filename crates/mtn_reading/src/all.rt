@@ -1,6 +1,5 @@
 // Packets, one after the other.
-ghost use Rattle.std.specs.Prelude.{◌≡◌, ◌+◌, ◌≤◌, ◌<◌, ◌^◌, ℕ, List as Seq, All, Some, Err, IfErr, IfOk, IfSome, OnErr, length};
-ghost use Rattle.mtn_history.specs.Damage.{IsDamage};
+ghost use Rattle.std.specs.Prelude.{◌≡◌, ◌+◌, ◌<◌, ◌^◌, [], All, Some, Err, IfErr, IfSome, length};
 ghost use Rattle.mtn_history.specs.Meta.{IsMetaOf};
 ghost use Rattle.mtn_history.specs.Stands.{IsDraft};
 ghost use Rattle.mtn_imports.specs.Imports.{ReadsFrom, with_more};
@@ -9,10 +8,12 @@ ghost use Rattle.mtn_model.specs.Table.{Contents};
 ghost use Rattle.mtn_ports.specs.Causes.{Rose};
 ghost use Rattle.mtn_ports.specs.Kept.{Stays, with_all};
 ghost use Rattle.mtn_reading.specs.Heads.{IsWithin, packets_at};
-ghost use Rattle.mtn_reading.specs.Reading.{Comes, IfReadDamage, IsNumbered, IsOne, IsReadyHead, kept_of, undamaged as undamaged_of};
+ghost use Rattle.mtn_reading.specs.Reading.{Comes, IfReadDamage, IsNumbered, IsOne, IsReadyHead, kept_of};
+ghost use Rattle.mtn_reading.specs.Unfit.{SpoilsReading};
 
 use crate::head::Head;
 use crate::one::read_one;
+use crate::unfit::kept_error;
 use crate::{Counts, ReadError};
 use mtn_base::{Refusal, Text};
 use mtn_history::{Draft, HistoryError, StoreError};
@@ -26,17 +27,6 @@ fn numbered(packet: u64, error: HistoryError) -> ReadError
     match error {
         HistoryError::Refused(cause) => ReadError::Refused(Refusal { packet, cause }),
         HistoryError::Store(error) => ReadError::Store(error),
-    }
-}
-
-// An error behind the first packet. A damage is then one of the records together with what the packets before put, which is not known
-// to be one of the keeper's: memory is said to be wanting.
-fn undamaged(error: HistoryError) -> HistoryError
-    ensures { result ≡ undamaged_of error }
-{
-    match error {
-        HistoryError::Store(StoreError::Damaged(_)) => HistoryError::Store(StoreError::NoMemory),
-        other => other,
     }
 }
 
@@ -54,7 +44,8 @@ fn add(counts: &mut Counts, one: Counts)
 }
 
 /// Reads packets into a draft in their order, and counts what was not held before. The first refusal has its packet's number,
-/// from 1. An error leaves what the packets before it kept.
+/// from 1. An error leaves what the packets before it kept. A damage behind the first packet is shown by a record of the store
+/// alone, which has none of what the packets before put: its records stand for no state.
 pub fn read_heads<I: Ident, K: Keeper>(
     alloc: Global,
     ident: &I,
@@ -64,12 +55,13 @@ pub fn read_heads<I: Ident, K: Keeper>(
 ) -> Result<Counts, ReadError>
     requires within { All (IsWithin (length payloads.now)) heads.now }
     requires ready { All (IsReadyHead (I.meaning ident.now) payloads.now) heads.now }
+    requires bare { draft.old.pending.batch ≡ [] }
     ensures same_reference { draft.new.keeper.ghost_name ≡ draft.old.keeper.ghost_name }
     ensures stays { Stays K.contents K.leaves K.faults draft.old.keeper.now draft.new.keeper.now }
     ensures reads { (c : Contents) (s : State) → K.contents draft.new.keeper.now ≡ Some c → IsDraft (I.meaning ident.now) c draft.old.pending s
         → Comes (ReadsFrom (I.meaning ident.now) 1 s (packets_at payloads.now heads.now)) (I.meaning ident.now) c result draft.new.pending }
     ensures damaged { IfSome (K.contents draft.new.keeper.now) (λ c. IsMetaOf (with_all c draft.old.pending.batch) (record { count = draft.old.pending.count; is_new = draft.old.pending.is_new }) →
-        IfErr result (λ e. IfReadDamage e (IsDamage (with_all c draft.old.pending.batch)))) }
+        IfErr result (λ e. IfReadDamage e (SpoilsReading (I.meaning ident.now) (with_all c draft.old.pending.batch)))) }
     ensures failed { result ≡ Err (ReadError.Store StoreError.Failed) → Rose (K.faults draft.old.keeper.now) (K.faults draft.new.keeper.now) }
 {
     let mut counts = Counts::NONE;
@@ -82,7 +74,7 @@ pub fn read_heads<I: Ident, K: Keeper>(
                 if number == 1 {
                     return Err(numbered(number, error));
                 }
-                return Err(numbered(number, undamaged(error)));
+                return Err(numbered(number, kept_error(draft, error)));
             }
         }
     }

@@ -1,6 +1,5 @@
 // The call `read`.
-ghost use Rattle.std.specs.Prelude.{◌≡◌, ℕ, List as Seq, Some, Err, IfErr, IfOk, IfSome, MatchOption, None, All, length};
-ghost use Rattle.mtn_history.specs.Damage.{IsDamage};
+ghost use Rattle.std.specs.Prelude.{◌≡◌, ℕ, List as Seq, [], Some, Err, IfErr, IfOk, IfSome, MatchOption, None, All, length};
 ghost use Rattle.mtn_history.specs.Meta.{IsMetaOf};
 ghost use Rattle.mtn_history.specs.Stands.{IsDraft};
 ghost use Rattle.mtn_imports.specs.Imports.{ReadsInput, first_mismatch};
@@ -11,6 +10,7 @@ ghost use Rattle.mtn_ports.specs.Causes.{Rose};
 ghost use Rattle.mtn_ports.specs.Kept.{Stays, with_all};
 ghost use Rattle.mtn_reading.specs.Heads.{IsWithin, packets_at};
 ghost use Rattle.mtn_reading.specs.Reading.{Comes, IfReadDamage, IsFault};
+ghost use Rattle.mtn_reading.specs.Unfit.{SpoilsReading};
 
 use crate::all::read_heads;
 use crate::head::{Head, split};
@@ -65,7 +65,7 @@ fn mismatch<R: Threads + Sync, I: Ident>(
 /// and then that of the first packet whose command is refused. Only this last one has its packet's number, from 1, and the others
 /// have 0. The input is read in four pieces, and all payloads are hashed by one call, each once; `rt` goes to both. The keeper is
 /// only asked. After an error what is pending may have what the packets before it kept: give the draft up. It takes memory for the
-/// payloads and for the ids.
+/// payloads and for the ids. The draft is one that has nothing pending.
 pub fn read<R: Threads + Sync, I: Ident, K: Keeper>(
     rt: &R,
     alloc: Global,
@@ -73,12 +73,13 @@ pub fn read<R: Threads + Sync, I: Ident, K: Keeper>(
     draft: &mut Draft<'_, K>,
     text: &[u8],
 ) -> Result<Counts, ReadError>
+    requires bare { draft.old.pending.batch ≡ [] }
     ensures same_reference { draft.new.keeper.ghost_name ≡ draft.old.keeper.ghost_name }
     ensures stays { Stays K.contents K.leaves K.faults draft.old.keeper.now draft.new.keeper.now }
     ensures reads { (c : Contents) (s : State) → K.contents draft.new.keeper.now ≡ Some c → IsDraft (I.meaning ident.now) c draft.old.pending s
         → Comes (ReadsInput (I.meaning ident.now) s text.now) (I.meaning ident.now) c result draft.new.pending }
     ensures damaged { IfSome (K.contents draft.new.keeper.now) (λ c. IsMetaOf (with_all c draft.old.pending.batch) (record { count = draft.old.pending.count; is_new = draft.old.pending.is_new }) →
-        IfErr result (λ e. IfReadDamage e (IsDamage (with_all c draft.old.pending.batch)))) }
+        IfErr result (λ e. IfReadDamage e (SpoilsReading (I.meaning ident.now) (with_all c draft.old.pending.batch)))) }
     ensures failed { result ≡ Err (ReadError.Store StoreError.Failed) → Rose (K.faults draft.old.keeper.now) (K.faults draft.new.keeper.now) }
 {
     let packets = match read_in_pieces(rt, alloc, PIECES, text) {

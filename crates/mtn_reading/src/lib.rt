@@ -26,6 +26,7 @@ mod input;
 mod kept;
 mod matched;
 mod one;
+mod unfit;
 
 pub use counts::Counts;
 pub use error::ReadError;
