@@ -1,5 +1,6 @@
 // One job, and the jobs of a session one after the other.
-ghost use Rattle.std.specs.Prelude.{IfSome};
+ghost use Rattle.std.specs.Prelude.{◌≡◌, true, IfSome};
+ghost use Rattle.std.specs.List.{list_any};
 ghost use Rattle.mtn_cli.specs.Step.{Step};
 ghost use Rattle.mtn_cli.specs.Store.{IsLine, ShowsDamage, is_merging, is_spelled, job_reading, script_reading, unbounded};
 ghost use Rattle.mtn_frame.specs.One.{One};

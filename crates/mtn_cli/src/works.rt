@@ -1,5 +1,5 @@
 // A command over a draft of the keeper.
-ghost use Rattle.std.specs.Prelude.{IfSome, Some, true};
+ghost use Rattle.std.specs.Prelude.{◌≡◌, IfSome, Some, true};
 ghost use Rattle.mtn_cli.specs.Step.{Step};
 ghost use Rattle.mtn_cli.specs.Store.{IsLine, ShowsDamage, is_merging, is_reading, is_spelled, job_reading, unbounded};
 ghost use Rattle.mtn_commands.specs.Drafts.{may_conflict, reads_packets};
