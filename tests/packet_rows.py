@@ -755,7 +755,7 @@ TOYS = [lone_sent, lone_read, lone_cut, child_alone, collisions]
 
 # How many calls of the keeper `read` makes that keeps a file, a root with it and a certificate of that, each new to an empty store;
 # and `packets` of this root.
-READ_CALLS, SENT_CALLS = 7, 8
+READ_CALLS, SENT_CALLS = 7, 7
 
 
 class Lines:
@@ -852,7 +852,7 @@ def damaged():
           (['read'], 0, counts(1, 0, 1).encode(), fdata(b'a') + rcert(sha(ROOT), b'branch', KEY, b'main')))
     lines.ends()
     lines.remark('A damage that a packet behind the first meets is shown as well, the record or the key that is missing; the records stay.')
-    child, another = fdata(b'a') + rdata(CHILD), fdata(b'b') + rdata(revision({'': None, 'f': H}, ('', [add_dir(''), add_file('f', sha(b'b'))])))
+    child, another = fdata(b'a') + rdata(CHILD), fdata(b'b') + rdata(revision({'': None, 'f': sha(b'b')}, ('', [add_dir(''), add_file('f', sha(b'b'))])))
     after(record(4, at, b'abc'), (['read'], 8, shows(4, at, b'abc'), child), (['get_file', HA], 1, b'refused UnknownFile %s\n' % HA.encode()))
     after(record(5, at, b'abc'), (['read'], 8, shows(5, at, b'abc'), child), (['get_file', HA], 1, b'refused UnknownFile %s\n' % HA.encode()))
     after(record(1, b'count', b'\0' * 7 + b'\2'), (['read'], 8, b'missing 4 0000000000000001\n', another))
