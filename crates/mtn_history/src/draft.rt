@@ -1,9 +1,9 @@
 // A keeper with pending records.
-ghost use Rattle.std.specs.Prelude.{◌≡◌, ◌<◌, ◌≤◌, ◌+◌, ◌^◌, ◌++◌, true, false, length, Err, Some, IfOk, IfErr, IfSome, IsSome, IsTrue, OnOk, OnErr, option_map};
+ghost use Rattle.std.specs.Prelude.{◌≡◌, ◌<◌, ◌≤◌, ◌+◌, ◌^◌, ◌++◌, true, false, length, take, Ok, Err, Some, None, IfOk, IfErr, IfSome, IsSome, IsTrue, OnOk, OnErr, option_map};
 ghost use Rattle.mtn_model.specs.Table.{Contents, body_at};
 ghost use Rattle.mtn_ports.specs.Causes.{Rose};
-ghost use Rattle.mtn_ports.specs.Kept.{AreKeyed, Gets, IsBody, IsBodyIf, IsNext, StaysAbove, Steps, TellsBody, over, with_all};
-ghost use Rattle.mtn_history.specs.Asking.{OnlyAsks, first_key};
+ghost use Rattle.mtn_ports.specs.Kept.{AreKeyed, Gets, IsAbove, IsBody, IsBodyIf, IsNext, StaysAbove, Steps, TellsBody, over, with_all};
+ghost use Rattle.mtn_history.specs.Asking.{HasTwenty, IsJustBelow, OnlyAsks, first_key};
 ghost use Rattle.mtn_history.specs.Errors.{IfDamage};
 ghost use Rattle.mtn_history.specs.Marked.{IsCounted};
 ghost use Rattle.mtn_history.specs.Memory.{Knows};
@@ -153,13 +153,16 @@ impl<'a, K: Keeper> Draft<'a, K> {
         ensures asks { OnlyAsks K.contents K.leaves K.faults K.reads 1 self.old self.new }
 
         ensures found { IfSome (K.contents self.new.keeper.now) (λ c. IfOk result (λ found. IsTrue found → IsSome (body_at c table key.now))) }
+        ensures missed { IfSome (K.contents self.new.keeper.now) (λ c. HasTwenty c table → result ≡ Ok false → body_at c table key.now ≡ None) }
         ensures failed { result ≡ Err StoreError.Failed → Rose (K.faults self.old.keeper.now) (K.faults self.new.keeper.now) }
         ensures damaged { IfErr result (λ e. IfDamage e (λ _. ⊥)) }
     {
         let (below, len) = just_below(key);
         let mut next = Vec::new(self.alloc());
-        let found = self.keeper.next(table, &below[..len], &mut next)?;
-        Ok(found && next.as_slice() == key.as_slice())
+        if !self.keeper.next(table, &below[..len], &mut next)? {
+            return Ok(false);
+        }
+        Ok(next.as_slice() == key.as_slice())
     }
 
     /// Replaces `key` by the least key of a table above `after`, of the pending records and the keeper's, and `body` by the body
@@ -294,7 +297,9 @@ fn take_body(body: &mut Vec<u8>, pending: Option<&[u8]>) -> Result<(), NoMemory>
 
 // What stands just below a key of twenty bytes among keys of twenty, and how many of these bytes it has.
 fn just_below(key: &[u8; 20]) -> ([u8; 20], usize)
-    ensures { result.1 ≤ 20 }
+    ensures short { result.1 ≤ 20 }
+    ensures above { IsAbove (take result.1 result.0) key.now }
+    ensures next { IsJustBelow (take result.1 result.0) key.now }
 {
     let mut below = *key;
     if below[19] == 0 {

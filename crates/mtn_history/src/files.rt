@@ -1,13 +1,13 @@
 // Files, kept and found.
-ghost use Rattle.std.specs.Prelude.{◌≡◌, ◌≤◌, ◌+◌, List, ℕ, Some, Err, IfOk, IfErr, IfSome, OnErr};
+ghost use Rattle.std.specs.Prelude.{◌≡◌, ◌≤◌, ◌+◌, List, ℕ, Some, Err, IfOk, IfErr, IfSome, IsTrue, OnErr};
 ghost use Rattle.mtn_model.specs.Table.{Contents};
 ghost use Rattle.mtn_model.specs.State.{State};
 ghost use Rattle.mtn_ports.specs.Causes.{Rose};
 ghost use Rattle.mtn_ports.specs.Kept.{Stays, with_all};
 ghost use Rattle.mtn_history.specs.Asking.{OnlyAsks};
 ghost use Rattle.mtn_history.specs.Errors.{IfDamage, IfStoreDamage};
-ghost use Rattle.mtn_history.specs.Files.{AcceptsFile, FindsFile, IsFileHeld, KeepsFile};
-ghost use Rattle.mtn_history.specs.Stands.{IsDraft};
+ghost use Rattle.mtn_history.specs.Files.{AcceptsFile, FindsFile, IsFileHeld, KeepsFile, MakesIds};
+ghost use Rattle.mtn_history.specs.Stands.{IsDraft, IsFounded};
 
 use crate::{Draft, FILES, HistoryError, StoreError};
 use mtn_base::{Cause, Id, MAX_TEXT};
@@ -66,11 +66,14 @@ impl<'a, K: Keeper> Draft<'a, K> {
         Ok(())
     }
 
-    /// Whether a file is held under an id. Its bytes are not read: where it is held it asks for one record, and else for two.
+    /// Whether a file is held under an id. Its bytes are not read: where it is held it asks for one record, and else for
+    /// two, over records that stand for a state.
     pub fn has_file(&mut self, id: Id) -> Result<bool, StoreError>
         ensures asks { OnlyAsks K.contents K.leaves K.faults K.reads 2 self.old self.new }
 
         ensures found { IfSome (K.contents self.new.keeper.now) (λ c. IfOk result (IsFileHeld (with_all c self.old.pending.batch) id)) }
+        ensures few { (f : List ℕ → List ℕ) (s : State) → IsFounded f (K.contents self.new.keeper.now) self.old.pending s → MakesIds f
+            → IfOk result (λ held. IsTrue held → K.reads self.new.keeper.now ≤ K.reads self.old.keeper.now + 1) }
         ensures failed { result ≡ Err StoreError.Failed → Rose (K.faults self.old.keeper.now) (K.faults self.new.keeper.now) }
         ensures sound { IfErr result (λ e. IfDamage e (λ _. ⊥)) }
     {

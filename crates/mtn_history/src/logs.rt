@@ -1,5 +1,6 @@
 // The log, and the graph that it tells.
 ghost use Rattle.std.specs.Prelude.{◌≡◌, ◌<◌, ◌≤◌, ◌+◌, List, ℕ, Err, IfOk, IfErr, IfSome};
+ghost use Rattle.mtn_history_laws.specs.History.{IsPlaceOf};
 ghost use Rattle.mtn_replay.specs.Graphs.{Tells};
 ghost use Rattle.mtn_model.specs.State.{State};
 ghost use Rattle.mtn_ports.specs.Causes.{Rose};
@@ -13,6 +14,7 @@ ghost use Rattle.mtn_history.specs.Stands.{IsFounded};
 use crate::damaged::{bad, missing};
 use crate::{Draft, LOG, StoreError};
 use mtn_ancestry::{Graph, Pos};
+use mtn_base::Id;
 use mtn_ports::Keeper;
 use mtn_records::{LogRecord, read_log};
 
@@ -67,6 +69,18 @@ impl<'a, K: Keeper> Draft<'a, K> {
         match self.recall_log(at) {
             Some(log) => Ok(log),
             None => self.read_log_at(at),
+        }
+    }
+
+    /// The id of the revision at a position, if the log's record there is remembered: it is where a walk of this draft asked for it
+    /// and there was memory. It asks for no record.
+    pub fn recall_id(&self, at: Pos) -> Option<Id>
+        ensures found { (f : List ℕ → List ℕ) (s : State) (d : IsFounded f (K.contents self.now.keeper.now) self.now.pending s) → at < self.now.pending.count
+            → IfSome result (λ id. IsPlaceOf d.stands.history id at) }
+    {
+        match self.recall_log(at) {
+            Some(log) => Some(log.id),
+            None => None,
         }
     }
 
