@@ -17,6 +17,7 @@
 #![tactic(auto)]
 
 mod job;
+pub mod laws;
 mod pieces;
 mod reading;
 mod same_marks;
