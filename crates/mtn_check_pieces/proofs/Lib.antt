@@ -1,0 +1,4 @@
+pub mod Listing
+pub mod ByNode
+pub mod Answering
+pub mod Marked
