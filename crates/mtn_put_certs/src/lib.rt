@@ -28,3 +28,4 @@ pub use logged::graph_and_certs;
 pub use named::key_named;
 pub use names::{key_name, names_of, put_key};
 pub use put::{hold_cert, put_cert};
+pub use read::read_cert;

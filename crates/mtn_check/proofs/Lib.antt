@@ -1,0 +1,9 @@
+pub mod Told
+pub mod Order
+pub mod Scanning
+pub mod Emptying
+pub mod Numbers
+pub mod Early
+pub mod Placing
+pub mod Late
+pub mod Whole

@@ -1,0 +1,59 @@
+-- The records of one table, by key, and the first that breaks a rule.
+use Rattle.std.specs.Prelude.{◌≡◌, ◌<◌, ◌≤◌, ℕ, List, Option, Some, None}
+use Rattle.mtn_model.specs.Table.{Contents, body_at}
+use Rattle.mtn_ports.specs.Kept.{IsAbove}
+use Rattle.mtn_history.specs.declared.errors.Damage.{Damage}
+use Rattle.mtn_history.specs.declared.errors.Damage.TheVariants.{Bad}
+
+-- what is asked of a key and its body
+abbrev pub KeyRule : Type 1
+KeyRule = List ℕ → List ℕ → Type 0
+
+-- every record of a table keeps the rule
+abbrev pub AllIn : ℕ → KeyRule → Contents → Type 0
+AllIn table rule c = (key body : List ℕ) → body_at c table key ≡ Some body → rule key body
+
+-- the first record of a table that breaks the rule
+pub record IsBreakIn (table : ℕ) (rule : KeyRule) (c : Contents) (d : Damage) : Type 0 where
+  pub key : List ℕ
+  pub body : List ℕ
+  pub shown : d ≡ Bad table key body
+  pub held : body_at c table key ≡ Some body
+  pub broken : rule key body → ⊥
+  pub earlier : (k b : List ℕ) → IsAbove k key → body_at c table k ≡ Some b → rule k b
+
+-- no record stands above a key and below another
+abbrev pub IsNoneBetween : ℕ → Contents → List ℕ → List ℕ → Type 0
+IsNoneBetween table c last key = (other : List ℕ) → IsAbove last other → IsAbove other key → body_at c table other ≡ None
+
+-- the key of the next record above another, which keeps the rule; or none is above
+abbrev pub IsNextKept : ℕ → KeyRule → Contents → List ℕ → Option (List ℕ) → Type 0
+IsNextKept table rule c last None = (other : List ℕ) → IsAbove last other → body_at c table other ≡ None
+IsNextKept table rule c last (Some key) =
+    IsAbove last key × ((body : List ℕ) → body_at c table key ≡ Some body → rule key body) × IsNoneBetween table c last key
+
+-- the next record above a key breaks the rule
+pub record IsNextBroken (table : ℕ) (rule : KeyRule) (c : Contents) (last : List ℕ) (d : Damage) : Type 0 where
+  pub key : List ℕ
+  pub body : List ℕ
+  pub shown : d ≡ Bad table key body
+  pub held : body_at c table key ≡ Some body
+  pub broken : rule key body → ⊥
+  pub above : IsAbove last key
+  pub between : IsNoneBetween table c last key
+
+-- the tables from one up to another, which is not one of them, have no record
+abbrev pub AreEmpty : ℕ → ℕ → Contents → Type 0
+AreEmpty from to c = (table : ℕ) (key : List ℕ) → from ≤ table → table < to → body_at c table key ≡ None
+
+-- the first record of these tables
+pub record IsFirstOf (from to : ℕ) (c : Contents) (d : Damage) : Type 0 where
+  pub table : ℕ
+  pub key : List ℕ
+  pub body : List ℕ
+  pub shown : d ≡ Bad table key body
+  pub after : from ≤ table
+  pub before : table < to
+  pub held : body_at c table key ≡ Some body
+  pub tables : AreEmpty from table c
+  pub keys : (k : List ℕ) → IsAbove k key → body_at c table k ≡ None

@@ -1,0 +1,26 @@
+//! The check of a store: all of its records, in a fixed order, up to the first damage.
+//!
+//! What a check looks at, and the order, stand in `mtn_check_laws`: table 1, the tables without a use, the files, the log position
+//! by position (`mtn_check_log`), then what is beside it: records of positions that the log does not have, key names, certificates.
+//!
+//! The crates above rely on this: [`check_store`] answers a number only where the records stand for a state, and it is that of the
+//! state's revisions; a damage is *the* first one, and shows a record that is there or a key under which nothing is. Nothing is
+//! written.
+//!
+//! A *test* says of a record of one table whether it keeps a rule; the walk of a table by `next_record` answers the first record that
+//! does not (`specs/Tables.antt`). What each step asks and finds stands in `specs/Steps.antt`.
+//!
+//! Cost: each record is asked for once, by the walk of its table; a text asks for the log's record at its position, a certificate
+//! for its revision's text. Each file is hashed once.
+#![tactic(auto)]
+
+mod begun;
+mod beside;
+mod check;
+mod empty;
+mod meta;
+mod number;
+mod places;
+mod scan;
+
+pub use check::check_store;

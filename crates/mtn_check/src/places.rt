@@ -1,0 +1,100 @@
+// The records of the log's positions, and that there are no others in their tables.
+ghost use Rattle.std.specs.Prelude.{◌≡◌, ◌↔◌, Err, IfErr, IfOk, IfSome, IsTrue, OnOk};
+ghost use Rattle.mtn_history.specs.Errors.{IfDamage};
+ghost use Rattle.mtn_history.specs.Logs.{IsLogged};
+ghost use Rattle.mtn_records.specs.declared.record.LogRecord.{LogRecord as Log};
+ghost use Rattle.mtn_ports.specs.Causes.{Rose};
+ghost use Rattle.mtn_ports.specs.Kept.{Stays};
+ghost use Rattle.mtn_check.specs.Steps.{ArePlaced, IsUnplaced};
+
+use crate::number::{number_before, number_in};
+use crate::scan::{Test, check_table};
+use mtn_ancestry::Pos;
+use mtn_check_laws::walk_stands;
+use mtn_history::{LOG, ROSTERS, StoreError, TEXTS};
+use mtn_ports::Keeper;
+use mtn_records::read_log;
+use std::alloc::Global;
+
+// Whether the log has an id at a position.
+fn is_logged<K: Keeper>(
+    alloc: Global,
+    keeper: &mut K,
+    at: u64,
+    id: &[u8],
+) -> Result<bool, StoreError>
+    ensures stays { Stays K.contents K.leaves K.faults keeper.old keeper.new }
+    ensures logged { IfSome (K.contents keeper.new) (λ c. IfOk result (λ is. IsTrue is ↔ ((entry : Log) × IsLogged c at entry × (entry.id.0 ≡ id.now)))) }
+    ensures sound { IfErr result (λ e. IfDamage e (λ _. ⊥)) }
+    ensures failed { result ≡ Err StoreError.Failed → Rose (K.faults keeper.old) (K.faults keeper.new) }
+{
+    let mut body = Vec::new(alloc);
+    if !keeper.get(LOG, &at.to_be_bytes(), &mut body)? {
+        return Ok(false);
+    }
+    match read_log(Pos(at), &body) {
+        Ok(entry) => Ok(entry.id.as_slice() == id),
+        Err(_) => Ok(false),
+    }
+}
+
+// That a text is that of a revision of the log.
+struct Texts {
+    count: u64,
+}
+
+impl Test for Texts {
+    ghost use Rattle.mtn_check.specs.Steps.{IsTextOf};
+
+    ghost rule = { λ texts c key body. IsTextOf c texts.count key body };
+
+    fn keeps<K: Keeper>(
+        &self,
+        alloc: Global,
+        keeper: &mut K,
+        key: &[u8],
+        body: &[u8],
+    ) -> Result<bool, StoreError> {
+        match number_before(alloc, body)? {
+            Some(at) if at < self.count => is_logged(alloc, keeper, at, key),
+            _ => Ok(false),
+        }
+    }
+}
+
+// That a key is a position of the log.
+struct Places {
+    count: u64,
+}
+
+impl Test for Places {
+    ghost use Rattle.mtn_check.specs.Steps.{PlaceRule};
+
+    ghost rule = { λ places _ key body. PlaceRule places.count key body };
+
+    fn keeps<K: Keeper>(
+        &self,
+        alloc: Global,
+        _keeper: &mut K,
+        key: &[u8],
+        _body: &[u8],
+    ) -> Result<bool, StoreError> {
+        match number_in(alloc, key)? {
+            Some(at) => Ok(at < self.count),
+            None => Ok(false),
+        }
+    }
+}
+
+/// Whether each text, each record of the log and each roster is that of a position below the count.
+pub fn check_places<K: Keeper>(alloc: Global, count: u64, keeper: &mut K) -> Result<(), StoreError>
+    ensures stays { Stays K.contents K.leaves K.faults keeper.old keeper.new }
+    ensures placed { IfSome (K.contents keeper.new) (λ c. OnOk result (ArePlaced count c)) }
+    ensures damaged { IfSome (K.contents keeper.new) (λ c. IfErr result (λ e. IfDamage e (IsUnplaced count c))) }
+    ensures failed { result ≡ Err StoreError.Failed → Rose (K.faults keeper.old) (K.faults keeper.new) }
+{
+    walk_stands();
+    check_table(alloc, &Texts { count }, TEXTS, keeper)?;
+    check_table(alloc, &Places { count }, LOG, keeper)?;
+    check_table(alloc, &Places { count }, ROSTERS, keeper)
+}
