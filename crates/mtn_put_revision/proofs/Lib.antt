@@ -8,3 +8,4 @@ pub mod Deciding
 pub mod Planning
 pub mod Writable
 pub mod NextTrees
+pub mod Counting

@@ -68,7 +68,7 @@ module _ {X : Type 0} where
   take_suc : (i : ℕ) (xs : List X) → take (suc i + 1) xs ≡ take (suc (i + 1)) xs
   take_suc i xs = let e : suc i + 1 ≡ suc (i + 1) = omega arith in ap (λ n. take n xs) e
 
-  split_at : (xs : List X) (i : ℕ) (x : X) → slice_get xs i ≡ Some x → (rest : List X) × (xs ≡ take i xs ++ x ∷ rest) × (take (i + 1) xs ≡ take i xs ++ x ∷ [])
+  pub split_at : (xs : List X) (i : ℕ) (x : X) → slice_get xs i ≡ Some x → (rest : List X) × (xs ≡ take i xs ++ x ∷ rest) × (take (i + 1) xs ≡ take i xs ++ x ∷ [])
   split_at [] i x at = absurd cc
   split_at (y ∷ ys) zero x at = let same : y ≡ x = cc in (ys, ap (λ z. z ∷ ys) same, ap (λ z. z ∷ []) same)
   split_at (y ∷ ys) (suc i) x at = let r = split_at ys i x at in (r.0, ap (λ zs. y ∷ zs) r.1, (take_suc i (y ∷ ys) ∙ ap (λ zs. y ∷ zs) r.2))
@@ -135,7 +135,7 @@ edges_found files es o e = e
 parent_place : List Revision → Edge → Option ℕ
 parent_place h e = option_and_then (place_of h) e.parent
 
-map_append : {X Y : Type 0} (g : X → Option Y) (xs ys : List X) → filter_map g (xs ++ ys) ≡ filter_map g xs ++ filter_map g ys
+pub map_append : {X Y : Type 0} (g : X → Option Y) (xs ys : List X) → filter_map g (xs ++ ys) ≡ filter_map g xs ++ filter_map g ys
 map_append g [] ys = refl
 map_append g (x ∷ xs) ys = by (g x) (map_append g xs ys)
   where

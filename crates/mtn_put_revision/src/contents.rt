@@ -1,5 +1,5 @@
 // The contents that a revision brings.
-ghost use Rattle.std.specs.Prelude.{◌≡◌, List, ℕ, Err, find, is_none, IfOk, IfErr};
+ghost use Rattle.std.specs.Prelude.{◌≡◌, List, ℕ, Err, find, is_none, IfOk, IfErr, ◌∷◌, [], length};
 ghost use Rattle.std.specs.FinMap.{get};
 ghost use Rattle.mtn_base.specs.declared.id.Id.{Id as Named};
 ghost use Rattle.mtn_replay.specs.Making.{new_contents};
@@ -9,6 +9,8 @@ ghost use Rattle.mtn_ports.specs.Kept.{Stays};
 ghost use Rattle.mtn_history.specs.Errors.{IfDamage};
 ghost use Rattle.mtn_history.specs.Stands.{IsFounded};
 ghost use Rattle.mtn_put_revision.specs.Finding.{unknown_in, first_unknown};
+ghost use Rattle.mtn_history.specs.Files.{MakesIds};
+ghost use Rattle.mtn_put_revision.specs.Reads.{LooksFew, brought};
 
 use mtn_base::Id;
 use mtn_changes::{Change, Edge};
@@ -26,6 +28,8 @@ fn unknown_of<K: Keeper>(
     ensures pending { draft.new.pending ≡ draft.old.pending }
     ensures found { (f : List ℕ → List ℕ) (s : State) → IsFounded f (K.contents draft.new.keeper.now) draft.old.pending s →
         IfOk result (λ id. id ≡ unknown_in s.files change.now) }
+    ensures reads { (f : List ℕ → List ℕ) (s : State) → IsFounded f (K.contents draft.new.keeper.now) draft.old.pending s → MakesIds f →
+        LooksFew (K.reads draft.old.keeper.now) (K.reads draft.new.keeper.now) (length (brought (change.now ∷ []))) result }
     ensures sound { IfErr result (λ e. IfDamage e (λ _. ⊥)) }
     ensures failed { result ≡ Err StoreError.Failed → Rose (K.faults draft.old.keeper.now) (K.faults draft.new.keeper.now) }
 {
@@ -51,6 +55,8 @@ fn unknown_among<K: Keeper>(
     ensures pending { draft.new.pending ≡ draft.old.pending }
     ensures found { (f : List ℕ → List ℕ) (s : State) → IsFounded f (K.contents draft.new.keeper.now) draft.old.pending s →
         IfOk result (λ id. id ≡ first_unknown s.files changes.now) }
+    ensures reads { (f : List ℕ → List ℕ) (s : State) → IsFounded f (K.contents draft.new.keeper.now) draft.old.pending s → MakesIds f →
+        LooksFew (K.reads draft.old.keeper.now) (K.reads draft.new.keeper.now) (length (brought changes.now)) result }
     ensures sound { IfErr result (λ e. IfDamage e (λ _. ⊥)) }
     ensures failed { result ≡ Err StoreError.Failed → Rose (K.faults draft.old.keeper.now) (K.faults draft.new.keeper.now) }
 {
@@ -72,6 +78,8 @@ pub fn unknown_content<K: Keeper>(
     ensures pending { draft.new.pending ≡ draft.old.pending }
     ensures found { (f : List ℕ → List ℕ) (s : State) → IsFounded f (K.contents draft.new.keeper.now) draft.old.pending s →
         IfOk result (λ id. id ≡ find (λ (i : Named). is_none (get s.files i.0)) (new_contents edges.now)) }
+    ensures reads { (f : List ℕ → List ℕ) (s : State) → IsFounded f (K.contents draft.new.keeper.now) draft.old.pending s → MakesIds f →
+        LooksFew (K.reads draft.old.keeper.now) (K.reads draft.new.keeper.now) (length (new_contents edges.now)) result }
     ensures sound { IfErr result (λ e. IfDamage e (λ _. ⊥)) }
     ensures failed { result ≡ Err StoreError.Failed → Rose (K.faults draft.old.keeper.now) (K.faults draft.new.keeper.now) }
 {

@@ -1,5 +1,5 @@
 // The records of a new revision, put behind the others.
-ghost use Rattle.std.specs.Prelude.{◌≡◌, ◌<◌, ◌≤◌, [], All, List, ℕ, length, Ok, Err, false, IfOk, IfErr, IfSome, IsTrue, OnErr};
+ghost use Rattle.std.specs.Prelude.{◌≡◌, ◌<◌, ◌≤◌, [], All, List, ℕ, length, Ok, Err, false, IfOk, IfErr, IfSome, IsTrue, OnErr, ◌+◌};
 ghost use Rattle.mtn_roster_deltas.specs.Numbering.{shown};
 ghost use Rattle.mtn_changes.specs.declared.change.Edge.{Edge};
 ghost use Rattle.mtn_history_laws.specs.History.{Revision};
@@ -50,6 +50,7 @@ pub fn keep<K: Keeper>(
         IfOk result (λ kept. IsTrue kept → IsDraft f d.records draft.new.pending (with_text s (record { id = id.0; text = text.now }))) }
     ensures unkept { result ≡ Ok false → draft.new.pending ≡ draft.old.pending }
     ensures none { result ≡ Ok false → AllAscend (shown known.now.entries.now) → (h : List Revision) (v : Revision) → IsNextTree h v roster → length h ≡ draft.old.pending.count → ⊥ }
+    ensures reads { (f : List ℕ → List ℕ) (s : State) → IsFounded f (K.contents draft.new.keeper.now) draft.old.pending s → K.reads draft.new.keeper.now ≤ K.reads draft.old.keeper.now + 1 }
     ensures err { OnErr result (draft.new.pending ≡ draft.old.pending) }
     ensures damaged { IfSome (K.contents draft.new.keeper.now) (λ c. IfErr result (λ e. IfDamage e
         (IsFound (K.contents draft.new.keeper.now) draft.old.pending (with_all c draft.old.pending.batch)))) }

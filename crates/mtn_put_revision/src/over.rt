@@ -1,9 +1,9 @@
 // A revision accepted over its parents, by how many there are.
-ghost use Rattle.std.specs.Prelude.{◌≡◌, ◌<◌, ◌≤◌, All, List, ℕ, [], ◌∷◌, length, None, Ok, Err, false, IfOk, IfErr, IfSome, IsTrue, OnOk, OnErr};
+ghost use Rattle.std.specs.Prelude.{◌≡◌, ◌<◌, ◌≤◌, All, List, ℕ, [], ◌∷◌, length, None, Ok, Err, false, IfOk, IfErr, IfSome, IsTrue, OnOk, OnErr, ◌+◌};
 ghost use Rattle.mtn_roster_deltas.specs.Numbering.{shown};
 ghost use Rattle.mtn_changes.specs.RevisionText.{AreEdges};
 ghost use Rattle.mtn_entry_laws.specs.Entries.{AreBounded};
-ghost use Rattle.mtn_replay.specs.Making.{made_tree};
+ghost use Rattle.mtn_replay.specs.Making.{made_tree, new_contents};
 ghost use Rattle.mtn_make_roster.specs.Basis.{Underlies};
 ghost use Rattle.mtn_model.specs.State.{State};
 ghost use Rattle.mtn_ports.specs.Causes.{Rose};
@@ -13,6 +13,9 @@ ghost use Rattle.mtn_history.specs.Stands.{IsFounded};
 ghost use Rattle.mtn_put_revision.specs.Finding.{IsFound, IsRefusal, made_refusal_of};
 ghost use Rattle.mtn_put_revision.specs.Keeping.{Accepts, AreParents, IsFirstRebuilt, IsNew, IsPlanned, AreOn};
 ghost use Rattle.mtn_put_revision.specs.Writing.{AllAscend, NoneMakes};
+ghost use Rattle.mtn_history.specs.Files.{MakesIds};
+ghost use Rattle.mtn_history_laws.specs.History.{parents_at};
+ghost use Rattle.mtn_put_revision.specs.Reads.{IsWindow};
 
 use crate::keep::keep;
 use crate::records::KeptParents;
@@ -61,6 +64,7 @@ fn over_tree<K: Keeper>(
         IfOk result (λ kept. IsTrue kept → Accepts f d.records s d.stands.history fresh.now draft.new.pending) }
     ensures unkept { result ≡ Ok false → draft.new.pending ≡ draft.old.pending }
     ensures none { result ≡ Ok false → AllAscend (shown known.now.entries.now) → NoneMakes draft.old.pending.count fresh.now.id fresh.now.read.now.edges basis.now tree }
+    ensures reads { (f : List ℕ → List ℕ) (s : State) → IsFounded f (K.contents draft.new.keeper.now) draft.old.pending s → K.reads draft.new.keeper.now ≤ K.reads draft.old.keeper.now + 1 }
     ensures err { OnErr result (draft.new.pending ≡ draft.old.pending) }
     ensures damaged { IfSome (K.contents draft.new.keeper.now) (λ c. IfErr result (λ e. IfDamage e
         (IsFound (K.contents draft.new.keeper.now) draft.old.pending (with_all c draft.old.pending.batch)))) }
@@ -98,6 +102,7 @@ fn over_plan<K: Keeper>(
         IfSome planned (λ t. IsPlanned f s.files d.stands.history fresh.now.text.now t) → IsNew f d.stands.history fresh.now →
         IfOk result (λ kept. IsTrue kept → Accepts f d.records s d.stands.history fresh.now draft.new.pending) }
     ensures unkept { result ≡ Ok false → draft.new.pending ≡ draft.old.pending }
+    ensures reads { (f : List ℕ → List ℕ) (s : State) → IsFounded f (K.contents draft.new.keeper.now) draft.old.pending s → K.reads draft.new.keeper.now ≤ K.reads draft.old.keeper.now + 1 }
     ensures err { OnErr result (draft.new.pending ≡ draft.old.pending) }
     ensures damaged { IfSome (K.contents draft.new.keeper.now) (λ c. IfErr result (λ e. IfDamage e
         (IsFound (K.contents draft.new.keeper.now) draft.old.pending (with_all c draft.old.pending.batch)))) }
@@ -134,6 +139,8 @@ fn over_edges<I: Ident, K: Keeper>(
         IsNew (I.meaning ident.now) d.stands.history fresh.now → OnOk result (Accepts (I.meaning ident.now) d.records s d.stands.history fresh.now draft.new.pending) }
     ensures refused { (s : State) → (d : IsFounded (I.meaning ident.now) (K.contents draft.new.keeper.now) draft.old.pending s) →
         IfErr result (IsRefusal (made_refusal_of (I.meaning ident.now) s.files d.stands.history fresh.now.id fresh.now.read.now)) }
+    ensures reads { (f : List ℕ → List ℕ) (s : State) → IsFounded f (K.contents draft.new.keeper.now) draft.old.pending s → MakesIds f →
+        K.reads draft.new.keeper.now ≤ K.reads draft.old.keeper.now + (length (new_contents fresh.now.read.now.edges) + 1) }
     ensures err { OnErr result (draft.new.pending ≡ draft.old.pending) }
     ensures damaged { IfSome (K.contents draft.new.keeper.now) (λ c. IfErr result (λ e. IfStoreDamage e
         (IsFound (K.contents draft.new.keeper.now) draft.old.pending (with_all c draft.old.pending.batch)))) }
@@ -177,6 +184,8 @@ fn over<I: Ident, K: Keeper>(
         IsNew (I.meaning ident.now) d.stands.history fresh.now → OnOk result (Accepts (I.meaning ident.now) d.records s d.stands.history fresh.now draft.new.pending) }
     ensures refused { (s : State) → (d : IsFounded (I.meaning ident.now) (K.contents draft.new.keeper.now) draft.old.pending s) →
         IfErr result (IsRefusal (made_refusal_of (I.meaning ident.now) s.files d.stands.history fresh.now.id fresh.now.read.now)) }
+    ensures reads { (f : List ℕ → List ℕ) (s : State) → IsFounded f (K.contents draft.new.keeper.now) draft.old.pending s → MakesIds f →
+        K.reads draft.new.keeper.now ≤ K.reads draft.old.keeper.now + (length (new_contents fresh.now.read.now.edges) + 2) }
     ensures err { OnErr result (draft.new.pending ≡ draft.old.pending) }
     ensures damaged { IfSome (K.contents draft.new.keeper.now) (λ c. IfErr result (λ e. IfStoreDamage e
         (IsFound (K.contents draft.new.keeper.now) draft.old.pending (with_all c draft.old.pending.batch)))) }
@@ -214,6 +223,8 @@ fn over_one<I: Ident, K: Keeper>(
         IsNew (I.meaning ident.now) d.stands.history fresh.now → OnOk result (Accepts (I.meaning ident.now) d.records s d.stands.history fresh.now draft.new.pending) }
     ensures refused { (s : State) → (d : IsFounded (I.meaning ident.now) (K.contents draft.new.keeper.now) draft.old.pending s) →
         IfErr result (IsRefusal (made_refusal_of (I.meaning ident.now) s.files d.stands.history fresh.now.id fresh.now.read.now)) }
+    ensures reads { (f : List ℕ → List ℕ) (s : State) → IsFounded f (K.contents draft.new.keeper.now) draft.old.pending s → MakesIds f →
+        K.reads draft.new.keeper.now ≤ K.reads draft.old.keeper.now + (length (new_contents fresh.now.read.now.edges) + 18) }
     ensures err { OnErr result (draft.new.pending ≡ draft.old.pending) }
     ensures damaged { IfSome (K.contents draft.new.keeper.now) (λ c. IfErr result (λ e. IfStoreDamage e
         (IsFound (K.contents draft.new.keeper.now) draft.old.pending (with_all c draft.old.pending.batch)))) }
@@ -264,6 +275,8 @@ fn over_two<I: Ident, K: Keeper>(
         IsNew (I.meaning ident.now) d.stands.history fresh.now → OnOk result (Accepts (I.meaning ident.now) d.records s d.stands.history fresh.now draft.new.pending) }
     ensures refused { (s : State) → (d : IsFounded (I.meaning ident.now) (K.contents draft.new.keeper.now) draft.old.pending s) →
         IfErr result (IsRefusal (made_refusal_of (I.meaning ident.now) s.files d.stands.history fresh.now.id fresh.now.read.now)) }
+    ensures reads { (f : List ℕ → List ℕ) (s : State) → (d : IsFounded f (K.contents draft.new.keeper.now) draft.old.pending s) → MakesIds f → (w : ℕ) → IsWindow (parents_at d.stands.history) places.now w →
+        K.reads draft.new.keeper.now ≤ K.reads draft.old.keeper.now + (34 + length (new_contents fresh.now.read.now.edges) + w) }
     ensures err { OnErr result (draft.new.pending ≡ draft.old.pending) }
     ensures damaged { IfSome (K.contents draft.new.keeper.now) (λ c. IfErr result (λ e. IfStoreDamage e
         (IsFound (K.contents draft.new.keeper.now) draft.old.pending (with_all c draft.old.pending.batch)))) }
@@ -314,6 +327,8 @@ pub fn over_places<I: Ident, K: Keeper>(
         IsNew (I.meaning ident.now) d.stands.history fresh.now → OnOk result (Accepts (I.meaning ident.now) d.records s d.stands.history fresh.now draft.new.pending) }
     ensures refused { (s : State) → (d : IsFounded (I.meaning ident.now) (K.contents draft.new.keeper.now) draft.old.pending s) →
         IfErr result (IsRefusal (made_refusal_of (I.meaning ident.now) s.files d.stands.history fresh.now.id fresh.now.read.now)) }
+    ensures reads { (f : List ℕ → List ℕ) (s : State) → (d : IsFounded f (K.contents draft.new.keeper.now) draft.old.pending s) → MakesIds f → (w : ℕ) → IsWindow (parents_at d.stands.history) places.now w →
+        K.reads draft.new.keeper.now ≤ K.reads draft.old.keeper.now + (34 + length (new_contents fresh.now.read.now.edges) + w) }
     ensures err { OnErr result (draft.new.pending ≡ draft.old.pending) }
     ensures damaged { IfSome (K.contents draft.new.keeper.now) (λ c. IfErr result (λ e. IfStoreDamage e
         (IsFound (K.contents draft.new.keeper.now) draft.old.pending (with_all c draft.old.pending.batch)))) }

@@ -1,5 +1,5 @@
 // Where the parents of a revision stand.
-ghost use Rattle.std.specs.Prelude.{◌≡◌, ◌<◌, ◌≤◌, All, length, [], List, ℕ, Some, None, Err, IfOk, IfErr, IfSome, OnOk};
+ghost use Rattle.std.specs.Prelude.{◌≡◌, ◌<◌, ◌≤◌, All, length, [], List, ℕ, Some, None, Err, IfOk, IfErr, IfSome, OnOk, ◌+◌};
 ghost use Rattle.mtn_replay.specs.Making.{parents_of, place_of as place_in, unknown_parent};
 ghost use Rattle.mtn_model.specs.State.{State};
 ghost use Rattle.mtn_ports.specs.Causes.{Rose};
@@ -29,6 +29,7 @@ fn place_of<K: Keeper>(
         IfOk result (λ p. place_in d.stands.history parent ≡ Some p) }
     ensures refused { (f : List ℕ → List ℕ) (s : State) → (d : IsFounded f (K.contents draft.new.keeper.now) draft.old.pending s) →
         IfErr result (IsUnknown d.stands.history parent) }
+    ensures reads { K.reads draft.new.keeper.now ≤ K.reads draft.old.keeper.now + 1 }
     ensures damaged { IfSome (K.contents draft.new.keeper.now) (λ c. IfErr result (λ e. IfStoreDamage e
         (IsFound (K.contents draft.new.keeper.now) draft.old.pending (with_all c draft.old.pending.batch)))) }
     ensures failed { result ≡ Err (HistoryError.Store StoreError.Failed) → Rose (K.faults draft.old.keeper.now) (K.faults draft.new.keeper.now) }
@@ -58,6 +59,7 @@ pub fn places_of<K: Keeper>(
         OnOk result (unknown_parent d.stands.history edges.now ≡ None) }
     ensures refused { (f : List ℕ → List ℕ) (s : State) → (d : IsFounded f (K.contents draft.new.keeper.now) draft.old.pending s) →
         IfErr result (IsRefusal (unknown_parent d.stands.history edges.now)) }
+    ensures reads { K.reads draft.new.keeper.now ≤ K.reads draft.old.keeper.now + length edges.now }
     ensures damaged { IfSome (K.contents draft.new.keeper.now) (λ c. IfErr result (λ e. IfStoreDamage e
         (IsFound (K.contents draft.new.keeper.now) draft.old.pending (with_all c draft.old.pending.batch)))) }
     ensures failed { result ≡ Err (HistoryError.Store StoreError.Failed) → Rose (K.faults draft.old.keeper.now) (K.faults draft.new.keeper.now) }

@@ -1,8 +1,8 @@
 // The calls `put_revision` and `put_revision_as`.
-ghost use Rattle.std.specs.Prelude.{◌≡◌, ◌≤◌, List, ℕ, length, Some, None, Err, IfErr, IfSome, OnOk, OnErr};
+ghost use Rattle.std.specs.Prelude.{◌≡◌, ◌≤◌, List, ℕ, length, Some, None, Err, IfErr, IfSome, OnOk, OnErr, ◌+◌};
 ghost use Rattle.mtn_changes.specs.RevisionText.{AreEdges};
 ghost use Rattle.mtn_entry_laws.specs.Entries.{AreBounded};
-ghost use Rattle.mtn_replay.specs.Making.{place_of, refusal_of};
+ghost use Rattle.mtn_replay.specs.Making.{place_of, refusal_of, unknown_parent};
 ghost use Rattle.mtn_replay.specs.Texts.{text_under};
 ghost use Rattle.mtn_model.specs.State.{State};
 ghost use Rattle.mtn_model.specs.Table.{Contents};
@@ -16,6 +16,8 @@ ghost use Rattle.mtn_put_revision.specs.Finding.{IsFound, IsRefusal};
 ghost use Rattle.mtn_put_revision.specs.Keeping.{AcceptsNew, IsPlanned, IsSpelled};
 ghost use Rattle.mtn_history.specs.Texts.{TextDamage};
 ghost use Rattle.mtn_put_revision.specs.Accepting.{AcceptsRevision, IsCollided, IsHeld, IsUnreadAs, KeepsRevision};
+ghost use Rattle.mtn_history.specs.Files.{MakesIds};
+ghost use Rattle.mtn_put_revision.specs.Reads.{IsBoundOf, IsFor};
 
 use crate::over::{NewRevision, over_places};
 use crate::places::places_of;
@@ -55,6 +57,7 @@ fn held_text<K: Keeper>(
     ensures pending { draft.new.pending ≡ draft.old.pending }
     ensures held { (f : List ℕ → List ℕ) (c : Contents) (s : State) → K.contents draft.new.keeper.now ≡ Some c → IsDraft f c draft.old.pending s →
         IsHeld s id text.now result }
+    ensures reads { K.reads draft.new.keeper.now ≤ K.reads draft.old.keeper.now + 1 }
     ensures damaged { IfSome (K.contents draft.new.keeper.now) (λ c. IfErr result (λ e. IfDamage e (TextDamage (with_all c draft.old.pending.batch)))) }
     ensures failed { result ≡ Err StoreError.Failed → Rose (K.faults draft.old.keeper.now) (K.faults draft.new.keeper.now) }
 {
@@ -92,6 +95,8 @@ pub fn put_revision<I: Ident, K: Keeper>(
     ensures stays { Stays K.contents K.leaves K.faults draft.old.keeper.now draft.new.keeper.now }
     ensures accepts { (c : Contents) (s : State) → K.contents draft.new.keeper.now ≡ Some c → IsDraft (I.meaning ident.now) c draft.old.pending s →
         AcceptsRevision (I.meaning ident.now) c s text.now result draft.new.pending }
+    ensures reads { (c : Contents) (s : State) (n : ℕ) → K.contents draft.new.keeper.now ≡ Some c → IsDraft (I.meaning ident.now) c draft.old.pending s → MakesIds (I.meaning ident.now) →
+        IsBoundOf 38 (I.meaning ident.now) s text.now n → K.reads draft.new.keeper.now ≤ K.reads draft.old.keeper.now + n }
     ensures err { OnErr result (draft.new.pending ≡ draft.old.pending) }
     ensures damaged { IfSome (K.contents draft.new.keeper.now) (λ c. IsMetaOf (with_all c draft.old.pending.batch) (record { count = draft.old.pending.count; is_new = draft.old.pending.is_new }) →
         IfErr result (λ e. IfStoreDamage e (IsDamage (with_all c draft.old.pending.batch)))) }
@@ -129,6 +134,8 @@ pub fn put_revision_as<I: Ident, K: Keeper>(
     ensures stays { Stays K.contents K.leaves K.faults draft.old.keeper.now draft.new.keeper.now }
     ensures accepts { (c : Contents) (s : State) → K.contents draft.new.keeper.now ≡ Some c → IsDraft (I.meaning ident.now) c draft.old.pending s →
         KeepsRevision (I.meaning ident.now) c s text.now result draft.new.pending }
+    ensures reads { (c : Contents) (s : State) (n : ℕ) → K.contents draft.new.keeper.now ≡ Some c → IsDraft (I.meaning ident.now) c draft.old.pending s → MakesIds (I.meaning ident.now) →
+        IsBoundOf 38 (I.meaning ident.now) s text.now n → K.reads draft.new.keeper.now ≤ K.reads draft.old.keeper.now + n }
     ensures err { OnErr result (draft.new.pending ≡ draft.old.pending) }
     ensures damaged { IfSome (K.contents draft.new.keeper.now) (λ c. IsMetaOf (with_all c draft.old.pending.batch) (record { count = draft.old.pending.count; is_new = draft.old.pending.is_new }) →
         IfErr result (λ e. IfStoreDamage e (IsDamage (with_all c draft.old.pending.batch)))) }
@@ -166,6 +173,8 @@ fn put_new<I: Ident, K: Keeper>(
     ensures stays { Stays K.contents K.leaves K.faults draft.old.keeper.now draft.new.keeper.now }
     ensures accepts { (c : Contents) (s : State) → K.contents draft.new.keeper.now ≡ Some c → IsDraft (I.meaning ident.now) c draft.old.pending s →
         KeepsRevision (I.meaning ident.now) c s text.now result draft.new.pending }
+    ensures reads { (c : Contents) (s : State) (n : ℕ) → K.contents draft.new.keeper.now ≡ Some c → IsDraft (I.meaning ident.now) c draft.old.pending s → MakesIds (I.meaning ident.now) →
+        IsBoundOf 37 (I.meaning ident.now) s text.now n → K.reads draft.new.keeper.now ≤ K.reads draft.old.keeper.now + n }
     ensures err { OnErr result (draft.new.pending ≡ draft.old.pending) }
     ensures damaged { IfSome (K.contents draft.new.keeper.now) (λ c. IsMetaOf (with_all c draft.old.pending.batch) (record { count = draft.old.pending.count; is_new = draft.old.pending.is_new }) →
         IfErr result (λ e. IfStoreDamage e (IsDamage (with_all c draft.old.pending.batch)))) }
@@ -202,6 +211,8 @@ fn accept<I: Ident, K: Keeper>(
         IsSpelled (I.meaning ident.now) fresh.now → OnOk result (AcceptsNew (I.meaning ident.now) d.records s d.stands.history fresh.now draft.new.pending) }
     ensures refused { (s : State) → (d : IsFounded (I.meaning ident.now) (K.contents draft.new.keeper.now) draft.old.pending s) →
         IfErr result (IsRefusal (refusal_of (I.meaning ident.now) s.files d.stands.history fresh.now.id fresh.now.read.now)) }
+    ensures reads { (f : List ℕ → List ℕ) (s : State) → (d : IsFounded f (K.contents draft.new.keeper.now) draft.old.pending s) → MakesIds f → (n : ℕ) → 37 ≤ n →
+        (unknown_parent d.stands.history fresh.now.read.now.edges ≡ None → IsFor 37 d.stands.history fresh.now.read.now.edges n) → K.reads draft.new.keeper.now ≤ K.reads draft.old.keeper.now + n }
     ensures err { OnErr result (draft.new.pending ≡ draft.old.pending) }
     ensures damaged { IfSome (K.contents draft.new.keeper.now) (λ c. IfErr result (λ e. IfStoreDamage e
         (IsFound (K.contents draft.new.keeper.now) draft.old.pending (with_all c draft.old.pending.batch)))) }

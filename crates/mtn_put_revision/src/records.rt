@@ -1,5 +1,5 @@
 // The records of a new revision.
-ghost use Rattle.std.specs.Prelude.{◌≡◌, ◌<◌, ◌≤◌, All, List, ℕ, length, Ok, None, Err, IfOk, IfErr, IfSome, IsTrue};
+ghost use Rattle.std.specs.Prelude.{◌≡◌, ◌<◌, ◌≤◌, All, List, ℕ, length, Ok, None, Err, IfOk, IfErr, IfSome, IsTrue, ◌+◌};
 ghost use Rattle.mtn_ancestry.specs.Log.{list_of};
 ghost use Rattle.mtn_roster_deltas.specs.Chain.{ascend};
 ghost use Rattle.mtn_roster_deltas.specs.Numbering.{shown};
@@ -46,6 +46,7 @@ pub fn next_number<K: Keeper>(draft: &mut Draft<'_, K>) -> Result<u64, StoreErro
     ensures first { draft.old.pending.count ≡ 0 → IfOk result (λ n. n ≡ 1) }
     ensures next { (f : List ℕ → List ℕ) (s : State) → (d : IsFounded f (K.contents draft.new.keeper.now) draft.old.pending s) →
         IfOk result (λ n. n ≡ next_of d.stands.kept) }
+    ensures reads { (f : List ℕ → List ℕ) (s : State) → IsFounded f (K.contents draft.new.keeper.now) draft.old.pending s → K.reads draft.new.keeper.now ≤ K.reads draft.old.keeper.now + 1 }
     ensures damaged { IfSome (K.contents draft.new.keeper.now) (λ c. IfErr result (λ e. IfDamage e
         (IsFound (K.contents draft.new.keeper.now) draft.old.pending (with_all c draft.old.pending.batch)))) }
     ensures failed { result ≡ Err StoreError.Failed → Rose (K.faults draft.old.keeper.now) (K.faults draft.new.keeper.now) }

@@ -1,9 +1,9 @@
 // The tree of a new revision, or its first refusal behind the parents.
-ghost use Rattle.std.specs.Prelude.{◌≡◌, ◌<◌, [], List, ℕ, None, Err, IfOk, IfErr, IfSome, OnOk};
+ghost use Rattle.std.specs.Prelude.{◌≡◌, ◌<◌, [], List, ℕ, None, Err, IfOk, IfErr, IfSome, OnOk, ◌≤◌, ◌+◌, length};
 ghost use Rattle.mtn_changes.specs.RevisionText.{AreEdges};
 ghost use Rattle.mtn_basic_io.specs.Spelling.{spelling};
 ghost use Rattle.mtn_history_laws.specs.History.{Revision as Made};
-ghost use Rattle.mtn_replay.specs.Making.{made_tree};
+ghost use Rattle.mtn_replay.specs.Making.{made_tree, new_contents};
 ghost use Rattle.mtn_make_roster.specs.Basis.{Underlies, made_refusal};
 ghost use Rattle.mtn_manifest.specs.Manifest.{manifest_of};
 ghost use Rattle.mtn_model.specs.State.{State};
@@ -12,6 +12,7 @@ ghost use Rattle.mtn_ports.specs.Kept.{Stays, with_all};
 ghost use Rattle.mtn_history.specs.Errors.{IfStoreDamage};
 ghost use Rattle.mtn_history.specs.Stands.{IsFounded};
 ghost use Rattle.mtn_put_revision.specs.Finding.{IsFound, IsRefusal, made_refusal_of};
+ghost use Rattle.mtn_history.specs.Files.{MakesIds};
 
 use crate::contents::unknown_content;
 use crate::unfit::unfit;
@@ -60,6 +61,10 @@ pub fn tree_of<I: Ident, K: Keeper>(
         OnOk result (made_refusal_of (I.meaning ident.now) s.files d.stands.history new read.now ≡ None) }
     ensures refused { (s : State) → (d : IsFounded (I.meaning ident.now) (K.contents draft.new.keeper.now) draft.old.pending s) →
         IfErr result (IsRefusal (made_refusal_of (I.meaning ident.now) s.files d.stands.history new read.now)) }
+    ensures reads { (f : List ℕ → List ℕ) (s : State) → IsFounded f (K.contents draft.new.keeper.now) draft.old.pending s → MakesIds f →
+        K.reads draft.new.keeper.now ≤ K.reads draft.old.keeper.now + (length (new_contents read.now.edges) + 1) }
+    ensures few { (f : List ℕ → List ℕ) (s : State) → IsFounded f (K.contents draft.new.keeper.now) draft.old.pending s → MakesIds f →
+        OnOk result (K.reads draft.new.keeper.now ≤ K.reads draft.old.keeper.now + length (new_contents read.now.edges)) }
     ensures damaged { IfSome (K.contents draft.new.keeper.now) (λ c. IfErr result (λ e. IfStoreDamage e
         (IsFound (K.contents draft.new.keeper.now) draft.old.pending (with_all c draft.old.pending.batch)))) }
     ensures failed { result ≡ Err (HistoryError.Store StoreError.Failed) → Rose (K.faults draft.old.keeper.now) (K.faults draft.new.keeper.now) }

@@ -1,5 +1,5 @@
 -- The records are those of the state with the text.
-use Rattle.std.proofs.Common.{◌<◌, List, ℕ, true, Option, Ok, refl, sym, ap, ◌∙◌, subst}
+use Rattle.std.proofs.Common.{◌<◌, List, ℕ, true, Option, Ok, refl, sym, ap, ◌∙◌, subst, ◌≤◌, ◌+◌}
 use Rattle.std.specs.Prelude.{All, IfSome, IsTrue}
 use Rattle.mtn_changes.specs.declared.change.Edge.{Edge}
 use Rattle.mtn_roster_deltas.specs.Numbering.{shown, AreKnown}
@@ -73,3 +73,21 @@ pub returns-in_default-clause-none : goal.returns-in_default-clause-none
 returns-in_default-clause-none g c = λ same up h v next count.
     c.in_ok-written.ensures.none (ap Ok c.in_default.is) (subst (λ n. All (λ p. p < n) c.args.known.now.places.now) (sym c.count.ensures) c.requires.below) up
     h v c.args.roster next c.in-Ok.ensures.spells (count ∙ sym c.count.ensures) (subst (λ n. n < 2147483648) (sym c.count.ensures) c.requires.room)
+
+pub returns-in-Err-Clash-clause-reads : goal.returns-in-Err-Clash-clause-reads
+returns-in-Err-Clash-clause-reads g c = λ f s d.
+    let mid = g.K.Keeper.contents c.next_number.new.draft.keeper.now in
+    let p = c.args.draft.now.pending in
+    let known = shown c.args.known.now.entries.now in
+    let b = back f mid (g.K.Keeper.contents c.unfit.new.draft.keeper.now) p s c.unfit.ensures.stays.same d in
+    let are = parents_known f s.files s.log b.stands.history b.stands.kept b.stands.spelled b.stands.revisions c.args.known.now.places.now known
+    (c.requires.parents f s (back f (g.K.Keeper.contents c.args.draft.now.keeper.now) mid p s c.in_ok-next.ensures.stays.same b)) in
+    absurd ((rw c.in-Err-Clash.field-0-is at c.in-Err-Clash.ensures.clash) refl (subst (AreKnown known) (sym (c.in_ok-next.ensures.next f s b)) are))
+
+pub returns-in_err-keep_revision-clause-reads : goal.returns-in_err-keep_revision-clause-reads
+returns-in_err-keep_revision-clause-reads g c =
+    subst (λ h. (f : List ℕ → List ℕ) (s : State) → IsFounded f (g.K.Keeper.contents h.now) c.args.draft.now.pending s → g.K.Keeper.reads h.now ≤ g.K.Keeper.reads c.args.draft.now.keeper.now + 1) (sym c.in_err-keep_revision.ensures.keeper) (λ f s d. c.in_ok-next.ensures.reads f s d)
+
+pub returns-clause-reads : goal.returns-clause-reads
+returns-clause-reads g c =
+    subst (λ h. (f : List ℕ → List ℕ) (s : State) → IsFounded f (g.K.Keeper.contents h.now) c.args.draft.now.pending s → g.K.Keeper.reads h.now ≤ g.K.Keeper.reads c.args.draft.now.keeper.now + 1) (sym c.in_ok-keep_revision.ensures.keeper) (λ f s d. c.in_ok-next.ensures.reads f s d)

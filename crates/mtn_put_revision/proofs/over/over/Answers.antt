@@ -1,5 +1,5 @@
 -- The plan's tree, or that of the edges.
-use Rattle.std.proofs.Common.{ℕ, List, Ok, sym, ap}
+use Rattle.std.proofs.Common.{ℕ, List, Ok, sym, ap, arith}
 use Rattle.std.specs.Prelude.{IfErr, IfSome, OnOk}
 use Rattle.mtn_roster_deltas.specs.Numbering.{shown}
 use Rattle.mtn_model.specs.State.{State}
@@ -13,6 +13,7 @@ use Rattle.mtn_history.proofs.Knowing.{told_back}
 use Rattle.mtn_put_revision.specs.Finding.{IsRefusal, made_refusal_of}
 use Rattle.mtn_put_revision.specs.Keeping.{Accepts, AreParents, IsFirstRebuilt, IsNew}
 use Rattle.mtn_put_revision.proofs.Grounds.{moved}
+use Rattle.mtn_put_revision.proofs.Counting.{as_pending}
 use Rattle.mtn_put_revision.proofs.over.over.Goals as goal
 
 pub returns-then-kept-clause-accepts : goal.returns-then-kept-clause-accepts
@@ -46,3 +47,17 @@ returns-clause-accepts g c = moved (λ (q : Pending). (s : State) → (d : IsFou
 
 pub returns-clause-refused : goal.returns-clause-refused
 returns-clause-refused g c = moved (λ (q : Pending). (s : State) → (d : IsFounded (g.I.Ident.meaning c.args.ident.now) (g.K.Keeper.contents c.over_edges.new.draft.keeper.now) q s) → IfErr c.over_edges.result (IsRefusal (made_refusal_of (g.I.Ident.meaning c.args.ident.now) s.files d.stands.history c.args.fresh.now.id c.args.fresh.now.read.now))) c.over_plan.new.draft.pending c.args.draft.now.pending (c.in_ok-kept.ensures.unkept (ap Ok c.if-kept.false)) c.over_edges.ensures.refused
+
+pub returns-clause-reads : goal.returns-clause-reads
+returns-clause-reads g c = λ f s d ids.
+    let last = g.K.Keeper.contents c.over_edges.new.draft.keeper.now in
+    let p = c.args.draft.now.pending in
+    let first = c.over_plan.ensures.reads f s (back f (g.K.Keeper.contents c.over_plan.new.draft.keeper.now) last p s c.over_edges.ensures.stays.same d) in
+    let then = c.over_edges.ensures.reads f s (as_pending f last p c.over_plan.new.draft.pending s (c.in_ok-kept.ensures.unkept (ap Ok c.if-kept.false)) d) ids in
+    omega (arith, first, then)
+
+pub returns-in_err-kept-clause-reads : goal.returns-in_err-kept-clause-reads
+returns-in_err-kept-clause-reads g c = λ f s d ids. let first = c.over_plan.ensures.reads f s d in omega (arith, first)
+
+pub returns-then-kept-clause-reads : goal.returns-then-kept-clause-reads
+returns-then-kept-clause-reads g c = λ f s d ids. let first = c.over_plan.ensures.reads f s d in omega (arith, first)

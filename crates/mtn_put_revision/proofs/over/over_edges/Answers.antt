@@ -21,6 +21,7 @@ use Rattle.mtn_replay.specs.Making.{made_tree}
 use Rattle.mtn_put_revision.proofs.NextTrees.{no_first, none_ascend, nothing_lawful}
 use Rattle.mtn_put_revision.proofs.Grounds.{moved}
 use Rattle.mtn_put_revision.proofs.Putting.{known_ascend}
+use Rattle.mtn_put_revision.proofs.Counting.{as_pending}
 use Rattle.mtn_put_revision.proofs.over.over_edges.Goals as goal
 
 pub tree_of-requires-clause-based : goal.tree_of-requires-clause-based
@@ -100,3 +101,34 @@ returns-clause-damaged g c =
     let count = sym (counted f after p s d) ∙ ap (λ (x : Pending). x.count) (sym c.tree_of.ensures.pending) in
     c.in_ok-kept.ensures.none unkept (known_ascend d.stands.history d.stands.kept d.stands.revisions known.places.now (shown known.entries.now) based.1.kept)
     d.stands.history (all_spell f s.files s.log d.stands.history d.stands.spelled) based.0 made.1 made.0 count)))
+
+pub returns-in_err-kept-clause-reads : goal.returns-in_err-kept-clause-reads
+returns-in_err-kept-clause-reads g c = λ f s d ids.
+    let last = g.K.Keeper.contents c.over_tree.new.draft.keeper.now in
+    let p = c.args.draft.now.pending in
+    let first = c.in_ok-tree.ensures.few f s (back f (g.K.Keeper.contents c.tree_of.new.draft.keeper.now) last p s c.over_tree.ensures.stays.same d) ids in
+    let then = c.over_tree.ensures.reads f s (as_pending f last p c.tree_of.new.draft.pending s c.tree_of.ensures.pending d) in
+    omega (arith, first, then)
+
+pub returns-then-kept-clause-reads : goal.returns-then-kept-clause-reads
+returns-then-kept-clause-reads g c = λ f s d ids.
+    let last = g.K.Keeper.contents c.over_tree.new.draft.keeper.now in
+    let p = c.args.draft.now.pending in
+    let first = c.in_ok-tree.ensures.few f s (back f (g.K.Keeper.contents c.tree_of.new.draft.keeper.now) last p s c.over_tree.ensures.stays.same d) ids in
+    let then = c.over_tree.ensures.reads f s (as_pending f last p c.tree_of.new.draft.pending s c.tree_of.ensures.pending d) in
+    omega (arith, first, then)
+
+pub returns-clause-reads : goal.returns-clause-reads
+returns-clause-reads g c = λ f s at ids.
+    let after = g.K.Keeper.contents c.over_tree.new.draft.keeper.now in
+    let mid = g.K.Keeper.contents c.tree_of.new.draft.keeper.now in
+    let p = c.args.draft.now.pending in
+    let unkept = ap Ok c.if-kept.false in
+    let known = c.args.known.now in
+    let d = back f after (g.K.Keeper.contents c.unfit.new.draft.keeper.now) p s c.unfit.ensures.stays.same at in
+    let d1 = back f mid after p s c.over_tree.ensures.stays.same d in
+    let based = c.requires.based f s (back f (g.K.Keeper.contents c.args.draft.now.keeper.now) mid p s c.tree_of.ensures.stays.same d1) in
+    let made = c.in_ok-tree.ensures.made d.stands.history based.0 in
+    let count = sym (counted f after p s d) ∙ ap (λ (x : Pending). x.count) (sym c.tree_of.ensures.pending) in
+    absurd (c.in_ok-kept.ensures.none unkept (known_ascend d.stands.history d.stands.kept d.stands.revisions known.places.now (shown known.entries.now) based.1.kept)
+    d.stands.history (all_spell f s.files s.log d.stands.history d.stands.spelled) based.0 made.1 made.0 count)

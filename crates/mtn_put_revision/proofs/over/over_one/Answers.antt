@@ -1,5 +1,5 @@
 -- One parent.
-use Rattle.std.proofs.Common.{List, [], ◌∷◌, sym, ap, subst}
+use Rattle.std.proofs.Common.{List, [], ◌∷◌, sym, ap, subst, arith}
 use Rattle.std.specs.Prelude.{IfErr, IfSome, OnOk}
 use Rattle.mtn_ports.specs.Kept.{with_all}
 use Rattle.mtn_history.specs.Rosters.{IsRebuilt, Rebuilds}
@@ -17,6 +17,7 @@ use Rattle.mtn_put_revision.specs.Keeping.{Accepts, AreParents, IsFirstRebuilt, 
 use Rattle.mtn_put_revision.proofs.Bases.{some_places, one_basis, moved_based, under}
 use Rattle.mtn_put_revision.proofs.Grounds.{moved, rebuilt_at}
 use Rattle.mtn_put_revision.proofs.Planning.{planned_on}
+use Rattle.mtn_put_revision.proofs.Counting.{as_pending}
 use Rattle.mtn_put_revision.proofs.over.over_one.Goals as goal
 
 pub over-requires-clause-first : goal.over-requires-clause-first
@@ -61,3 +62,9 @@ over-requires-clause-root g c κs within = λ e. absurd (some_places _ _ c.args.
 
 pub over-requires-clause-unknown : goal.over-requires-clause-unknown
 over-requires-clause-unknown g c κs within = λ e. absurd (some_places _ _ c.args.places.now c.requires.one e)
+
+pub returns-clause-reads : goal.returns-clause-reads
+returns-clause-reads g c = λ f s d ids.
+    let first = c.in_ok-held.ensures.few in
+    let then = c.over.ensures.reads f s (as_pending f (g.K.Keeper.contents c.over.new.draft.keeper.now) c.args.draft.now.pending c.roster_at.new.self.pending s c.roster_at.ensures.asks.pending d) ids in
+    omega (arith, first, then)

@@ -1,5 +1,5 @@
 -- By how many there are.
-use Rattle.std.proofs.Common.{[], ◌∷◌}
+use Rattle.std.proofs.Common.{[], ◌∷◌, arith}
 use Rattle.mtn_history.proofs.Founding.{grown}
 use Rattle.mtn_put_revision.proofs.Bases.{no_places, root_basis, under, under_none}
 use Rattle.mtn_put_revision.proofs.over.over_places.Goals as goal
@@ -14,3 +14,9 @@ over-requires-clause-based g c κs within = λ f s d.
 
 pub over-requires-clause-root : goal.over-requires-clause-root
 over-requires-clause-root g c κs within = λ e. under_none c.args.fresh.now.read.now.edges c.args.fresh.now.id c.requires.edges (c.requires.root e)
+
+pub returns-in-empty-clause-reads : goal.returns-in-empty-clause-reads
+returns-in-empty-clause-reads g c = λ f s d ids w within. let asked = c.over.ensures.reads f s d ids in omega (arith, asked)
+
+pub returns-in-len1-clause-reads : goal.returns-in-len1-clause-reads
+returns-in-len1-clause-reads g c = λ f s d ids w within. let asked = c.over_one.ensures.reads f s d ids in omega (arith, asked)

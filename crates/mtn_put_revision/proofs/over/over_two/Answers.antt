@@ -1,6 +1,6 @@
 -- Two parents.
-use Rattle.std.proofs.Common.{◌∙◌, ◌+◌, ℕ, List, [], ◌∷◌, sym, ap, subst}
-use Rattle.std.specs.Prelude.{IfErr, IfSome, OnOk}
+use Rattle.std.proofs.Common.{◌∙◌, ◌+◌, ℕ, List, [], ◌∷◌, sym, ap, subst, ◌≤◌, ◌-◌, arith}
+use Rattle.std.specs.Prelude.{IfErr, IfSome, OnOk, max}
 use Rattle.std.proofs.lemmas.Result.{err_from_is_err_and}
 use Rattle.mtn_ports.specs.Kept.{with_all}
 use Rattle.mtn_history.specs.Errors.{IfDamage}
@@ -20,6 +20,10 @@ use Rattle.mtn_put_revision.specs.Keeping.{Accepts, AreParents, IsFirstRebuilt, 
 use Rattle.mtn_put_revision.proofs.Bases.{some_places, two_basis, moved_based, under}
 use Rattle.mtn_put_revision.proofs.Grounds.{moved, rebuilt_at, unmade_found}
 use Rattle.mtn_put_revision.proofs.Planning.{planned_on}
+use Rattle.mtn_ancestry.specs.Ancestors.{ReachesFrom}
+use Rattle.mtn_history_laws.specs.History.{parents_at}
+use Rattle.mtn_put_revision.specs.Reads.{IsWindow}
+use Rattle.mtn_put_revision.proofs.Counting.{as_pending}
 use Rattle.mtn_put_revision.proofs.over.over_two.Goals as goal
 
 pub returns-in_err-held_right-clause-stays : goal.returns-in_err-held_right-clause-stays
@@ -94,3 +98,29 @@ over-requires-clause-root g c κs within = λ e. absurd (some_places _ _ c.args.
 
 pub over-requires-clause-unknown : goal.over-requires-clause-unknown
 over-requires-clause-unknown g c κs within = λ e. absurd (some_places _ _ c.args.places.now c.requires.two e)
+
+pub returns-in_err-only_left-clause-reads : goal.returns-in_err-only_left-clause-reads
+returns-in_err-only_left-clause-reads g c = λ f s d ids w within.
+    let told = g.K.Keeper.contents c.uncommon_of.new.draft.keeper.now in
+    let p = c.args.draft.now.pending in
+    let window = subst (λ (ps : List ℕ). IsWindow (parents_at d.stands.history) ps w) c.requires.two within in
+    let walk = moved (λ (q : Pending). (f : List ℕ → List ℕ) (s : State) → (d : IsFounded f told q s) → (low : ℕ) → ReachesFrom (parents_at d.stands.history) c.args.left c.args.right low → g.K.Keeper.reads c.uncommon_of.new.draft.keeper.now ≤ g.K.Keeper.reads c.roster_at-2.new.self.keeper.now + (max c.args.left c.args.right + 1 - low))
+    c.roster_at-2.new.self.pending p (c.roster_at-2.ensures.asks.pending ∙ c.roster_at.ensures.asks.pending) c.uncommon_of.ensures.reads f s d window.0 window.1 in
+    let first = c.in_ok-held_left.ensures.few in
+    let second = c.in_ok-held_right.ensures.few in
+    let is = window.2 in
+    omega (arith, first, second, walk, is)
+
+pub returns-clause-reads : goal.returns-clause-reads
+returns-clause-reads g c = λ f s d ids w within.
+    let told = g.K.Keeper.contents c.uncommon_of.new.draft.keeper.now in
+    let last = g.K.Keeper.contents c.over.new.draft.keeper.now in
+    let p = c.args.draft.now.pending in
+    let window = subst (λ (ps : List ℕ). IsWindow (parents_at d.stands.history) ps w) c.requires.two within in
+    let walk = moved (λ (q : Pending). (f : List ℕ → List ℕ) (s : State) → (d : IsFounded f told q s) → (low : ℕ) → ReachesFrom (parents_at d.stands.history) c.args.left c.args.right low → g.K.Keeper.reads c.uncommon_of.new.draft.keeper.now ≤ g.K.Keeper.reads c.roster_at-2.new.self.keeper.now + (max c.args.left c.args.right + 1 - low))
+    c.roster_at-2.new.self.pending p (c.roster_at-2.ensures.asks.pending ∙ c.roster_at.ensures.asks.pending) c.uncommon_of.ensures.reads f s (back f told last p s c.over.ensures.stays.same d) window.0 window.1 in
+    let first = c.in_ok-held_left.ensures.few in
+    let second = c.in_ok-held_right.ensures.few in
+    let is = window.2 in
+    let then = c.over.ensures.reads f s (as_pending f last p c.uncommon_of.new.draft.pending s (c.uncommon_of.ensures.pending ∙ c.roster_at-2.ensures.asks.pending ∙ c.roster_at.ensures.asks.pending) d) ids in
+    omega (arith, first, second, walk, is, then)

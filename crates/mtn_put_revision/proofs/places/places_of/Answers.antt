@@ -18,7 +18,7 @@ use Rattle.mtn_put_revision.proofs.places.places_of.Goals as goal
 use Rattle.mtn_put_revision.proofs.places.places_of.Goals.{in-Some+in_ok-place_of+in_ok-push, in_default}
 
 pub loop-edge-init : goal.loop-edge-init
-loop-edge-init g c = record { same_reference = refl; stays = stays_itself g.K.Keeper.contents g.K.Keeper.leaves g.K.Keeper.faults c.args.draft.now.keeper.now; pending = refl; few = omega (arith, ap length c.new-places.ensures.items); below = λ k d lt. absurd (omega (arith, lt, ap length c.new-places.ensures.items)); none = λ e. All-nil (λ (e : Edge). e.parent ≡ None); places = λ f s d. c.new-places.ensures.items; known = λ f s d. lost_begin d.stands.history }
+loop-edge-init g c = record { same_reference = refl; stays = stays_itself g.K.Keeper.contents g.K.Keeper.leaves g.K.Keeper.faults c.args.draft.now.keeper.now; pending = refl; reads = omega arith; few = omega (arith, ap length c.new-places.ensures.items); below = λ k d lt. absurd (omega (arith, lt, ap length c.new-places.ensures.items)); none = λ e. All-nil (λ (e : Edge). e.parent ≡ None); places = λ f s d. c.new-places.ensures.items; known = λ f s d. lost_begin d.stands.history }
 
 pub returns-in_err-place_of-clause-stays : goal.returns-in_err-place_of-clause-stays
 returns-in_err-place_of-clause-stays g c = stays_trans g.K.Keeper.contents g.K.Keeper.leaves g.K.Keeper.faults _ _ _ c.loop-edge.invariant.stays c.place_of.ensures.stays
@@ -41,6 +41,7 @@ loop-edge-preserved g c = elim c.match-edge.branch [
     same_reference = w.place_of.ensures.same_reference ∙ c.loop-edge.invariant.same_reference;
     stays = stays_trans g.K.Keeper.contents g.K.Keeper.leaves g.K.Keeper.faults _ _ _ c.loop-edge.invariant.stays w.place_of.ensures.stays;
     pending = w.place_of.ensures.pending ∙ c.loop-edge.invariant.pending;
+    reads = omega (arith, w.place_of.ensures.reads, c.loop-edge.invariant.reads);
     few = omega (arith, ap length w.in_ok-push.ensures.items, length-append c.loop-edge.places.items (w.in_ok-place_of.field-0 ∷ []), c.loop-edge.invariant.few);
     below = subst (λ (ps : List ℕ). All (λ p. p < c.args.draft.now.pending.count) ps) (sym w.in_ok-push.ensures.items)
         (all_snoc (λ p. p < c.args.draft.now.pending.count) c.loop-edge.places.items w.in_ok-place_of.field-0 c.loop-edge.invariant.below
@@ -59,6 +60,7 @@ loop-edge-preserved g c = elim c.match-edge.branch [
     same_reference = c.loop-edge.invariant.same_reference;
     stays = c.loop-edge.invariant.stays;
     pending = c.loop-edge.invariant.pending;
+    reads = omega (arith, c.loop-edge.invariant.reads);
     few = omega (arith, c.loop-edge.invariant.few);
     below = c.loop-edge.invariant.below;
     none = λ e. All-more (λ (x : Edge). x.parent ≡ None) c.args.edges.now c.loop-edge.edge-index c.edge-item.result c.loop-edge-test.true (c.loop-edge.invariant.none e)

@@ -1,4 +1,4 @@
-use Rattle.std.proofs.Common.{◌≡◌, ◌<◌, ◌≤◌, List, [], ℕ, None, length, take}
+use Rattle.std.proofs.Common.{◌≡◌, ◌<◌, ◌≤◌, ◌+◌, List, [], ℕ, None, length, take}
 use Rattle.std.specs.Prelude.{All}
 use Rattle.mtn_changes.specs.declared.change.Edge.{Edge}
 use Rattle.mtn_replay.specs.Making.{parents_of}
@@ -13,6 +13,7 @@ invariant-loop-edge g l = record {
   same_reference : l.draft.keeper.ghost_name ≡ l.fn.draft.keeper.ghost_name;
   stays : Stays g.K.Keeper.contents g.K.Keeper.leaves g.K.Keeper.faults l.fn.draft.keeper.now l.draft.keeper.now;
   pending : l.draft.pending ≡ l.fn.draft.pending;
+  reads : g.K.Keeper.reads l.draft.keeper.now ≤ g.K.Keeper.reads l.fn.draft.keeper.now + l.edge-index;
   few : length l.places.items ≤ l.edge-index;
   below : All (λ p. p < l.fn.draft.pending.count) l.places.items;
   none : l.places.items ≡ [] → All (λ (e : Edge). e.parent ≡ None) (take l.edge-index l.edges);

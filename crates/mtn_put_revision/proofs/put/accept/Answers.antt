@@ -1,9 +1,9 @@
 -- The parents, and what is made over them.
-use Rattle.std.proofs.Common.{◌≡◌, ◌∙◌, ℕ, List, None, sym, subst, arith}
+use Rattle.std.proofs.Common.{◌≡◌, ◌∙◌, ℕ, List, None, sym, subst, arith, ◌≤◌, ◌+◌, length}
 use Rattle.std.specs.Prelude.{IfErr, OnOk}
 use Rattle.std.proofs.lemmas.Result.{err_from_is_err_and}
 use Rattle.mtn_changes.specs.declared.change.Edge.{Edge}
-use Rattle.mtn_replay.specs.Making.{parents_of, unknown_parent}
+use Rattle.mtn_replay.specs.Making.{parents_of, unknown_parent, new_contents}
 use Rattle.mtn_model.specs.State.{State}
 use Rattle.mtn_ports.proofs.KeptLemmas.{stays_trans}
 use Rattle.mtn_history.specs.Stands.{IsFounded}
@@ -14,6 +14,10 @@ use Rattle.mtn_put_revision.specs.Keeping.{Accepts, AreOn, IsNew}
 use Rattle.mtn_put_revision.proofs.Deciding.{accepted_new, err_refused, has_room, refused_made, refused_parents}
 use Rattle.mtn_put_revision.proofs.Grounds.{moved}
 use Rattle.mtn_put_revision.proofs.Planning.{planned_on}
+use Rattle.mtn_history.specs.Files.{MakesIds}
+use Rattle.mtn_history_laws.specs.History.{parents_at}
+use Rattle.mtn_put_revision.specs.Reads.{IsWindow}
+use Rattle.mtn_put_revision.proofs.Counting.{two_edges}
 use Rattle.mtn_put_revision.proofs.put.accept.Goals as goal
 
 pub returns-in_err-places-clause-refused : goal.returns-in_err-places-clause-refused
@@ -70,3 +74,26 @@ returns-clause-refused g c = λ s d.
     err_refused c.over_places.result _ _ (sym (refused_made f s.files d.stands.history c.args.fresh.now.id c.args.fresh.now.read.now room known))
     (moved (λ (q : Pending). (s : State) → (d : IsFounded f last q s) → IfErr c.over_places.result (IsRefusal (made_refusal_of f s.files d.stands.history c.args.fresh.now.id c.args.fresh.now.read.now)))
     c.places_of.new.draft.pending p c.in_ok-places.ensures.pending c.over_places.ensures.refused s d)
+
+pub returns-in_err-places-clause-reads : goal.returns-in_err-places-clause-reads
+returns-in_err-places-clause-reads g c = λ f s d ids n least for.
+    let asked = subst (λ (es : List Edge). g.K.Keeper.reads c.places_of.new.draft.keeper.now ≤ g.K.Keeper.reads c.args.draft.now.keeper.now + length es) c.as_slice.ensures c.places_of.ensures.reads in
+    let few = two_edges c.args.fresh.now.read.now.edges c.requires.edges in
+    omega (arith, asked, few, least)
+
+pub returns-clause-reads : goal.returns-clause-reads
+returns-clause-reads g c = λ f s d ids n least for.
+    let last = g.K.Keeper.contents c.over_places.new.draft.keeper.now in
+    let mid = g.K.Keeper.contents c.places_of.new.draft.keeper.now in
+    let p = c.args.draft.now.pending in
+    let d1 = back f mid last p s c.over_places.ensures.stays.same d in
+    let asked = subst (λ (es : List Edge). g.K.Keeper.reads c.places_of.new.draft.keeper.now ≤ g.K.Keeper.reads c.args.draft.now.keeper.now + length es) c.as_slice.ensures c.places_of.ensures.reads in
+    let few = two_edges c.args.fresh.now.read.now.edges c.requires.edges in
+    let known = subst (λ (es : List Edge). unknown_parent d.stands.history es ≡ None) c.as_slice.ensures (c.in_ok-places.ensures.known f s d1) in
+    let w = for known in
+    let stand = c.deref.ensures.value ∙ subst (λ (es : List Edge). c.in_ok-places.places.items ≡ parents_of d.stands.history es) c.as_slice.ensures (c.in_ok-places.ensures.places f s d1) in
+    let then = moved (λ (q : Pending). (f : List ℕ → List ℕ) (s : State) → (d : IsFounded f last q s) → MakesIds f → (w : ℕ) → IsWindow (parents_at d.stands.history) c.deref.result.now w →
+    g.K.Keeper.reads c.over_places.new.draft.keeper.now ≤ g.K.Keeper.reads c.places_of.new.draft.keeper.now + (34 + length (new_contents c.args.fresh.now.read.now.edges) + w)) c.places_of.new.draft.pending p c.in_ok-places.ensures.pending c.over_places.ensures.reads f s d ids w.0
+    (subst (λ (ps : List ℕ). IsWindow (parents_at d.stands.history) ps w.0) (sym stand) w.1) in
+    let most = w.2 in
+    omega (arith, asked, few, then, most)

@@ -25,3 +25,10 @@ returns-clause-damaged g c = result_damage (g.K.Keeper.contents c.accept.new.dra
 
 pub accept-requires-clause-bounded : goal.accept-requires-clause-bounded
 accept-requires-clause-bounded g c κs alive = text_bounds c.args.text.now c.in-Ok.read c.in-Ok.ensures.ok c.requires.short
+
+pub returns-clause-reads : goal.returns-clause-reads
+returns-clause-reads g c = λ x s n tells draft ids bound.
+    let f = g.I.Ident.meaning c.args.ident.now in
+    let d = founded f (g.K.Keeper.contents c.accept.new.draft.keeper.now) x c.args.draft.now.pending s tells draft in
+    let spells : Spells c.args.text.now c.in-Ok.read = record { reads = c.in-Ok.ensures.ok; stanzas = c.in-Ok.ensures.stanzas } in
+    c.accept.ensures.reads f s d ids n bound.least (bound.known d.stands.history c.in-Ok.read d.stands.spelled spells)

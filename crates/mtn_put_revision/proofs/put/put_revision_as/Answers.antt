@@ -1,5 +1,5 @@
 -- By what is held under the id.
-use Rattle.std.proofs.Common.{sym, subst, arith}
+use Rattle.std.proofs.Common.{sym, subst, arith, ◌-◌}
 use Rattle.std.specs.Prelude.{◌≡◌, IfErr, IfSome, OnErr}
 use Rattle.mtn_ports.specs.Kept.{with_all}
 use Rattle.mtn_ports.proofs.KeptLemmas.{stays_trans}
@@ -10,6 +10,7 @@ use Rattle.mtn_history.specs.Stands.{IsDraft}
 use Rattle.mtn_history.specs.declared.pending.Pending.{Pending}
 use Rattle.mtn_put_revision.proofs.Deciding.{held_other, held_same, none_under, other_under, same_under}
 use Rattle.mtn_put_revision.proofs.Planning.{planned_on}
+use Rattle.mtn_put_revision.proofs.Counting.{bound_behind}
 use Rattle.mtn_put_revision.proofs.put.put_revision_as.Goals as goal
 
 pub put_new-requires-clause-new : goal.put_new-requires-clause-new
@@ -45,3 +46,11 @@ pub returns-clause-accepts : goal.returns-clause-accepts
 returns-clause-accepts g c = λ x s tells draft.
     held_other (g.I.Ident.meaning c.args.ident.now) (g.K.Keeper.contents c.held_text.new.draft.keeper.now) x c.args.draft.now.pending s tells draft c.args.text.now (omega (arith, c.if-text-gt-MAX_TEXT.false)) c.args.id c.requires.id c.collided.result c.held_text.new.draft.pending
     (other_under s c.args.id c.args.text.now c.in_ok-same.field-0 c.in-Some.same (c.in_ok-same.ensures.held (g.I.Ident.meaning c.args.ident.now) x s tells draft) c.in-Some.is c.if-same.false) c.collided.ensures
+
+pub returns-in_default-clause-reads : goal.returns-in_default-clause-reads
+returns-in_default-clause-reads g c = λ x s n tells draft ids bound.
+    let f = g.I.Ident.meaning c.args.ident.now in
+    let least = bound.least in
+    let first = c.in_ok-same.ensures.reads in
+    let then = c.put_new.ensures.reads x s (n - 1) tells (subst (λ (q : Pending). IsDraft f x q s) (sym c.in_ok-same.ensures.pending) draft) ids (bound_behind 1 37 f s c.args.text.now n bound) in
+    omega (arith, first, then, least)

@@ -32,3 +32,10 @@ returns-clause-first g c = λ e. absurd (omega (arith, e, c.count-count.ensures,
 pub returns-clause-next : goal.returns-clause-next
 returns-clause-next g c = λ f s d.
     next_told f (g.K.Keeper.contents c.logged.new.self.keeper.now) c.args.draft.now.pending s d (c.count-count.result - 1) c.in_ok-log.log (omega (arith, c.count-count.ensures, c.if-count-eq0.false)) c.in_ok-log.ensures.read
+
+pub returns-then-log-gt-LAST_NUMBER-clause-reads : goal.returns-then-log-gt-LAST_NUMBER-clause-reads
+returns-then-log-gt-LAST_NUMBER-clause-reads g c = λ f s d.
+    let mid = g.K.Keeper.contents c.logged.new.self.keeper.now in
+    let p = c.args.draft.now.pending in
+    let b = back f mid (g.K.Keeper.contents c.log_held.new.self.keeper.now) p s c.log_held.ensures.asks.stays.same d in
+    absurd (never_past f mid p s b c.in_ok-log.log.next_node (next_told f mid p s b (c.count-count.result - 1) c.in_ok-log.log (omega (arith, c.count-count.ensures, c.if-count-eq0.false)) c.in_ok-log.ensures.read) c.if-log-gt-LAST_NUMBER.true)

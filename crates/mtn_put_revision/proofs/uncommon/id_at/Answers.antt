@@ -1,6 +1,7 @@
-use Rattle.mtn_put_revision.proofs.Grounds.{id_told}
+use Rattle.std.specs.Prelude.{IfSome}
+use Rattle.std.proofs.Common.{subst}
+use Rattle.mtn_history_laws.specs.History.{IsPlaceOf}
 use Rattle.mtn_put_revision.proofs.uncommon.id_at.Goals as goal
 
-pub returns-clause-id : goal.returns-clause-id
-returns-clause-id g c = λ f s d.
-    id_told f (g.K.Keeper.contents c.log_at.new.self.keeper.now) c.args.draft.now.pending s d c.args.at c.in_ok-log_at.field-0 c.requires c.in_ok-log_at.ensures.read
+pub returns-in-Some : goal.returns-in-Some
+returns-in-Some g c = λ f s d. subst (λ o. IfSome o (λ i. IsPlaceOf d.stands.history i c.args.at)) c.in-Some.is (c.recall_id.ensures.found f s d c.requires)
