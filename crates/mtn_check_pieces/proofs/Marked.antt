@@ -53,7 +53,7 @@ marks_fit es (x ∷ xs) (n ∷ t) z = (
   marks_fit es xs t z.1,
 )
 
-whole_fits : (r : RosterRecord) (t : MarkedTree) → IsWholeOf r t → AreFor t.tree t.marks
+pub whole_fits : (r : RosterRecord) (t : MarkedTree) → IsWholeOf r t → AreFor t.tree t.marks
 whole_fits (Whole es) t s = subst (AreFor t.tree) (sym s.marks) (marks_fit es (by_node es) t.tree s.tree)
 whole_fits (Delta base depth gone changed) t s = absurd s
 
@@ -61,12 +61,11 @@ whole_sane : (r : RosterRecord) (t : MarkedTree) → IsWholeOf r t → IsSane t.
 whole_sane (Whole es) t s = s.sane
 whole_sane (Delta base depth gone changed) t s = absurd s
 
-AllSane : List MarkedTree → Type 0
+abbrev pub AllSane : List MarkedTree → Type 0
 AllSane [] = Unit {0}
 AllSane (p ∷ ps) = IsSane p.tree × AllSane ps
 
-all_sane : (rs : List RosterRecord) (ps : List MarkedTree) → AllZip IsWholeOf rs ps → AllSane ps
-unfolding AllSane
+pub all_sane : (rs : List RosterRecord) (ps : List MarkedTree) → AllZip IsWholeOf rs ps → AllSane ps
 all_sane [] [] z = tt
 all_sane [] (p ∷ ps) z = absurd z
 all_sane (r ∷ rs) [] z = absurd z
@@ -143,7 +142,6 @@ module _ (h : List Revision) (job : CheckJob) (stored : MarkedTree) (sane : IsSa
       two.left_at.marked two.right_at.marked two.left_alone.positions two.right_alone.positions)
 
   any_next : (edges : List Edge) (ps : List MarkedTree) → AllSane ps → AreEdges edges → StandsOn h job edges ps → IsMadeOf job edges stored ps → IsNextMarked h job.id edges stored
-  unfolding AllSane
   any_next [] ps s lawful on m = absurd lawful
   any_next (e ∷ []) [] s lawful on m = root_next e lawful on m
   any_next (e ∷ []) (p ∷ []) s lawful on m = child_next e p lawful on m

@@ -9,8 +9,8 @@
 //! The crates above rely on this: the verdict is `Agrees` exactly where the text reads, its edges name as many parents as there
 //! are records, each record is whole and spells a roster, the changes and the joining have no fault, and the stored roster is
 //! what they make, with the marks of the rule and each birth; and [`check_pieces`] answers one verdict per job, in order, for
-//! every number of pieces. Numbers of nodes are no part of it, nor are the limits of a tree, its manifest and its files. No
-//! clause says that several threads ran.
+//! every number of pieces. Numbers of nodes are no part of it, nor are the limits of a tree, its manifest and its files. Over a
+//! history, a stored roster that agrees is that of the next revision ([`laws`]). No clause says that several threads ran.
 //!
 //! Cost: of a job what reading its text, rebuilding its rosters, applying, joining and marking cost; the time of the longest run,
 //! on as many processors as there are pieces.
