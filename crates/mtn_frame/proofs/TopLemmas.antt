@@ -17,7 +17,7 @@ use Rattle.mtn_model.specs.Outcome.{Outcome}
 use Rattle.mtn_frame.specs.Script.{Does, BoundsJob, IsScript, IsScriptIf, is_session, state_after}
 use Rattle.mtn_frame.specs.Frame.{Told, Counts, Shows, Untouched, Meets, LeavesRecords, Writes, keeps, HasCauses, Completes, StaysLawful, LeavesSource, VouchesBare}
 use Rattle.mtn_frame.specs.Session.{RunsScript, AsksFewIf, VouchesIf, is_framed, script_spelled, script_merging, script_vouching}
-use Rattle.mtn_frame.specs.Top.{Runs, reads, fed, Feeds, Unread, in_grammar, is_merge, is_vouch}
+use Rattle.mtn_frame.specs.Top.{Runs, ComesTo, reads, fed, Feeds, Unread, in_grammar, is_merge, is_vouch}
 use Rattle.mtn_frame.proofs.OneLemmas.{writes_nothing}
 
 consumed : (l0 l1 : Option (List ℕ)) (input p : List ℕ) → l0 ≡ Some input → Consumes l0 l1 p → IsAtEnd l1 → (p ≡ input) × (l1 ≡ Some [])
@@ -124,11 +124,8 @@ module _ (Stands : Contents → State → Type 0) (Damages Firsts : Contents →
   abbrev Bounded : List ℕ → State → ℕ → Type 0
   Bounded input = bounds words (fed Read input)
 
-  abbrev Outcomes : List ℕ → State → Outcome → Type 0
-  Outcomes input = does words (fed Read input)
-
   abbrev Target : Told → Told → Counts → Counts → (Contents → Type 0) → (Contents → Type 0) → Status → Type 0
-  Target before after counts0 counts1 may0 may1 result = Runs Stands Damages Firsts Lines (Does does) Bounded Outcomes Scripts (is_session words) (in_grammar spelled words) (is_merge merging words) (is_vouch vouching words) Read before after counts0 counts1 may0 may1 result
+  Target before after counts0 counts1 may0 may1 result = Runs Stands Damages Firsts Lines (Does does) Bounded (does words) Scripts (is_session words) (in_grammar spelled words) (is_merge merging words) (is_vouch vouching words) Read before after counts0 counts1 may0 may1 result
 
   -- where nothing failed, by what the call meets and its causes
   completes : (before after : Told) (counts0 counts1 : Counts) (st : Status) → Meets Stands (Does does) Scripts Read before after st → HasCauses (is_session words) (in_grammar spelled words) (is_merge merging words) Read before after counts0 counts1 st →
@@ -182,7 +179,7 @@ module _ (Stands : Contents → State → Type 0) (Damages Firsts : Contents →
           complete = completes Before After Counts0 Counts1 status.NoMemory (λ s input w d tells now. inl (record { contents = refl; written = refl })) causes;
           crash = λ s input w d e tells now left. inl left;
           few_reads = λ single c d s input n told now stands is bounded. omega arith;
-          vouches = λ on d input now is. tt;
+          vouches = λ on d now. tt;
         }
       where
         by_session : (b : Bool) → LeavesRecords b told told status.NoMemory
@@ -206,7 +203,7 @@ module _ (Stands : Contents → State → Type 0) (Damages Firsts : Contents →
           complete = completes Before After Counts0 Counts1 status.SourceFault (λ s input w d tells now. record { contents = refl; written = refl }) causes;
           crash = λ s input w d e tells now left. inl left;
           few_reads = λ single c d s input n told now stands is bounded. omega arith;
-          vouches = λ on d input now is. tt;
+          vouches = λ on d now. tt;
         }
 
     pub too_long : (Read ≡ true) × Past left0 left1 → (in_grammar spelled words ≡ false → ⊥) → Idle status.TooLong
@@ -222,7 +219,7 @@ module _ (Stands : Contents → State → Type 0) (Damages Firsts : Contents →
           complete = completes Before After Counts0 Counts1 status.TooLong (λ s input w d tells now. record { contents = refl; written = refl }) causes;
           crash = λ s input w d e tells now left. inl left;
           few_reads = λ single c d s input n told now stands is bounded. omega arith;
-          vouches = λ on d input now is. tt;
+          vouches = λ on d now. tt;
         }
 
   module _ {K : Type 0} (contents : K → Option Contents) (leaves : K → Contents → Type 0) (faults asked : K → ℕ) (old new : K) (left0 left1 w0 w1 : Option (List ℕ)) (s0 s1 o0 o1 : ℕ) (payload : List ℕ) (script : Script) (result : Status)
@@ -260,6 +257,18 @@ module _ (Stands : Contents → State → Type 0) (Damages Firsts : Contents →
     vouch true on is_script d now = cc
     vouch false on is_script d now = subst (λ x. VouchesIf Stands Firsts (Does does) x (script_vouching vouching x) (contents new) w0 w1 result) is_script run.vouches on d now
 
+    with_source : (d : Contents) (st : Status) → VouchesBare Stands Firsts (does words payload) d w0 w1 st → VouchesBare Stands Firsts (ComesTo (does words) Read left0 left1) d w0 w1 st
+    with_source d status.Ok v = record { state = v.state; stands = v.stands; outcome = v.outcome; is = (payload, feeds, v.is); status = v.status; written = v.written }
+    with_source d status.Refused v = v
+    with_source d status.Usage v = v
+    with_source d status.Conflicts v = v
+    with_source d status.SourceFault v = v
+    with_source d status.SinkFault v = v
+    with_source d status.StoreFault v = v
+    with_source d status.NoMemory v = v
+    with_source d status.Damaged v = v
+    with_source d status.TooLong v = v
+
     run_causes : HasCauses (is_session words) (in_grammar spelled words) (is_merge merging words) Read Start Stop First Last result
     run_causes = record {
       usage = λ ends. sym (spelled_of (is_session words) takes spelled words payload script is) ∙ run.usage ends;
@@ -288,7 +297,7 @@ module _ (Stands : Contents → State → Type 0) (Damages Firsts : Contents →
         | inr after ↦ inr (script, script_is input tells.left, after)
       ];
       few_reads = λ single c d s input n told now stands is_told bounded. few (is_session words) single c d s n told now stands is (subst (λ p. bounds words p s n) (sym (given Read left0 left1 input payload is_told feeds).0) bounded);
-      vouches = λ on d input now is_told. subst (λ p. VouchesBare Stands Firsts (does words p) d w0 w1 result) (given Read left0 left1 input payload is_told feeds).0 (vouch (is_session words) on is d now);
+      vouches = λ on d now. with_source d result (vouch (is_session words) on is d now);
     }
 
   -- the same by the answer to whether the source is read

@@ -218,7 +218,6 @@ AsksFew Stands Bounded session reads before after counts0 counts1 = session ≡ 
 abbrev pub VouchesBare : (Contents → State → Type 0) → (Contents → List ℕ → Type 0) → (State → Outcome → Type 0) → Contents → Option (List ℕ) → Option (List ℕ) → Status → Type 0
 VouchesBare Stands Firsts Outcomes d written0 written1 result = ByVouch result (Vouched Stands Outcomes Plain d written0 written1 result) (ShowsDamage Firsts d written0 written1)
 
--- the same of words, whatever the records are; `Outcomes` says what the words with an input come to
-abbrev pub Vouches : (Contents → State → Type 0) → (Contents → List ℕ → Type 0) → (List ℕ → State → Outcome → Type 0) → Bool → Bool → Told → Told → Status → Type 0
-Vouches Stands Firsts Outcomes vouched reads before after result = vouched ≡ true → (d : Contents) (input : List ℕ) → after.contents ≡ Some d → OnTrue reads (before.left ≡ Some input) →
-    VouchesBare Stands Firsts (Outcomes input) d before.written after.written result
+-- the same of words that vouch, whatever the records are that are told at the end
+abbrev pub Vouches : (Contents → State → Type 0) → (Contents → List ℕ → Type 0) → (State → Outcome → Type 0) → Bool → Told → Told → Status → Type 0
+Vouches Stands Firsts Outcomes vouched before after result = vouched ≡ true → (d : Contents) → after.contents ≡ Some d → VouchesBare Stands Firsts Outcomes d before.written after.written result

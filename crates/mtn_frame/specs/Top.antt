@@ -34,6 +34,10 @@ abbrev pub Feeds : Bool → Option (List ℕ) → Option (List ℕ) → List ℕ
 Feeds true old new payload = Consumes old new payload × IsAtEnd new
 Feeds false old new payload = (payload ≡ []) × (new ≡ old)
 
+-- what words come to with what was given of the source
+abbrev pub ComesTo : (List ℕ → State → Outcome → Type 0) → Bool → Option (List ℕ) → Option (List ℕ) → State → Outcome → Type 0
+ComesTo Outcomes reads old new s o = (input : List ℕ) × Feeds reads old new input × Outcomes input s o
+
 -- a source that is not read is as it was
 abbrev pub Unread : Bool → Option (List ℕ) → Option (List ℕ) → Type 0
 Unread reads old new = reads ≡ false → new ≡ old
@@ -50,4 +54,4 @@ pub record Runs (Stands : Contents → State → Type 0) (Damages Firsts : Conte
   pub complete : Completes Stands Is Scripts read before after counts0 counts1 result
   pub crash : Survives Stands Is Scripts read before after may0 may1
   pub few_reads : AsksFew Stands Bounded session read before after counts0 counts1
-  pub vouches : Vouches Stands Firsts Outcomes vouched read before after result
+  pub vouches : Vouches Stands Firsts (ComesTo Outcomes read before.left after.left) vouched before after result
