@@ -25,7 +25,7 @@ use Rattle.mtn_model.specs.Table.{Contents}
 use Rattle.mtn_records.specs.declared.record.RosterRecord.{RosterRecord}
 use Rattle.mtn_records.specs.declared.record.RosterRecord.TheVariants.{Whole, Delta}
 use Rattle.mtn_replay.specs.Lawful.{IsNext}
-use Rattle.mtn_replay.specs.Making.{place_of, parents_of, unknown_parent, bad_change, log_full, made, made_tree, tree_refusal}
+use Rattle.mtn_replay.specs.Making.{place_of, parents_of, unknown_parent, bad_change, bad_join, log_full, made, made_tree, tree_refusal}
 use Rattle.mtn_replay.proofs.Histories.{history_is_grown}
 use Rattle.mtn_replay.proofs.Places.{place_within, no_place}
 use Rattle.mtn_replay.proofs.Steps.{both_none, join_none, accepted_steps}
@@ -231,3 +231,20 @@ module _ (f : List ℕ → List ℕ) (c : Contents) (r : ℕ) (front : Front) (j
             (accepted_steps front.history grown job.id (no_place front.history job.id behind.fresh) v.edges read.spelled.lawful behind.named b.0 b.1);
         marked = k.marked;
       })
+
+-- what is kept of the next revision, but for its numbers
+unnumbered : (h : List Revision) (ks : List Kept) (v : Revision) (new : Kept) → IsKeptNext h ks v new → IsKeptUnnumbered h v (Whole new.entries)
+unnumbered h ks v new k = record { entries = new.entries; whole = refl; marks = k.marks; marked = k.marked; spelled = k.numbered.spells }
+
+pub due_agrees : (f : List ℕ → List ℕ) (c : Contents) (r : ℕ) (front : Front) (job : CheckJob) (v : Revision) (new : Kept) → StandsTo f c r front →
+    (n : IsNext f (c 2) front.history (logged_of job) v) → IsJobBehind front n.read.edges job → IsKeptNext front.history front.kept v new → job.stored ≡ Whole new.entries → IsAgreeing job
+due_agrees f c r front job v new stands n behind k is =
+    let h = front.history in
+    let edges = n.read.edges in
+    let a = both_none (log_full h) _ n.accepted in
+    let b = both_none (unknown_parent h edges) _ a.1 in
+    let d = both_none (bad_change h 1 edges) _ b.1 in
+    let e = both_none (bad_join h job.id edges) _ d.1 in
+    kept_agrees f c r front job n.read stands (record { spelled = n.spells.reads; ids = n.spells.stanzas }) behind
+    (join_none (bad_change h 1 edges) (bad_join h job.id edges) d.0 e.0)
+    (subst (IsKeptUnnumbered h (made h job.id edges)) (sym is) (subst (λ w. IsKeptUnnumbered h w (Whole new.entries)) n.made (unnumbered h front.kept v new k)))

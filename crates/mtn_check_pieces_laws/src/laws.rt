@@ -30,6 +30,13 @@ pub fn kept_agrees()
         edges_refusal front.history job.id v.edges ≡ None → IsKeptUnnumbered front.history (made front.history job.id v.edges) job.stored → IsAgreeing job }
 {}
 
+/// So over a lawful text whose stored record is the one that is due, the job agrees.
+pub fn due_agrees()
+    ensures { (f : List ℕ → List ℕ) (c : Contents) (r : ℕ) (front : Front) (job : CheckJob) (v : Made) (new : Kept) → StandsTo f c r front →
+        (n : IsNext f (c 2) front.history (logged_of job) v) → IsJobBehind front n.read.edges job → IsKeptNext front.history front.kept v new →
+        job.stored ≡ RosterRecord.Whole new.entries → IsAgreeing job }
+{}
+
 /// With the numbers that are due, it is what is kept of the next revision.
 pub fn numbered_is_kept()
     ensures { (h : List Made) (ks : List Kept) (v : Made) (new : Kept) → length ks ≡ length h → IsKeptUnnumbered h v (RosterRecord.Whole new.entries) → AreNumbersDue ks v new →

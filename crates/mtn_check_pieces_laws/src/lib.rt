@@ -5,10 +5,11 @@
 //! (`specs/Behind.antt`).
 //!
 //! The code of the check, which is to come, relies on this: where such a job agrees, its text makes that tree with those marks of
-//! the history, so that neither is made again. What is left to the check are the limits of the tree, the files, the manifest's id
-//! and the numbers of nodes, all of the stored roster.
+//! the history, so that neither is made again; and a job agrees wherever its text is lawful and its record the one that is due.
+//! What is left to the check are the limits of the tree, the files, the manifest's id and the numbers of nodes, all of the stored
+//! roster.
 #![tactic(auto)]
 
 mod laws;
 
-pub use laws::{agreeing_is_kept, agreeing_is_lawful, kept_agrees, numbered_is_kept};
+pub use laws::{agreeing_is_kept, agreeing_is_lawful, due_agrees, kept_agrees, numbered_is_kept};
