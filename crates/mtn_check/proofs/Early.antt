@@ -1,13 +1,12 @@
 -- The steps before the walk along the log.
 use Rattle.std.specs.Prelude.{nat_lt}
-use Rattle.std.proofs.Common.{◌≡◌, ◌<◌, ◌≤◌, ◌+◌, ◌⊎◌, ⊎_elim, inl, inr, ℕ, Bool, true, false, List, [], ◌∷◌, Option, Some, None, refl, sym, ap, ◌∙◌, subst, arith}
+use Rattle.std.proofs.Common.{◌≡◌, ◌<◌, ◌≤◌, ⊎_elim, ℕ, Bool, true, false, List, Option, Some, None, refl, sym, subst, arith}
 use Rattle.std.proofs.lemmas.Bool.Decides.{nat_tests}
 use Rattle.mtn_model.specs.Table.{Contents, body_at}
-use Rattle.mtn_ports.specs.Kept.{AreKeyed, IsAbove}
+use Rattle.mtn_ports.specs.Kept.{AreKeyed}
 use Rattle.mtn_history.specs.Meta.{VersionDamage, count_key, version, version_key}
 use Rattle.mtn_history.specs.Stands.{IsOther}
 use Rattle.mtn_history.specs.declared.errors.Damage.{Damage}
-use Rattle.mtn_history.specs.declared.errors.Damage.TheVariants.{Bad}
 use Rattle.mtn_check_laws.specs.Records.{AllKeep, IsFirstBreak, Rule}
 use Rattle.mtn_check_laws.specs.FirstDamage.{IsFirstDamage, IsMetaKey, IsUsed, NoRecord, in_files, in_meta, in_new, in_others, in_version}
 use Rattle.mtn_check.specs.Tables.{AllIn, AreEmpty, IsBreakIn, IsFirstOf, KeyRule}
@@ -38,6 +37,9 @@ module _ (t : ℕ) (rule : KeyRule) (c : Contents) where
 
 -- ---- no record
 
+used : (n : ℕ) → 1 ≤ n → n < 9 → IsOther n → ⊥
+used n le lt o = omega (arith, le, lt, o.meta, o.files, o.texts, o.log, o.rosters, o.older, o.keys, o.certs)
+
 module _ (c : Contents) (keyed : AreKeyed c) where
   none_beyond : (n : ℕ) → AreEmpty n 256 c → (t : ℕ) (k : List ℕ) → n ≤ t → body_at c t k ≡ None
   none_beyond n empty t k le = by (nat_lt t 256) refl
@@ -57,9 +59,6 @@ module _ (c : Contents) (keyed : AreKeyed c) where
       by true b is_low is = low t k (omega arith) (grind (arith, nat_tests))
       by false true is_low is = absurd (used t (grind (arith, nat_tests)) (grind (arith, nat_tests)) other)
       by false false is_low is = none_beyond 9 high t k (grind (arith, nat_tests))
-
-      used : (n : ℕ) → 1 ≤ n → n < 9 → IsOther n → ⊥
-      used n le lt o = omega (arith, le, lt, o.meta, o.files, o.texts, o.log, o.rosters, o.older, o.keys, o.certs)
 
   pub all_used : AreEmpty 0 1 c → AreEmpty 9 256 c → AllKeep IsUsed c
   all_used low high t k b at other = clash (body_at c t k) b at (no_other low high t k other)
@@ -124,9 +123,6 @@ module _ (c : Contents) (d : Damage) where
     earlier = λ t k b before at other. clash (body_at c t k) b at (⊎_elim (λ lt. lesser t k lt other) (λ r. subst (λ x. body_at c x k ≡ None) (sym r.0) (f.keys k r.1)) before);
   }
     where
-      used : (n : ℕ) → 1 ≤ n → n < 9 → IsOther n → ⊥
-      used n le lt o = omega (arith, le, lt, o.meta, o.files, o.texts, o.log, o.rosters, o.older, o.keys, o.certs)
-
       lesser : (t : ℕ) (k : List ℕ) → t < f.table → IsOther t → body_at c t k ≡ None
       lesser t k lt other = by (nat_lt t 1) (nat_lt t 9) refl refl
         where

@@ -1,10 +1,10 @@
 -- The steps behind the walk along the log.
-use Rattle.std.proofs.Common.{◌≡◌, ℕ, List, refl}
+use Rattle.std.proofs.Common.{ℕ, List}
 use Rattle.mtn_model.specs.Table.{Contents}
 use Rattle.mtn_history.specs.declared.errors.Damage.{Damage}
 use Rattle.mtn_check_laws.specs.Records.{AllKeep}
 use Rattle.mtn_check_laws.specs.Fronts.{Front, IsFrontAt, StandsTo}
-use Rattle.mtn_check_laws.specs.FirstDamage.{IsCertOf, IsNameRecord, IsPlacedIn, IsWalked, in_certs, in_names, unplaced}
+use Rattle.mtn_check_laws.specs.FirstDamage.{IsCertOf, IsNameRecord, in_certs, in_names, unplaced}
 use Rattle.mtn_check.specs.Tables.{AllIn, IsBreakIn, KeyRule}
 use Rattle.mtn_check.specs.Steps.{ArePlaced, IsCertIn, IsLateDamage, IsRightBeside, IsTextOf, IsUnplaced, NameRule, PlaceRule}
 use Rattle.mtn_check.proofs.Early.{break_in, keep_in}

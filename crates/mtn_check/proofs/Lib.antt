@@ -5,5 +5,6 @@ pub mod Emptying
 pub mod Numbers
 pub mod Early
 pub mod Placing
+pub mod Certs
 pub mod Late
 pub mod Whole

@@ -1,28 +1,25 @@
 -- The records of positions, and those that no position has.
 use Rattle.std.specs.Prelude.{IsSome, is_some, slice_get}
-use Rattle.std.proofs.Common.{◌≡◌, ◌<◌, ◌≤◌, ◌^◌, ◌⊎◌, ⊎_elim, inl, inr, ℕ, Bool, true, false, List, [], ◌++◌, length, drop, Option, Some, None, refl, sym, ap, ◌∙◌, subst, arith}
-use Rattle.mtn_base.specs.Hex.{id_of}
+use Rattle.std.proofs.Common.{◌≡◌, ◌<◌, ⊎_elim, ℕ, true, List, [], ◌++◌, length, drop, Option, Some, None, refl, sym, ap, ◌∙◌, subst, arith}
 use Rattle.mtn_history_laws.specs.History.{Revision}
 use Rattle.mtn_model.specs.State.{Logged}
 use Rattle.mtn_model.specs.Table.{Contents, body_at}
 use Rattle.mtn_records.specs.Fields.{number_text}
-use Rattle.mtn_records.specs.Bounds.{IsLogAt}
 use Rattle.mtn_records.specs.Records.{log_text}
 use Rattle.mtn_records.specs.RecordsApart.{log_apart}
 use Rattle.mtn_records.specs.declared.record.LogRecord.{LogRecord}
 use Rattle.mtn_replay.proofs.Places.{inside, within}
 use Rattle.mtn_replay.specs.Texts.{text_under}
 use Rattle.mtn_history.specs.Logs.{IsLogged}
-use Rattle.mtn_history.specs.Revisions.{AreTexts, IsLogBody, Kept}
+use Rattle.mtn_history.specs.Revisions.{AreTexts}
 use Rattle.mtn_history.proofs.TextLemmas.{text_found, text_missing}
 use Rattle.mtn_history.specs.declared.errors.Damage.{Damage}
-use Rattle.mtn_history.specs.declared.errors.Damage.TheVariants.{Bad}
 use Rattle.std.proofs.lemmas.List.{append-nil}
 use Rattle.mtn_check_laws.specs.Records.{AllKeep, IsFirstBreak}
-use Rattle.mtn_check_laws.specs.Fronts.{Front, IsFrontAt, StandsTo}
-use Rattle.mtn_check_laws.specs.FirstDamage.{IsCertOf, IsCertRecord, IsPlacedIn}
-use Rattle.mtn_check.specs.Tables.{AllIn, IsBreakIn, KeyRule}
-use Rattle.mtn_check.specs.Steps.{ArePlaced, IsCertIn, IsTextOf, IsUnplaced, PlaceRule}
+use Rattle.mtn_check_laws.specs.Fronts.{Front, StandsTo}
+use Rattle.mtn_check_laws.specs.FirstDamage.{IsCertOf, IsPlacedIn}
+use Rattle.mtn_check.specs.Tables.{AllIn, IsBreakIn}
+use Rattle.mtn_check.specs.Steps.{IsCertIn, IsTextOf, PlaceRule}
 
 one_body : (o : Option (List ℕ)) (a b : List ℕ) → o ≡ Some a → o ≡ Some b → a ≡ b
 one_body o a b x y = cc

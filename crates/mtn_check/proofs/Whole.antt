@@ -1,18 +1,17 @@
 -- What the whole check comes to.
-use Rattle.std.specs.Prelude.{IfSome}
 use Rattle.std.specs.Int.{w64, to_be_bytes}
-use Rattle.std.proofs.Common.{◌≡◌, ◌<◌, ◌≤◌, ◌^◌, ◌⊎◌, inl, inr, ℕ, List, [], length, Option, Some, None, refl, sym, ap, ◌∙◌, subst, arith}
-use Rattle.mtn_model.specs.State.{State, empty_state}
+use Rattle.std.proofs.Common.{◌≡◌, ◌<◌, ◌≤◌, ◌^◌, inl, inr, ℕ, List, length, Option, Some, None, sym, ap, ◌∙◌, arith}
+use Rattle.mtn_model.specs.State.{State}
 use Rattle.mtn_model.specs.Table.{Contents, body_at}
 use Rattle.mtn_records.specs.Fields.{number_text}
 use Rattle.mtn_replay.proofs.Histories.{log_is_short}
 use Rattle.mtn_history.specs.Meta.{count_key}
-use Rattle.mtn_history.specs.Stands.{IsNew, Stands, StandsFor}
+use Rattle.mtn_history.specs.Stands.{Stands}
 use Rattle.mtn_history.specs.declared.errors.Damage.{Damage}
 use Rattle.mtn_history.proofs.MetaLemmas.{held_count, none_held}
 use Rattle.mtn_check_laws.specs.Fronts.{Front, IsFrontAt}
-use Rattle.mtn_check_laws.specs.FirstDamage.{HoldsNothing, IsBegun, IsClean, IsCount, IsDamageAt, IsFirstDamage, IsWalked, in_walk}
-use Rattle.mtn_check.specs.Steps.{Begins, Counts, IsEarlyDamage, IsLateDamage, IsRightBeside, IsWholeOf}
+use Rattle.mtn_check_laws.specs.FirstDamage.{IsBegun, IsClean, IsCount, IsDamageAt, IsFirstDamage, IsWalked, in_walk}
+use Rattle.mtn_check.specs.Steps.{Counts, IsEarlyDamage, IsLateDamage, IsRightBeside, IsWholeOf}
 use Rattle.mtn_check.proofs.Numbers.{same_number}
 
 clash : (o : Option (List ℕ)) (body : List ℕ) → o ≡ Some body → o ≡ None → ⊥

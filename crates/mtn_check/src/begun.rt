@@ -16,6 +16,7 @@ use mtn_ports::{Ident, Keeper};
 use std::alloc::Global;
 
 // That a file is within its limit, and stands under its id.
+#[derive_where(Clone, Copy)]
 struct Files<'a, I> {
     ident: &'a I,
 }

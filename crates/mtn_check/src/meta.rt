@@ -103,6 +103,6 @@ impl Test for MetaKeys {
         key: &[u8],
         _body: &[u8],
     ) -> Result<bool, StoreError> {
-        Ok(key == b"count" || key == b"version")
+        Ok(key == b"count".as_slice() || key == b"version".as_slice())
     }
 }

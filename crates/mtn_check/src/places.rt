@@ -39,6 +39,7 @@ fn is_logged<K: Keeper>(
 }
 
 // That a text is that of a revision of the log.
+#[derive(Clone, Copy)]
 struct Texts {
     count: u64,
 }
@@ -55,14 +56,16 @@ impl Test for Texts {
         key: &[u8],
         body: &[u8],
     ) -> Result<bool, StoreError> {
+        let count = self.count;
         match number_before(alloc, body)? {
-            Some(at) if at < self.count => is_logged(alloc, keeper, at, key),
+            Some(at) if at < count => is_logged(alloc, keeper, at, key),
             _ => Ok(false),
         }
     }
 }
 
 // That a key is a position of the log.
+#[derive(Clone, Copy)]
 struct Places {
     count: u64,
 }
@@ -79,8 +82,9 @@ impl Test for Places {
         key: &[u8],
         _body: &[u8],
     ) -> Result<bool, StoreError> {
+        let count = self.count;
         match number_in(alloc, key)? {
-            Some(at) => Ok(at < self.count),
+            Some(at) => Ok(at < count),
             None => Ok(false),
         }
     }

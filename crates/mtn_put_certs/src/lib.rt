@@ -7,7 +7,8 @@
 //! or the name, or answer why not, and then nothing changes (`specs/Accepting.antt`). [`certs_of`] and [`certs`] answer exactly
 //! the certificates that the state holds, [`names_of`] the names that it gives their keys, and [`key_named`] the one key that has
 //! a name (`specs/Named.antt`). [`graph_and_certs`] answers all certificates beside the graph, and shows one of a revision that the
-//! log does not have. Damage is answered only where the draft's records stand for no state.
+//! log does not have. [`read_cert`] answers the certificate whose record stands under a key. Damage is answered only where the
+//! draft's records stand for no state.
 //!
 //! Cost: a certificate that is put reads the text of its revision and its own record; a name reads its own record. One that is
 //! read is one call of the keeper; the names of keys are a record for each key, and to look for a name reads all names.
