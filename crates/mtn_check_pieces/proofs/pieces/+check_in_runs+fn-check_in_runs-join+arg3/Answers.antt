@@ -12,8 +12,8 @@ pub returns : goal.returns
 returns g t c =
     let first = c.split_at.result.0.now in
     let others = c.split_at.result.1.now in
-    let front : AreVerdicts first c.in_ok-verdicts.verdicts.items = IfOk-at_ok (λ vs. AreVerdicts first vs.items) c.in_ok-verdicts.was c.join-verdicts.ensures.first in
-    let back : AreVerdicts others c.in_ok-rest.field-0.items = IfOk-at_ok (λ vs. AreVerdicts others vs.items) c.in_ok-rest.was c.join-verdicts.ensures.second in
+    let front : AreVerdicts first c.in_ok-verdicts.verdicts.items = IfOk-at_ok (λ vs. AreVerdicts first vs.items) {r = c.join-verdicts.result.0} c.in_ok-verdicts.was c.join-verdicts.ensures.first in
+    let back : AreVerdicts others c.in_ok-rest.field-0.items = IfOk-at_ok (λ vs. AreVerdicts others vs.items) {r = c.join-verdicts.result.1} c.in_ok-rest.was c.join-verdicts.ensures.second in
     ok_then c.in_a_row.result _ _ (λ vs is.
     subst (λ (js : List CheckJob). AreVerdicts js vs.items) (sym c.split_at.ensures.by_index.0)
     (subst (λ (v : List Verdict). AreVerdicts (first ++ others) v) (sym is)
