@@ -66,7 +66,7 @@ for query in erase_ancestors toposort leaves roots graph; do
     row "$query of nothing" 0 'unread' '' - $query
 done
 
-for words in '' 'head' 'heads' 'put_file x' 'put_file --x' 'put_file --x=' 'put_file --resolve' 'put_file -- x' 'put_file -- --' 'get_file' 'get_revision' 'get_revision ABC' 'get_manifest_of' 'get_manifest_of ABC' "get_manifest_of $abc x" 'get_roster' 'get_roster ABC' "get_roster $abc x" "get_content_changed $abc" "get_content_changed $abc a//b" "get_content_changed $abc ./a" "get_content_changed a $abc" "get_corresponding_path $abc a" "get_corresponding_path $abc a/.. $abc" "get_corresponding_path $abc a ABC" "get_revision $abc $abc" 'get_file ABC' "get_file $abc x" "get_file $abc --" "get_file --x= $abc" 'get_file --' 'PUT_FILE' '-- put_file' parents "parents $abc $abc" children ancestors descendents common_ancestors ancestry_difference 'toposort x' "leaves $abc" "roots $abc" "graph $abc" merge "merge $abc" "merge $abc $abc $abc" "merge $abc ABC" "merge --resolve=yes $abc $abc" "merge --x $abc $abc" "merge --resolve --resolve $abc $abc" "merge $abc $abc --resolve" 'merge --resolve' show_conflicts "show_conflicts $abc" "show_conflicts ABC $abc" "show_conflicts --resolve $abc $abc" "get_file --resolve $abc" packets 'packets ABC' "packets $abc x" "packets --resolve $abc" 'read x' 'read --resolve'; do
+for words in '' 'head' 'heads' 'put_file x' 'put_file --x' 'put_file --x=' 'put_file --resolve' 'put_file -- x' 'put_file -- --' 'get_file' 'get_revision' 'get_revision ABC' 'get_manifest_of' 'get_manifest_of ABC' "get_manifest_of $abc x" 'get_roster' 'get_roster ABC' "get_roster $abc x" "get_content_changed $abc" "get_content_changed $abc a//b" "get_content_changed $abc ./a" "get_content_changed a $abc" "get_corresponding_path $abc a" "get_corresponding_path $abc a/.. $abc" "get_corresponding_path $abc a ABC" "get_revision $abc $abc" 'get_file ABC' "get_file $abc x" "get_file $abc --" "get_file --x= $abc" 'get_file --' 'PUT_FILE' '-- put_file' parents "parents $abc $abc" children ancestors descendents common_ancestors ancestry_difference 'toposort x' "leaves $abc" "roots $abc" "graph $abc" merge "merge $abc" "merge $abc $abc $abc" "merge $abc ABC" "merge --resolve=yes $abc $abc" "merge --x $abc $abc" "merge --resolve --resolve $abc $abc" "merge $abc $abc --resolve" 'merge --resolve' show_conflicts "show_conflicts $abc" "show_conflicts ABC $abc" "show_conflicts --resolve $abc $abc" "get_file --resolve $abc" packets 'packets ABC' "packets $abc x" "packets --resolve $abc" 'read x' 'read --resolve' generate 'generate 0' 'generate 01' 'generate 2001' 'generate -1' 'generate 4 4' 'generate --resolve 4' 'check x' 'check --all'; do
     # shellcheck disable=SC2086
     row "outside the grammar: '$words'" 2 'never read' 'usage\n' - $words
 done
@@ -209,7 +209,7 @@ for round in $(seq 20); do verdict "killed, round $round" killed; done
 
 # ---- a store that is missing, or may not be written
 
-asked="get_file $abc;get_revision $abc;get_manifest_of $abc;get_roster $abc;get_content_changed $abc a;get_corresponding_path $abc a $abc;show_conflicts $abc $abc;parents $abc;children $abc;ancestors $abc;descendents $abc;common_ancestors $abc;erase_ancestors;toposort;ancestry_difference $abc;leaves;roots;graph;certs $abc;heads main;branches;packets $abc"
+asked="get_file $abc;get_revision $abc;get_manifest_of $abc;get_roster $abc;get_content_changed $abc a;get_corresponding_path $abc a $abc;show_conflicts $abc $abc;parents $abc;children $abc;ancestors $abc;descendents $abc;common_ancestors $abc;erase_ancestors;toposort;ancestry_difference $abc;leaves;roots;graph;certs $abc;heads main;branches;packets $abc;check"
 
 # asks_nothing WORD..: over a missing store a command that only asks answers as over an empty one, and makes no file.
 asks_nothing() {
@@ -265,6 +265,28 @@ shut "a missing store in such a folder is asked" 0 '' "$work/shut/none.mtn" leav
 shut "and not made" 6 '' "$work/shut/none.mtn" put_file
 verdict "both stores are as they were" test "$(cat "$work/open/s.mtn" "$work/shut/s.mtn" | sha1sum)" = "$(cat "$work/made.mtn" "$work/made.mtn" | sha1sum)"
 
+# ---- a generated history
+
+generated() { python3 -B -c "import sys; sys.path.insert(0, 'tests'); from generated import generated; sys.stdout.buffer.write(generated($1).summary())"; }
+for count in 1 2 3 4 5 8 41 2000; do
+    row "a history of $count revisions" 0 unread "$(generated $count)\\n" - generate $count
+done
+row "into a file, the same" 0 '' "$(generated 2000)\\n" "$work/large.mtn" generate 2000
+row "a store with a history is refused" 1 '' 'refused StoreNotEmpty 2000\n' "$work/large.mtn" generate 4
+row "files alone are no history" 0 '' "$(generated 4)\\n" "$store" generate 4
+verdict "sqlite3 finds it whole" asks "$work/large.mtn" 'PRAGMA integrity_check' ok
+row "and so does a check" 0 unread 'ok 2000\n' "$work/large.mtn" check
+verdict "the commands one by one make the same records" python3 -B -c "
+import subprocess, sys, sqlite3
+sys.path.insert(0, 'tests')
+from generated import generated
+from sessions import request
+made = generated(2000)
+session = b''.join(request(*words, *([payload] if words[0].startswith('put') else [])) for words, payload in made.commands)
+subprocess.run(['./mtn', '$work/one_by_one.mtn', 'stdio'], input=session, stdout=subprocess.DEVNULL, check=True)
+held = [sqlite3.connect('$work/%s.mtn' % name).execute('SELECT * FROM kept ORDER BY kind, name').fetchall() for name in ('large', 'one_by_one')]
+sys.exit(held[0] != held[1])"
+
 # ---- help, version and the walks in the documents
 
 ./mtn --help >"$work/help"
@@ -274,7 +296,7 @@ while IFS= read -r words; do
     verdict "help lists $name" grep -q "^  $name " "$work/help"
     ./mtn --help "$name" >"$work/out"
     verdict "and says more of it" test $? = 0 -a "$(head -n 1 "$work/out" | cut -d' ' -f1)" = "$name" -a "$(wc -l <"$work/out")" -gt 1
-done <<<"put_file"$'\n'"put_revision"$'\n'"merge"$'\n'"key"$'\n'"cert"$'\n'"commit"$'\n'"merge_heads"$'\n'"read"$'\n'"stdio"$'\n'"${asked//;/$'\n'}"
+done <<<"put_file"$'\n'"put_revision"$'\n'"merge"$'\n'"key"$'\n'"cert"$'\n'"commit"$'\n'"merge_heads"$'\n'"read"$'\n'"generate"$'\n'"stdio"$'\n'"${asked//;/$'\n'}"
 for status in 0 1 2 3 4 5 6 7 8 9; do
     ./mtn --explain "$status" >"$work/out"
     verdict "status $status is explained" test $? = 0 -a "$(head -c 2 "$work/out")" = "$status "
@@ -286,7 +308,7 @@ row "the version" 0 '' 'mtn 0.1.0 (Sonnavil), store format 2\n' --version
 verdict "a store's record says the same format" asks "$store" "SELECT CAST(body AS TEXT) FROM kept WHERE kind = 1 AND name = CAST('version' AS BLOB)" 2
 
 # The walks in the documents, and histories, made and asked for; the rows of each script count here.
-for script in walk revisions merged_rows cert_rows packet_rows random_histories sessions; do
+for script in walk revisions merged_rows cert_rows packet_rows check_rows random_histories sessions; do
     told=$(python3 "tests/$script.py")
     ended=$?
     echo "$script: $told"

@@ -3,7 +3,7 @@ use mtn_base::Bytes;
 
 // Their names.
 const ASKING: &str =
-    "get_file get_revision get_manifest_of get_roster get_content_changed get_corresponding_path show_conflicts parents children ancestors descendents common_ancestors erase_ancestors toposort ancestry_difference leaves roots graph certs heads branches packets";
+    "get_file get_revision get_manifest_of get_roster get_content_changed get_corresponding_path show_conflicts parents children ancestors descendents common_ancestors erase_ancestors toposort ancestry_difference leaves roots graph certs heads branches packets check";
 
 /// Whether the first word is a command that only asks. A store that is not there is not made for it; for any other word,
 /// one that is not known here too, it is.

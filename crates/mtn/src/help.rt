@@ -49,6 +49,14 @@ From one store to another:
   read                 keeps what the packets of the input hold, all or nothing;
                        prints how many files, revisions and certificates are new
 
+Of the store itself:
+  check                prints `ok` and the number of revisions where every record
+                       is the one that is due; else the first damage
+
+To try things on:
+  generate N           makes a history of N revisions, 1 to 2000, with merges, in
+                       a store without any; prints what it made
+
 Queries of the graph; each prints ids, one a line, in ascending order unless it
 says log order, which is that of acceptance:
   parents REV                     its parents
@@ -217,6 +225,20 @@ read <PACKETS
   and the id of that), InPacket (with the number of a packet, and for what
   put_file or put_revision refuses what it holds; a certificate for the first of
   TextTooLong, UnknownRevision, UnknownKey).
+
+check
+  Looks at every record of the store: each has to be the one that the files, the
+  texts of the revisions, the key names and the certificates make due. Nothing is
+  written.
+  Prints ok N, N the number of revisions; or, with status 8, the first damage.
+
+generate N
+  Makes a history of N revisions, 1 to 2000, in a store without any, all of it
+  or nothing: a root with ten files, and then in turn a patch on the left side,
+  an attribute on the right side, their merge and a renaming. The same N makes
+  the same history everywhere.
+  Prints revisions N, merges M, files F, last ID, a line each.
+  Refused: StoreNotEmpty (with the number of revisions), Collision.
 
 parents REV
   Prints the parents of a revision, ascending.
