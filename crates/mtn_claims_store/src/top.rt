@@ -1,11 +1,12 @@
 //! The top call.
 ghost use Rattle.std.specs.Prelude.{◌≡◌, IfOk};
-ghost use Rattle.mtn_cli.specs.Run.{HeadsMergesAreDecided, MergesAreDecided, OrderFree, Outcomes, ReadsPackets, Scripts, StaysLawful, is_read};
-ghost use Rattle.mtn_cli.specs.Store.{IsLine, ShowsDamage, is_merging, is_spelled};
+ghost use Rattle.mtn_cli.specs.Run.{ChecksAreSound, ChecksStore, HeadsMergesAreDecided, MergesAreDecided, OrderFree, Outcomes, ReadsPackets, Scripts, StaysLawful, is_read};
+ghost use Rattle.mtn_cli.specs.Step.{Step};
+ghost use Rattle.mtn_cli.specs.Store.{IsFirstLine, IsLine, ShowsDamage, is_checking, is_merging, is_spelled};
 ghost use Rattle.mtn_words.specs.Words.{Reads, command_of};
-ghost use Rattle.mtn_frame.specs.Frame.{Completes, HasCauses, LeavesRecords, Meets, Survives, TellsDamage, Writes};
+ghost use Rattle.mtn_frame.specs.Frame.{Completes, HasCauses, LeavesRecords, Meets, Survives, TellsDamage, Vouches, Writes};
 ghost use Rattle.mtn_frame.specs.Script.{is_session as session_words};
-ghost use Rattle.mtn_frame.specs.Top.{in_grammar, is_merge};
+ghost use Rattle.mtn_frame.specs.Top.{ComesTo, in_grammar, is_merge, is_vouch};
 ghost use Rattle.mtn_history.specs.Stands.{Stands};
 
 use mtn_base::{Bytes, NoMemory};
@@ -30,7 +31,7 @@ pub fn run<R: Threads + Sync, I: Ident, S: Source, O: Sink, K: Keeper>(
         (record { contents = K.contents keeper.new; left = S.left source.new; written = O.written sink.new }) result }
     ensures same { LeavesRecords (session_words words.now) (K.contents keeper.old) (K.contents keeper.new) result }
     ensures written { Writes IsLine (session_words words.now) (O.written sink.old) (O.written sink.new) result }
-    ensures damage { TellsDamage (ShowsDamage (I.meaning ident.now) (ReadsPackets words.now (S.left source.old) (S.left source.new))) (session_words words.now)
+    ensures damage { TellsDamage (ShowsDamage (I.meaning ident.now) (ReadsPackets words.now (S.left source.old) (S.left source.new)) (ChecksStore words.now (S.left source.old) (S.left source.new))) (session_words words.now)
         (record { contents = K.contents keeper.old; left = S.left source.old; written = O.written sink.old })
         (record { contents = K.contents keeper.new; left = S.left source.new; written = O.written sink.new }) result }
     ensures lawful { StaysLawful (I.meaning ident.now) (K.contents keeper.old) (K.contents keeper.new) }
@@ -48,6 +49,12 @@ pub fn run<R: Threads + Sync, I: Ident, S: Source, O: Sink, K: Keeper>(
         (record { contents = K.contents keeper.old; left = S.left source.old; written = O.written sink.old })
         (record { contents = K.contents keeper.new; left = S.left source.new; written = O.written sink.new })
         (K.leaves keeper.old) (K.leaves keeper.new) }
+    ensures vouches { Vouches (Stands (I.meaning ident.now)) (IsFirstLine (I.meaning ident.now)) (ComesTo (Step (I.meaning ident.now) words.now) (is_read words.now) (S.left source.old) (S.left source.new)) (is_vouch is_checking words.now)
+        (record { contents = K.contents keeper.old; left = S.left source.old; written = O.written sink.old })
+        (record { contents = K.contents keeper.new; left = S.left source.new; written = O.written sink.new }) result }
+    ensures checks { ChecksAreSound (I.meaning ident.now) words.now
+        (record { contents = K.contents keeper.old; left = S.left source.old; written = O.written sink.old })
+        (record { contents = K.contents keeper.new; left = S.left source.new; written = O.written sink.new }) result }
     ensures order_free { OrderFree (I.meaning ident.now) words.now }
     ensures merges { MergesAreDecided (I.meaning ident.now) words.now
         (record { contents = K.contents keeper.old; left = S.left source.old; written = O.written sink.old })

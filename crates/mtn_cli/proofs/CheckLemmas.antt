@@ -1,6 +1,6 @@
 -- The check of the whole store, from what it finds.
-use Rattle.std.specs.Prelude.{IfErr, IfOk, IfSome, ⊤, codes, decimal}
-use Rattle.std.proofs.Common.{◌≡◌, ◌≢◌, inl, inr, ℕ, Bool, true, false, List, [], ◌∷◌, ◌++◌, length, Option, Some, None, Result, Ok, Err, refl, sym, ap, ◌∙◌, subst}
+use Rattle.std.specs.Prelude.{IfSome, ⊤, codes, decimal}
+use Rattle.std.proofs.Common.{◌≡◌, ◌≢◌, inl, inr, ℕ, true, false, List, [], ◌∷◌, ◌++◌, length, Option, Some, Result, Ok, Err, refl, sym, ap, ◌∙◌, subst}
 use Rattle.mtn_check_laws.specs.FirstDamage.{IsFirstDamage}
 use Rattle.mtn_commands.specs.Drafts.{may_conflict, reads_packets}
 use Rattle.mtn_commands.specs.declared.error.CommandError.TheVariants.{Store}
@@ -10,14 +10,11 @@ use Rattle.mtn_frame.specs.declared.works.Worked.{Worked}
 use Rattle.mtn_frame.specs.declared.works.WorkError.{WorkError}
 use Rattle.mtn_frame.specs.declared.works.WorkError.TheVariants as work
 use Rattle.mtn_history.specs.Damage.{IsShown}
-use Rattle.mtn_history.specs.Errors.{IfDamage, IfStoreDamage}
+use Rattle.mtn_history.specs.Errors.{IfDamage}
 use Rattle.mtn_history.specs.Stands.{Stands}
 use Rattle.mtn_history.specs.declared.errors.Damage.{Damage}
-use Rattle.mtn_history.specs.declared.errors.HistoryError.{HistoryError}
-use Rattle.mtn_history.specs.declared.errors.HistoryError.TheVariants as history
 use Rattle.mtn_history.specs.declared.errors.StoreError.{StoreError}
 use Rattle.mtn_history.specs.declared.errors.StoreError.TheVariants.{Failed, Damaged, NoMemory}
-use Rattle.mtn_model.specs.Outcome.{Outcome}
 use Rattle.mtn_model.specs.State.{State}
 use Rattle.mtn_model.specs.Table.{Contents}
 use Rattle.mtn_ports.specs.Causes.{Rose}

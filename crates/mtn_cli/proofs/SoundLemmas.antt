@@ -3,7 +3,6 @@ use Rattle.std.proofs.Common.{◌≡◌, ℕ, Bool, true, ◌&&◌, not, List, O
 use Rattle.std.specs.Io.KnownBytes.{Appends}
 use Rattle.mtn_frame.specs.Frame.{Told, Vouches, VouchesBare}
 use Rattle.mtn_frame.specs.Kinds.{ByVouch}
-use Rattle.mtn_frame.specs.Script.{is_session}
 use Rattle.mtn_frame.specs.Top.{ComesTo, is_vouch}
 use Rattle.mtn_model.specs.Outcome.{Outcome}
 use Rattle.mtn_model.specs.Table.{Contents}
