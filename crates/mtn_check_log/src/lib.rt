@@ -4,6 +4,14 @@
 //! spell; a damage is the first of the first position that has one; and the keeper is only asked.
 #![tactic(auto)]
 
+mod again;
+mod below;
+mod checked;
+mod damaged;
+mod due;
+mod entry;
+mod position;
+mod shown;
 mod walk;
 
 pub use walk::walk_log;
