@@ -1,9 +1,9 @@
-mod Walks
-mod Standing
-mod Cutting
-mod Certs
-mod Sound
-mod First
-mod Rosters
-mod Due
-mod Meeting
+pub mod Walks
+pub mod Standing
+pub mod Cutting
+pub mod Certs
+pub mod Sound
+pub mod First
+pub mod Rosters
+pub mod Due
+pub mod Meeting

@@ -1,11 +1,12 @@
 // The walk along the log.
-ghost use Rattle.std.specs.Prelude.{◌≡◌, ◌<◌, ◌×◌, ℕ, Err, IfErr, IfSome, OnOk};
+ghost use Rattle.std.specs.Prelude.{◌≡◌, ◌<◌, ℕ, Err, IfErr, IfSome, OnOk};
 ghost use Rattle.mtn_ports.specs.Causes.{Rose};
 ghost use Rattle.mtn_ports.specs.Kept.{Stays};
 ghost use Rattle.mtn_history.specs.Errors.{IfDamage};
 ghost use Rattle.mtn_check_laws.specs.FirstDamage.{IsBegun, IsDamageAt};
 ghost use Rattle.mtn_check_laws.specs.Fronts.{Front, IsFrontAt};
 
+use crate::checked::check_position;
 use mtn_history::StoreError;
 use mtn_ports::{Ident, Keeper};
 use std::alloc::Global;
@@ -28,6 +29,10 @@ pub fn walk_log<R: Threads + Sync, I: Ident, K: Keeper>(
         (λ d. (r : ℕ) × (front : Front) × (r < count) × IsFrontAt (I.meaning ident.now) c r front × IsDamageAt (I.meaning ident.now) c r front d))) }
     ensures failed { result ≡ Err StoreError.Failed → Rose (K.faults keeper.old) (K.faults keeper.new) }
 {
-    let _ = (rt, alloc, pieces);
-    Err(StoreError::NoMemory)
+    let _ = rt;
+    let _ = pieces;
+    for at in 0..count {
+        check_position(alloc, ident, keeper, at)?;
+    }
+    Ok(())
 }

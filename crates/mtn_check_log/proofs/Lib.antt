@@ -1,0 +1,9 @@
+pub mod Keys
+pub mod Showing
+pub mod Standing
+pub mod Accepted
+pub mod Verdicts
+pub mod Bringing
+pub mod Told
+pub mod Counting
+pub mod Walking

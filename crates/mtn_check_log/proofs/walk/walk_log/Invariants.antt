@@ -1,0 +1,10 @@
+use Rattle.std.specs.Prelude.{IfSome}
+use Rattle.mtn_ports.specs.Kept.{Stays}
+use Rattle.mtn_check_log.proofs.Walking.{IsWalkedTo}
+use Rattle.mtn_check_log.proofs.walk.walk_log.Given as goal
+
+abbrev pub invariant-loop-at : goal.invariant-loop-at
+invariant-loop-at g l = record {
+  stays : Stays g.K.Keeper.contents g.K.Keeper.leaves g.K.Keeper.faults l.fn.keeper l.keeper;
+  walked : IfSome (g.K.Keeper.contents l.keeper) (IsWalkedTo (g.I.Ident.meaning l.ident) l.count l.at);
+}
