@@ -1,16 +1,17 @@
 -- The steps before the walk along the log.
-use Rattle.std.specs.Prelude.{nat_lt}
+use Rattle.std.specs.Prelude.{IfSome, nat_lt}
 use Rattle.std.proofs.Common.{◌≡◌, ◌<◌, ◌≤◌, ⊎_elim, ℕ, Bool, true, false, List, Option, Some, None, refl, sym, subst, arith}
 use Rattle.std.proofs.lemmas.Bool.Decides.{nat_tests}
 use Rattle.mtn_model.specs.Table.{Contents, body_at}
-use Rattle.mtn_ports.specs.Kept.{AreKeyed}
+use Rattle.mtn_ports.specs.Kept.{AreKeyed, IsBody}
 use Rattle.mtn_history.specs.Meta.{VersionDamage, count_key, version, version_key}
 use Rattle.mtn_history.specs.Stands.{IsOther}
 use Rattle.mtn_history.specs.declared.errors.Damage.{Damage}
 use Rattle.mtn_check_laws.specs.Records.{AllKeep, IsFirstBreak, Rule}
-use Rattle.mtn_check_laws.specs.FirstDamage.{IsFirstDamage, IsMetaKey, IsUsed, NoRecord, in_files, in_meta, in_new, in_others, in_version}
+use Rattle.mtn_check_laws.specs.FirstDamage.{HoldsNothing, IsFirstDamage, IsMetaKey, IsUsed, NoRecord, in_files, in_meta, in_new, in_others, in_version}
 use Rattle.mtn_check.specs.Tables.{AllIn, AreEmpty, IsBreakIn, IsFirstOf, KeyRule}
 use Rattle.mtn_check.specs.Steps.{Begins, FileRule, IsEarlyDamage, MetaRule}
+use Rattle.mtn_check.proofs.Told.{each_both, each_told}
 
 clash : (o : Option (List ℕ)) (body : List ℕ) → o ≡ Some body → o ≡ None → ⊥
 clash o body there none = cc
@@ -133,9 +134,21 @@ module _ (c : Contents) (d : Damage) where
 
 -- ---- what each step comes to
 
-module _ (c : Contents) where
-  pub new_damage : (d : Damage) → body_at c 1 count_key ≡ None → IsFirstOf 0 256 c d → (f : List ℕ → List ℕ) → IsFirstDamage f c d
-  new_damage d none first f = in_new none (no_record_breaks c d first)
+abbrev pub HasNoCount : Contents → Type 0
+HasNoCount c = body_at c 1 count_key ≡ None
+
+pub new_damage : (c : Contents) (d : Damage) → HasNoCount c → IsFirstOf 0 256 c d → (f : List ℕ → List ℕ) → IsFirstDamage f c d
+new_damage c d none first f = in_new none (no_record_breaks c d first)
+
+-- what was answered for `count`
+pub no_count : (told : Option Contents) (found : Bool) (out : List ℕ) → found ≡ false → IfSome told (λ c. IsBody (body_at c 1 count_key) found out) → IfSome told HasNoCount
+no_count told found out there finds =
+    each_told told (λ c. IsBody (body_at c 1 count_key) found out) HasNoCount (λ c x. subst (λ b. IsBody (body_at c 1 count_key) b out) there x) finds
+
+pub nothing_held : (told : Option Contents) → IfSome told HasNoCount → IfSome told AreKeyed → IfSome told (AreEmpty 0 256) → IfSome told HoldsNothing
+nothing_held told none keyed empty =
+    each_both told HasNoCount (λ c. AreKeyed c × AreEmpty 0 256 c) HoldsNothing (λ c x y. record { count = x; none = no_record c y.0 y.1 }) none
+    (each_both told AreKeyed (AreEmpty 0 256) (λ c. AreKeyed c × AreEmpty 0 256 c) (λ c x y. (x, y)) keyed empty)
 
 -- what the steps so far found
 abbrev pub HasVersion : Contents → Type 0
