@@ -1,18 +1,16 @@
 -- The revisions, one behind the other.
-use Rattle.std.specs.Prelude.{IfErr, IfSome}
-use Rattle.std.proofs.Common.{◌≡◌, ◌<◌, ◌≤◌, ◌+◌, ℕ, suc, List, Option, Some, None, Result, Ok, Err, refl, sym, ap, ◌∙◌, subst, arith}
-use Rattle.mtn_generated.specs.Growing.{Adds, Answer, Grows, Onward, grown}
-use Rattle.mtn_generated.specs.Numbered.{Work as GeneratedWork, Tips as GeneratedTips, work_at}
+use Rattle.std.proofs.Common.{◌≡◌, ◌≤◌, ℕ, suc, List, Option, Some, Result, Ok, Err, sym, subst}
+use Rattle.mtn_generated.specs.Growing.{Adds, Answer, Grows, grown}
+use Rattle.mtn_generated.specs.Numbered.{Work as GeneratedWork, work_at}
 use Rattle.mtn_generated.proofs.Stopping.{stays as stop_stays}
 use Rattle.mtn_history.specs.Stands.{IsDraft}
 use Rattle.mtn_history.specs.declared.errors.HistoryError.TheVariants as history
-use Rattle.mtn_history.specs.declared.errors.StoreError.TheVariants.{Failed}
 use Rattle.mtn_history.specs.declared.pending.Pending.{Pending}
 use Rattle.mtn_model.specs.State.{State}
 use Rattle.mtn_model.specs.Table.{Contents}
 use Rattle.mtn_ports.specs.Kept.{Stays}
 use Rattle.mtn_reading.proofs.UnfitReading.{if_told}
-use Rattle.mtn_generating.specs.Generating.{Ends, Goes, Reaches}
+use Rattle.mtn_generating.specs.Generating.{Ends, Goes}
 use Rattle.mtn_generating.specs.Numbered.{tips_of, work_of}
 use Rattle.mtn_generating.specs.declared.error.GenerateError.{GenerateError}
 use Rattle.mtn_generating.specs.declared.error.GenerateError.TheVariants as error

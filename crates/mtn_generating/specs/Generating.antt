@@ -1,6 +1,5 @@
 -- What the calls of the generator answer over a draft, and what is pending then.
 use Rattle.std.specs.Prelude.{◌≡◌, ℕ, List, Option, Some, None, Result, Ok, Err, IfErr, IfSome, ⊤}
-use Rattle.mtn_base.specs.declared.refusal.Cause.{Cause}
 use Rattle.mtn_generated.specs.Growing.{Answer, Generates, Grown, files_refusal, grown, with_files}
 use Rattle.mtn_generated.specs.Growing.Stop.{Conflicting, Refused}
 use Rattle.mtn_generated.specs.Numbered.{summary_text}
@@ -9,7 +8,6 @@ use Rattle.mtn_history.specs.Stands.{IsDraft}
 use Rattle.mtn_history.specs.declared.errors.Damage.{Damage}
 use Rattle.mtn_history.specs.declared.errors.HistoryError.{HistoryError}
 use Rattle.mtn_history.specs.declared.errors.HistoryError.TheVariants as history
-use Rattle.mtn_history.specs.declared.errors.StoreError.{StoreError}
 use Rattle.mtn_history.specs.declared.errors.StoreError.TheVariants.{Failed}
 use Rattle.mtn_history.specs.declared.pending.Pending.{Pending}
 use Rattle.mtn_model.specs.State.{State}

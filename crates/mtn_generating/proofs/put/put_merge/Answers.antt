@@ -1,7 +1,5 @@
 -- The text that is planned is put, or its conflicts are the answer.
-use Rattle.std.specs.Prelude.{IfSome}
-use Rattle.std.proofs.Common.{Ok, Err, refl, sym, ap, subst}
-use Rattle.mtn_history.specs.declared.pending.Pending.{Pending}
+use Rattle.std.proofs.Common.{Err, refl, ap}
 use Rattle.mtn_generating.specs.declared.work.Work.TheVariants.{Joins}
 use Rattle.mtn_generating.proofs.GoingLemmas.{MergesBoth, conflicting, merge_ends, merge_put, never_damaged, planned_tree, shown_damage, went_wrong}
 use Rattle.mtn_generating.proofs.put.put_merge.Goals as goal
