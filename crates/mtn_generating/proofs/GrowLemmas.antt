@@ -50,7 +50,7 @@ module _ (f : List ℕ → List ℕ) {K : Type 0} (contents : K → Option Conte
       Goes f contents leaves faults old new before after (λ s. Grows f s count) (Err e)
   stopped count e most goes =
       let all = grows (Err e) goes in
-      record { stays = all.stays; done = λ c s now draft. ends_later f s i count e most (all.done c s now draft); damaged = all.damaged; failed = all.failed }
+      record { stays = all.stays; done = λ c s now draft. ends_later f s i count e most (all.done c s now draft); ordered = all.ordered; damaged = all.damaged; failed = all.failed }
 
 -- all of them
 pub ended : (f : List ℕ → List ℕ) {K : Type 0} (contents : K → Option Contents) (leaves : K → Contents → Type 0) (faults : K → ℕ) (old new : K) (before after : Pending) (n count : ℕ) (tips : Tips) → n ≡ count →
@@ -58,6 +58,7 @@ pub ended : (f : List ℕ → List ℕ) {K : Type 0} (contents : K → Option Co
 ended f contents leaves faults old new before after n count tips all stays grew = record {
   stays = stays;
   done = λ c s now draft. subst (λ k. HasGrown f c s k tips after) all (grew c s now draft);
+  ordered = tt;
   damaged = if_told (contents new) _ (λ c now. tt);
   failed = λ e. absurd cc;
 }
