@@ -8,7 +8,7 @@ use Rattle.std.specs.declared.cmp.Ordering.TheVariants.{Less}
 use Rattle.std.proofs.lemmas.Slice.Eq.{bytes_eq-Decides}
 use Rattle.mtn_base.specs.declared.refusal.Cause.TheVariants.{NoBranch}
 use Rattle.mtn_model.specs.Table.{Contents, body_at, with_record}
-use Rattle.mtn_model.specs.State.{State}
+use Rattle.mtn_model.specs.State.{State, empty_state}
 use Rattle.mtn_model.specs.Outcome.{Outcome}
 use Rattle.mtn_ports.proofs.KeptLemmas.{body_at-with_record}
 use Rattle.mtn_ports.specs.Causes.{Rose, RisesByOne}
@@ -19,7 +19,7 @@ use Rattle.mtn_frame.specs.declared.works.Worked.{Worked}
 use Rattle.mtn_frame.specs.declared.works.WorkError.{WorkError}
 use Rattle.mtn_frame.specs.declared.works.WorkError.TheVariants.{Usage, Refused, Damaged, Failed, NoMemory}
 use Rattle.mtn_frame.specs.Works.{Works, replied, misused}
-use Rattle.mtn_claims_frame.specs.Toy.{ToyDamages, ToyLines, ToyStands, checked, good_line, is_check, is_get, is_put, put_outcome, toy_found, toy_key, toy_line, toy_outcome, toy_spelled}
+use Rattle.mtn_claims_frame.specs.Toy.{ToyDamages, ToyFirst, ToyLines, ToyStands, checked, good_line, is_check, is_get, is_put, put_outcome, toy_found, toy_key, toy_line, toy_outcome, toy_spelled, toy_vouches}
 
 apart : (key : List ℕ) (b : Bool) → bytes_eq key toy_key ≡ b → IsAbove toy_key key → b ≡ false
 apart key false is above = refl
@@ -37,8 +37,8 @@ after_put c s payload stands = record { files = ap (λ m. insert m toy_key paylo
 
 module _ {K : Type 0} (contents : K → Option Contents) (leaves : K → Contents → Type 0) (faults asked : K → ℕ) (old new : K) where
   -- what a command of this set does, in the words of the frame
-  abbrev Ensures : Bool → (State → Outcome → Type 0) → Result Worked WorkError → Type 0
-  Ensures spelled Outcomes r = Works ToyStands ToyDamages ToyLines {M = Unit {0}} (λ m c. ⊤) contents leaves faults asked old new tt spelled false Outcomes (λ s n. n ≡ 1) r
+  abbrev Ensures : Bool → Bool → (State → Outcome → Type 0) → Result Worked WorkError → Type 0
+  Ensures spelled vouched Outcomes r = Works ToyStands ToyDamages ToyFirst ToyLines {M = Unit {0}} (λ m c. ⊤) contents leaves faults asked old new tt spelled false vouched Outcomes (λ s n. n ≡ 1) r
 
   abbrev Few : Type 0
   Few = (c : Contents) (s : State) (n : ℕ) → contents new ≡ Some c → ToyStands c s → n ≡ 1 → asked new ≤ asked old + n
@@ -63,38 +63,52 @@ module _ {K : Type 0} (contents : K → Option Contents) (leaves : K → Content
 
   -- ---- the command over the keeper itself
 
-  pub finds_none : (worked : Worked) → RisesByOne (asked old) (asked new) → Stays contents leaves faults old new → worked.reply ≡ record { conflicts = false; text = good_line } → worked.batch ≡ [] →
-      Ensures true (λ s o. o ≡ checked s) (Ok worked)
-  finds_none worked one stays is_reply is_batch = record {
+  -- records that hold none behind the one key stand for a state
+  stands_with : (c : Contents) → ((key : List ℕ) → IsAbove toy_key key → body_at c 2 key ≡ None) → ToyStands c (record empty_state { files = c 2 })
+  stands_with c alone = record { files = refl; alone = alone }
+
+  none_in : (b : Bool) (key : List ℕ) → b ≡ false → IfSome (contents new) (λ c. IsNext c 2 toy_key b key) → (c : Contents) → contents new ≡ Some c → (other : List ℕ) → IsAbove toy_key other → body_at c 2 other ≡ None
+  none_in b key is found c now = subst (λ t. IsNext c 2 toy_key t key) is (subst (λ o. IfSome o (λ x. IsNext x 2 toy_key b key)) now found)
+
+  pub finds_none : (worked : Worked) (b : Bool) (key : List ℕ) → RisesByOne (asked old) (asked new) → Stays contents leaves faults old new → worked.reply ≡ record { conflicts = false; text = good_line } → worked.batch ≡ [] →
+      b ≡ false → IfSome (contents new) (λ c. IsNext c 2 toy_key b key) → Ensures true true (λ s o. o ≡ checked s) (Ok worked)
+  finds_none worked b key one stays is_reply is_batch is found = record {
     stays = stays;
     done = λ c s now stands. answered c s worked good_line (checked s) is_reply is_batch refl stands;
     knows = λ c now. tt;
     reason = (refl, no_conflicts worked.reply good_line _ is_reply);
     few_reads = few one;
+    vouches = λ c now on.
+        let s : State = record empty_state { files = c 2 } in
+        (s, stands_with c (none_in b key is found c now), ap (λ (r : Reply). replied r s) is_reply, ap (λ (r : Reply). r.conflicts) is_reply, is_batch);
   }
 
   pub finds_another : (key line : List ℕ) (b : Bool) → RisesByOne (asked old) (asked new) → Stays contents leaves faults old new → b ≡ true → IfSome (contents new) (λ c. IsNext c 2 toy_key b key) → IsAbove toy_key key → line ≡ toy_line key →
-      Ensures true (λ s o. o ≡ checked s) (Err (Damaged line))
+      Ensures true true (λ s o. o ≡ checked s) (Err (Damaged line))
   finds_another key line b one stays is_true found above is = record {
     stays = stays;
     done = λ c s now stands. let some = held c now in let none = stands.alone key above in cc;
     knows = λ c now. tt;
     reason = (refl, (λ c now. record { key = key; above = above; body = (held c now).0; held = (held c now).1; is = is }), (key, is));
     few_reads = few one;
+    vouches = λ c now on. record { key = key; above = above; least = least c now; is = is };
   }
     where
+      least : (c : Contents) → contents new ≡ Some c → IsNext c 2 toy_key true key
+      least c now = subst (λ t. IsNext c 2 toy_key t key) is_true (subst (λ o. IfSome o (λ x. IsNext x 2 toy_key b key)) now found)
+
       held : (c : Contents) → contents new ≡ Some c → (body : List ℕ) × (body_at c 2 key ≡ Some body)
-      held c now = (subst (λ t. IsNext c 2 toy_key t key) is_true (subst (λ o. IfSome o (λ x. IsNext x 2 toy_key b key)) now found)).0
+      held c now = (least c now).0
 
-  pub finds_fault : RisesByOne (asked old) (asked new) → Stays contents leaves faults old new → Rose (faults old) (faults new) → Ensures true (λ s o. o ≡ checked s) (Err Failed)
-  finds_fault one stays rose = record { few_reads = few one; stays = stays; done = λ c s now stands. tt; knows = λ c now. tt; reason = (refl, rose) }
+  pub finds_fault : RisesByOne (asked old) (asked new) → Stays contents leaves faults old new → Rose (faults old) (faults new) → Ensures true true (λ s o. o ≡ checked s) (Err Failed)
+  finds_fault one stays rose = record { few_reads = few one; vouches = λ c now on. tt; stays = stays; done = λ c s now stands. tt; knows = λ c now. tt; reason = (refl, rose) }
 
-  pub finds_want : RisesByOne (asked old) (asked new) → Stays contents leaves faults old new → Ensures true (λ s o. o ≡ checked s) (Err NoMemory)
-  finds_want one stays = record { few_reads = few one; stays = stays; done = λ c s now stands. tt; knows = λ c now. tt; reason = tt }
+  pub finds_want : RisesByOne (asked old) (asked new) → Stays contents leaves faults old new → Ensures true true (λ s o. o ≡ checked s) (Err NoMemory)
+  finds_want one stays = record { few_reads = few one; vouches = λ c now on. tt; stays = stays; done = λ c s now stands. tt; knows = λ c now. tt; reason = tt }
 
   module _ (words : List (List ℕ)) (payload : List ℕ) where
     abbrev Target : Result Worked WorkError → Type 0
-    Target r = Ensures (toy_spelled words) (λ s o. o ≡ toy_outcome words payload s) r
+    Target r = Ensures (toy_spelled words) (toy_vouches words) (λ s o. o ≡ toy_outcome words payload s) r
 
     -- which command it is
     abbrev chosen : Bool → Bool → Bool → State → Outcome
@@ -112,6 +126,13 @@ module _ {K : Type 0} (contents : K → Option Contents) (leaves : K → Content
     spelled_as : is_put words ≡ false → is_check words ≡ false → toy_spelled words ≡ is_get words
     spelled_as off out = ap (λ b. b || is_check words || is_get words) off ∙ ap (λ b. b || is_get words) out
 
+    -- other words do not vouch
+    put_quiet : (P : Type 0) → is_put words ≡ true → toy_vouches words ≡ true → P
+    put_quiet P on vouches = let e : toy_vouches words ≡ false = ap (λ b. if b then false else is_check words) on in cc
+
+    rest_quiet : (P : Type 0) → is_put words ≡ false → is_check words ≡ false → toy_vouches words ≡ true → P
+    rest_quiet P off out vouches = let e : toy_vouches words ≡ false = ap (λ b. if b then false else is_check words) off ∙ out in cc
+
     pub puts : (worked : Worked) → old ≡ new → is_put words ≡ true → worked.reply ≡ record { conflicts = false; text = [] } → worked.batch ≡ record { table = 2; key = toy_key; body = payload } ∷ [] → Target (Ok worked)
     puts worked same on is_reply is_batch = record {
       stays = rests same;
@@ -121,12 +142,13 @@ module _ {K : Type 0} (contents : K → Option Contents) (leaves : K → Content
       knows = λ c now. tt;
       reason = (ap (λ b. b || is_check words || is_get words) on, no_conflicts worked.reply [] _ is_reply);
       few_reads = unasked same;
+      vouches = λ c now vouches. put_quiet _ on vouches;
     }
 
-    pub checks : (r : Result Worked WorkError) → is_put words ≡ false → is_check words ≡ true → Ensures true (λ s o. o ≡ checked s) r → Target r
+    pub checks : (r : Result Worked WorkError) → is_put words ≡ false → is_check words ≡ true → Ensures true true (λ s o. o ≡ checked s) r → Target r
     checks r off on works =
-        subst (λ b. Ensures (b || is_check words || is_get words) (λ s o. o ≡ chosen b (is_check words) (is_get words) s) r) (sym off)
-        (subst (λ b. Ensures (false || b || is_get words) (λ s o. o ≡ chosen false b (is_get words) s) r) (sym on) works)
+        subst (λ b. Ensures (b || is_check words || is_get words) (if b then false else is_check words) (λ s o. o ≡ chosen b (is_check words) (is_get words) s) r) (sym off)
+        (subst (λ b. Ensures (false || b || is_get words) b (λ s o. o ≡ chosen false b (is_get words) s) r) (sym on) works)
 
     pub gets : (worked : Worked) (text : List ℕ) → RisesByOne (asked old) (asked new) → Stays contents leaves faults old new → is_put words ≡ false → is_check words ≡ false → is_get words ≡ true → worked.reply ≡ record { conflicts = false; text = text } → worked.batch ≡ [] →
         (b : Bool) → b ≡ true → IfSome (contents new) (λ c. IsBody (body_at c 2 toy_key) b text) → Target (Ok worked)
@@ -138,6 +160,7 @@ module _ {K : Type 0} (contents : K → Option Contents) (leaves : K → Content
       knows = λ c now. tt;
       reason = (spelled_as off out ∙ on, no_conflicts worked.reply text _ is_reply);
       few_reads = few one;
+      vouches = λ c now vouches. rest_quiet _ off out vouches;
     }
 
     pub misses : RisesByOne (asked old) (asked new) → Stays contents leaves faults old new → is_put words ≡ false → is_check words ≡ false → is_get words ≡ true → IfSome (contents new) (λ c. body_at c 2 toy_key ≡ None) → Target (Err (Refused (record { packet = 0; cause = NoBranch })))
@@ -149,6 +172,7 @@ module _ {K : Type 0} (contents : K → Option Contents) (leaves : K → Content
       knows = λ c now. tt;
       reason = spelled_as off out ∙ on;
       few_reads = few one;
+      vouches = λ c now vouches. rest_quiet _ off out vouches;
     }
 
     pub misuses : old ≡ new → is_put words ≡ false → is_check words ≡ false → is_get words ≡ false → Target (Err Usage)
@@ -158,10 +182,11 @@ module _ {K : Type 0} (contents : K → Option Contents) (leaves : K → Content
       knows = λ c now. tt;
       reason = spelled_as off out ∙ none;
       few_reads = unasked same;
+      vouches = λ c now vouches. rest_quiet _ off out vouches;
     }
 
     pub fails : RisesByOne (asked old) (asked new) → Stays contents leaves faults old new → is_put words ≡ false → is_check words ≡ false → is_get words ≡ true → Rose (faults old) (faults new) → Target (Err Failed)
-    fails one stays off out on rose = record { few_reads = few one; stays = stays; done = λ c s now stands. tt; knows = λ c now. tt; reason = (spelled_as off out ∙ on, rose) }
+    fails one stays off out on rose = record { few_reads = few one; vouches = λ c now vouches. tt; stays = stays; done = λ c s now stands. tt; knows = λ c now. tt; reason = (spelled_as off out ∙ on, rose) }
 
     pub wants : RisesByOne (asked old) (asked new) → Stays contents leaves faults old new → Target (Err NoMemory)
-    wants one stays = record { few_reads = few one; stays = stays; done = λ c s now stands. tt; knows = λ c now. tt; reason = tt }
+    wants one stays = record { few_reads = few one; vouches = λ c now vouches. tt; stays = stays; done = λ c s now stands. tt; knows = λ c now. tt; reason = tt }

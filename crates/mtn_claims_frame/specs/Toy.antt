@@ -1,13 +1,13 @@
 -- A made-up set of three commands, which shows that the frame can be met: `put` keeps the payload as the one file, `get` prints it,
 -- and `check` looks whether the keeper holds anything behind it.
-use Rattle.std.specs.Prelude.{◌≡◌, ℕ, List, [], ◌∷◌, ◌++◌, Bool, false, Option, None, Some, codes, bytes_eq, ◌||◌, if◌then◌else◌}
+use Rattle.std.specs.Prelude.{◌≡◌, ℕ, List, [], ◌∷◌, ◌++◌, Bool, true, false, Option, None, Some, codes, bytes_eq, ◌||◌, if◌then◌else◌}
 use Rattle.std.specs.FinMap.{get, insert}
 use Rattle.mtn_base.specs.declared.refusal.Cause.TheVariants.{NoBranch}
 use Rattle.mtn_model.specs.Table.{Contents, body_at}
 use Rattle.mtn_model.specs.State.{State}
 use Rattle.mtn_model.specs.Outcome.{Outcome}
 use Rattle.mtn_model.specs.declared.status.Status.TheVariants as status
-use Rattle.mtn_ports.specs.Kept.{IsAbove}
+use Rattle.mtn_ports.specs.Kept.{IsAbove, IsNext}
 use Rattle.mtn_frame.specs.Script.{refused}
 use Rattle.mtn_frame.specs.Works.{misused}
 
@@ -30,6 +30,13 @@ pub record ToyDamages (c : Contents) (line : List ℕ) : Type 0 where
   pub held : body_at c 2 key ≡ Some body
   pub is : line ≡ toy_line key
 
+-- the line that shows the least of them
+pub record ToyFirst (c : Contents) (line : List ℕ) : Type 0 where
+  pub key : List ℕ
+  pub above : IsAbove toy_key key
+  pub least : IsNext c 2 toy_key true key
+  pub is : line ≡ toy_line key
+
 abbrev pub ToyLines : List ℕ → Type 0
 ToyLines line = (key : List ℕ) × (line ≡ toy_line key)
 
@@ -47,6 +54,10 @@ is_get words = is_word (codes "get") words
 
 abbrev pub is_check : List (List ℕ) → Bool
 is_check words = is_word (codes "check") words
+
+-- it vouches for the store
+abbrev pub toy_vouches : List (List ℕ) → Bool
+toy_vouches words = if is_put words then false else is_check words
 
 abbrev pub toy_spelled : List (List ℕ) → Bool
 toy_spelled words = is_put words || is_check words || is_get words

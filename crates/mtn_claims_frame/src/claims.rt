@@ -7,7 +7,7 @@ ghost use Rattle.mtn_frame.specs.Requests.{ReadsList};
 ghost use Rattle.mtn_frame.specs.Script.{Does, IsScript, is_session as session_words};
 ghost use Rattle.mtn_frame.specs.Session.{goes_on as answers_on};
 ghost use Rattle.mtn_frame.specs.Works.{Settles};
-ghost use Rattle.mtn_frame.specs.Top.{Feeds, Runs, Unread, fed, in_grammar, is_merge, reads};
+ghost use Rattle.mtn_frame.specs.Top.{Feeds, Runs, Unread, fed, in_grammar, is_merge, is_vouch, reads};
 ghost use Rattle.mtn_ports.specs.Causes.{Rose};
 
 use mtn_base::{Bytes, List};
@@ -73,8 +73,8 @@ pub fn run_frame<C: Commands, S: Source, O: Sink, K: Keeper>(
     sink: &mut O,
     keeper: &mut K,
 ) -> Status
-    ensures { Runs (C.stands commands.now) (C.damages commands.now) C.lines (Does (C.does commands.now)) (λ input. C.bounds commands.now words.now (fed (reads C.spelled C.takes words.now) input)) (λ input. IsScript C.takes words.now (fed (reads C.spelled C.takes words.now) input))
-        (session_words words.now) (in_grammar C.spelled words.now) (is_merge C.merging words.now) (reads C.spelled C.takes words.now)
+    ensures { Runs (C.stands commands.now) (C.damages commands.now) (C.firsts commands.now) C.lines (Does (C.does commands.now)) (λ input. C.bounds commands.now words.now (fed (reads C.spelled C.takes words.now) input)) (C.does commands.now words.now) (λ input. IsScript C.takes words.now (fed (reads C.spelled C.takes words.now) input))
+        (session_words words.now) (in_grammar C.spelled words.now) (is_merge C.merging words.now) (is_vouch C.vouching words.now) (reads C.spelled C.takes words.now)
         (record { contents = K.contents keeper.old; left = S.left source.old; written = O.written sink.old })
         (record { contents = K.contents keeper.new; left = S.left source.new; written = O.written sink.new })
         (record { keeper = K.faults keeper.old; source = S.faults source.old; sink = O.faults sink.old; reads = K.reads keeper.old })

@@ -8,11 +8,11 @@ use Rattle.mtn_certs.specs.Certificates.{IsIdBytes}
 use Rattle.mtn_order.specs.Free.{KeepsIds, MakesIds, NamesIds, asks_ids}
 use Rattle.mtn_step.specs.declared.call.Call.{Call}
 use Rattle.mtn_step_laws.proofs.Ids.{If, read_is}
-use Rattle.mtn_step.specs.declared.call.Call.TheVariants.{PutFile, PutRevision, GetFile, GetRevision, GetManifestOf, GetRoster, GetContentChanged, GetCorrespondingPath, Ask, Graph, Merge, ShowConflicts, Cert, Certs, Key, Heads, Branches, Commit, Packets, Read}
+use Rattle.mtn_step.specs.declared.call.Call.TheVariants.{PutFile, PutRevision, GetFile, GetRevision, GetManifestOf, GetRoster, GetContentChanged, GetCorrespondingPath, Ask, Graph, Merge, ShowConflicts, Cert, Certs, Key, Heads, Branches, Commit, Packets, Read, Generate, Check}
 use Rattle.mtn_step.specs.declared.call.Said.{Said}
 use Rattle.mtn_words.specs.Calls.{ask_named, call_named, call_of, call_with, cert, cert_by, commit, content_changed, corresponding_path, key_named, merge, merge_heads, query_named, said, view_named}
 use Rattle.mtn_words.specs.Options.{has_flag, key_of, option_value, takes}
-use Rattle.mtn_words.specs.Positionals.{id_and_ids, ids, no_words, one_id, one_word, read_path, two_ids}
+use Rattle.mtn_words.specs.Positionals.{id_and_ids, ids, no_words, one_count, one_id, one_word, read_path, two_ids}
 use Rattle.mtn_words.specs.Words.{command_of}
 use Rattle.mtn_words.specs.declared.words.Command.{Command}
 use Rattle.mtn_words.specs.declared.words.OptionWord.{OptionWord}
@@ -100,7 +100,9 @@ named_fits name words =
     (either (bytes_eq name (codes "get_file")) _ _ (plain GetFile (λ _. tt) (one_id words))
     (either (bytes_eq name (codes "get_revision")) _ _ (plain GetRevision (λ _. tt) (one_id words))
     (either (bytes_eq name (codes "key")) _ _ (key_fits words)
-    (either (bytes_eq name (codes "read")) _ _ (plain (λ _. Read) (λ _. tt) (no_words words)) (view_fits name words))))))
+    (either (bytes_eq name (codes "read")) _ _ (plain (λ _. Read) (λ _. tt) (no_words words))
+    (either (bytes_eq name (codes "generate")) _ _ (plain Generate (λ _. tt) (one_count words))
+    (either (bytes_eq name (codes "check")) _ _ (plain (λ _. Check) (λ _. tt) (no_words words)) (view_fits name words))))))))
 
 -- ---- those with options
 

@@ -1,5 +1,5 @@
 -- A command over a draft that was opened, and is not put yet, is a command over the keeper.
-use Rattle.std.proofs.Common.{◌≡◌, inl, inr, ℕ, Bool, true, List, [], ◌∷◌, length, Option, Some, None, Result, Ok, Err, refl, sym, ap, ◌∙◌, subst, arith}
+use Rattle.std.proofs.Common.{◌≡◌, ◌⊎◌, inl, inr, ℕ, Bool, true, false, List, [], ◌∷◌, length, Option, Some, None, Result, Ok, Err, refl, sym, ap, ◌∙◌, subst, arith}
 use Rattle.std.specs.Prelude.{IfSome, ⊤}
 use Rattle.mtn_model.specs.Outcome.{Outcome}
 use Rattle.mtn_model.specs.State.{State}
@@ -22,13 +22,15 @@ use Rattle.mtn_history.specs.declared.pending.Pending.{Pending}
 use Rattle.mtn_history.specs.Damage.{IsDamage, IsShown}
 use Rattle.mtn_history.specs.declared.errors.Damage.{Damage}
 use Rattle.mtn_history.specs.Errors.{IfDamage}
+use Rattle.mtn_check_laws.specs.FirstDamage.{IsFirstDamage}
+use Rattle.mtn_reading.specs.Unfit.{IsUnfit}
 use Rattle.mtn_history.specs.Meta.{IsMetaOf}
 use Rattle.mtn_history.specs.Stands.{Stands, IsDraft}
 use Rattle.mtn_history.proofs.FileLemmas.{draft_stands}
 use Rattle.mtn_history.proofs.MetaLemmas.{no_damage, shown}
 use Rattle.mtn_commands.proofs.ReasonLemmas.{command_reason, reason_of, wider_command_reason}
 use Rattle.mtn_commands.specs.Drafts.{Counts, HasCommandReason, IsCommandDamage, IsCommandQuiet, Performed, Performs, drafted}
-use Rattle.mtn_cli.specs.Store.{IsLine, IsTold, ShowsDamage}
+use Rattle.mtn_cli.specs.Store.{IsFirstLine, IsLine, IsTold, ShowsDamage}
 
 -- a fact of told records
 at_told : (o : Option Contents) (P : Contents → Type 0) (c : Contents) → o ≡ Some c → IfSome o P → P c
@@ -78,9 +80,13 @@ none_put : (merges : Bool) (pending before after : Pending) (r : Result Reply Co
 none_put merges pending before after (Ok reply) none is quiet = λ on. let q = quiet on in (q.0, ap (λ (p : Pending). p.batch) (q.1 ∙ is) ∙ none)
 none_put merges pending before after (Err e) none is quiet = tt
 
-module _ (f : List ℕ → List ℕ) {M : Type 0} (Knows : M → Contents → Type 0) {K : Type 0} (contents : K → Option Contents) (leaves : K → Contents → Type 0) (faults asked : K → ℕ) (merges reading : Bool) (Outcomes : State → Outcome → Type 0) where
+module _ (f : List ℕ → List ℕ) {M : Type 0} (Knows : M → Contents → Type 0) {K : Type 0} (contents : K → Option Contents) (leaves : K → Contents → Type 0) (faults asked : K → ℕ) (merges reading checking : Bool) (off : checking ≡ false) (Outcomes : State → Outcome → Type 0) where
   abbrev Target : K → K → M → Result Worked WorkError → Type 0
-  Target old new m r = Works (Stands f) (ShowsDamage f (reading ≡ true)) IsLine Knows contents leaves faults asked old new m true merges Outcomes (λ s n. ⊥) r
+  Target old new m r = Works (Stands f) (ShowsDamage f (reading ≡ true) (checking ≡ true)) (IsFirstLine f) IsLine Knows contents leaves faults asked old new m true merges checking Outcomes (λ s n. ⊥) r
+
+  -- a command over a draft does not check the store
+  unchecked : checking ≡ true → (P : Type 0) → P
+  unchecked on P = let e = off in cc
 
   -- what an error means over records that stand for a state
   abbrev Erred : State → CommandError → Type 0
@@ -118,6 +124,7 @@ module _ (f : List ℕ → List ℕ) {M : Type 0} (Knows : M → Contents → Ty
     knows = λ c now. at_told (contents new) (λ x. Knows m (with_all x after.batch)) c now known;
     reason = (refl, work.quiet);
     few_reads = λ c s n now stands none. absurd none;
+    vouches = λ c now on. unchecked on _;
   }
 
   -- memory is wanting
@@ -128,6 +135,7 @@ module _ (f : List ℕ → List ℕ) {M : Type 0} (Knows : M → Contents → Ty
     knows = λ c now. at_told (contents new) (Knows m) c now known;
     reason = tt;
     few_reads = λ c s n now stands none. absurd none;
+    vouches = λ c now on. unchecked on _;
   }
 
   pub erred_over : (s : State) (c : Contents) (e : CommandError) (p : Pending) → Performed f c s (Outcomes s) (Err e) p → Erred s e
@@ -143,6 +151,10 @@ module _ (f : List ℕ → List ℕ) {M : Type 0} (Knows : M → Contents → Ty
   has_no_state c d (inl own) s stands = no_damage f c s d stands own
   has_no_state c d (inr unfit) s stands = unfit.1.unfit s stands
 
+  cause_of : (c : Contents) (d : Damage) → IsCommandDamage f reading c d → IsDamage c d ⊎ (((reading ≡ true) × IsUnfit f c d) ⊎ ((checking ≡ true) × IsFirstDamage f c d))
+  cause_of c d (inl own) = inl own
+  cause_of c d (inr unfit) = inr (inl unfit)
+
   -- an error with nothing put
   pub erred : (old new : K) (m : M) (e : CommandError) (out : WorkError) → IsTold e out → Stays contents leaves faults old new →
       ((c : Contents) (s : State) → contents new ≡ Some c → Stands f c s → Erred s e) → HasCommandReason f reading (contents new) (faults old) (faults new) (Err e) → IfSome (contents new) (Knows m) → Target old new m (Err out)
@@ -152,6 +164,7 @@ module _ (f : List ℕ → List ℕ) {M : Type 0} (Knows : M → Contents → Ty
     knows = λ c now. at_told (contents new) (Knows m) c now known;
     reason = refl;
     few_reads = λ c s n now stands none. absurd none;
+    vouches = λ c now on. unchecked on _;
   }
   erred old new m (Store Failed) out is stays done reason known = subst (λ o. Target old new m (Err o)) (sym is) record {
     stays = stays;
@@ -159,6 +172,7 @@ module _ (f : List ℕ → List ℕ) {M : Type 0} (Knows : M → Contents → Ty
     knows = λ c now. at_told (contents new) (Knows m) c now known;
     reason = (refl, reason);
     few_reads = λ c s n now stands none. absurd none;
+    vouches = λ c now on. unchecked on _;
   }
   erred old new m (Store NoMemory) out is stays done reason known = subst (λ o. Target old new m (Err o)) (sym is) (wants old new m stays known)
   erred old new m (Store (Damaged d)) out (inl is) stays done reason known = subst (λ o. Target old new m (Err o)) (sym is) record {
@@ -169,10 +183,11 @@ module _ (f : List ℕ → List ℕ) {M : Type 0} (Knows : M → Contents → Ty
       refl,
       λ c now.
           let cause = at_told (contents new) (λ x. IsCommandDamage f reading x d) c now reason in
-          record { damage = d; cause = cause; is_shown = is_shown_by c d cause; no_state = λ s stands. has_no_state c d cause s stands; is = refl },
+          record { damage = d; cause = cause_of c d cause; is_shown = is_shown_by c d cause; no_state = λ s stands. has_no_state c d cause s stands; is = refl },
       (d, refl),
     );
     few_reads = λ c s n now stands none. absurd none;
+    vouches = λ c now on. unchecked on _;
   }
   erred old new m (Store (Damaged d)) out (inr is) stays done reason known = subst (λ o. Target old new m (Err o)) (sym is) (wants old new m stays known)
 

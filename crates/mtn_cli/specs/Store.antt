@@ -1,9 +1,10 @@
 -- The commands of a store, as the frame sees them.
-use Rattle.std.specs.Prelude.{◌≡◌, ◌⊎◌, List, ℕ, Bool, false, is_some}
+use Rattle.std.specs.Prelude.{◌≡◌, ◌⊎◌, List, ℕ, Bool, false, true, Option, Some, is_some}
 use Rattle.std.specs.List.{list_any}
 use Rattle.mtn_model.specs.State.{State}
 use Rattle.mtn_model.specs.Table.{Contents}
 use Rattle.mtn_words.specs.Calls.{call_of}
+use Rattle.mtn_check_laws.specs.FirstDamage.{IsFirstDamage}
 use Rattle.mtn_cli.specs.Texts.{damage_line}
 use Rattle.mtn_frame.specs.Script.{Bounds}
 use Rattle.mtn_frame.specs.declared.script.Job.{Job}
@@ -17,6 +18,8 @@ use Rattle.mtn_history.specs.Stands.{Stands}
 use Rattle.mtn_commands.specs.Drafts.{may_conflict, reads_packets}
 use Rattle.mtn_history.specs.declared.errors.Damage.{Damage}
 use Rattle.mtn_reading.specs.Unfit.{IsUnfit}
+use Rattle.mtn_step.specs.declared.call.Call.{Call as Step_call}
+use Rattle.mtn_step.specs.declared.call.Call.TheVariants.{Check}
 use Rattle.mtn_commands.specs.declared.error.CommandError.{CommandError}
 use Rattle.mtn_commands.specs.declared.error.CommandError.TheVariants.{Refused, Store}
 use Rattle.mtn_history.specs.declared.errors.StoreError.TheVariants.{Failed, Damaged, NoMemory}
@@ -41,6 +44,22 @@ abbrev pub script_reading : Script → Bool
 script_reading (Bare job) = job_reading job
 script_reading (Framed jobs) = list_any job_reading jobs
 
+-- the same of the command that checks the store, which vouches for it
+abbrev pub checks_store : Option Step_call → Bool
+checks_store (Some Check) = true
+checks_store _ = false
+
+abbrev pub is_checking : List (List ℕ) → Bool
+is_checking words = checks_store (call_of words)
+
+abbrev pub job_checking : Job → Bool
+job_checking (Call words payload) = is_checking words
+job_checking (BadInput number) = false
+
+abbrev pub script_checking : Script → Bool
+script_checking (Bare job) = job_checking job
+script_checking (Framed jobs) = list_any job_checking jobs
+
 -- how many records a command asks for is not bounded yet
 abbrev pub unbounded : Bounds
 unbounded words payload = λ s n. ⊥
@@ -49,11 +68,17 @@ unbounded words payload = λ s n. ⊥
 abbrev pub IsLine : List ℕ → Type 0
 IsLine line = (damage : Damage) × (line ≡ damage_line damage)
 
--- A damage of these records, and its line. Under this ident they stand for no state. Where packets are read, `Reads`, it may be no
--- damage of them alone, but a record of such as stand for no state.
-pub record ShowsDamage (f : List ℕ → List ℕ) (Reads : Type 0) (c : Contents) (line : List ℕ) : Type 0 where
+-- the line of the first damage of these records, in the order in which a check looks at them
+pub record IsFirstLine (f : List ℕ → List ℕ) (c : Contents) (line : List ℕ) : Type 0 where
   pub damage : Damage
-  pub cause : IsDamage c damage ⊎ (Reads × IsUnfit f c damage)
+  pub first : IsFirstDamage f c damage
+  pub is : line ≡ damage_line damage
+
+-- A damage of these records, and its line. Under this ident they stand for no state. Where packets are read, `Reads`, it may be no
+-- damage of them alone, but a record of such as stand for no state; where the store is checked, `Checks`, it is their first damage.
+pub record ShowsDamage (f : List ℕ → List ℕ) (Reads Checks : Type 0) (c : Contents) (line : List ℕ) : Type 0 where
+  pub damage : Damage
+  pub cause : IsDamage c damage ⊎ ((Reads × IsUnfit f c damage) ⊎ (Checks × IsFirstDamage f c damage))
   pub is_shown : IsShown c damage
   pub no_state : (s : State) → Stands f c s → ⊥
   pub is : line ≡ damage_line damage

@@ -1,16 +1,17 @@
 // A command over a draft of the keeper.
-ghost use Rattle.std.specs.Prelude.{◌≡◌, IfSome, Some, true};
+ghost use Rattle.std.specs.Prelude.{◌≡◌, ◌≢◌, IfSome, Some, true};
 ghost use Rattle.mtn_cli.specs.Step.{Step};
-ghost use Rattle.mtn_cli.specs.Store.{IsLine, ShowsDamage, is_merging, is_reading, is_spelled, job_reading, unbounded};
+ghost use Rattle.mtn_cli.specs.Store.{IsFirstLine, IsLine, ShowsDamage, checks_store, is_checking, is_merging, is_reading, is_spelled, job_checking, job_reading, unbounded};
 ghost use Rattle.mtn_commands.specs.Drafts.{may_conflict, reads_packets};
 ghost use Rattle.mtn_frame.specs.Script.{BoundsJob, Does};
-ghost use Rattle.mtn_frame.specs.Works.{Works, is_merging as job_merging, is_spelled as job_spelled};
+ghost use Rattle.mtn_frame.specs.Works.{Works, is_merging as job_merging, is_spelled as job_spelled, is_vouching as job_vouching};
 ghost use Rattle.mtn_history.specs.Memory.{Knows};
 ghost use Rattle.mtn_model.specs.Table.{Contents};
 ghost use Rattle.mtn_ports.specs.Kept.{with_all};
 ghost use Rattle.mtn_history.specs.Stands.{Stands};
 ghost use Rattle.mtn_step.specs.Step.{Steps};
 
+use crate::check::check;
 use crate::damage::tell;
 use mtn_base::{Bytes, Cause, Refusal};
 use mtn_commands::error::CommandError;
@@ -46,9 +47,10 @@ fn work_on<R: Threads + Sync, I: Ident, K: Keeper>(
     memory: &mut Memory,
     keeper: &mut K,
 ) -> Result<Worked, WorkError>
-    requires { IfSome (K.contents keeper.old) (Knows memory.old) }
-    ensures { Works (Stands (I.meaning ident.now)) (ShowsDamage (I.meaning ident.now) (reads_packets (Some call.now) ≡ true)) IsLine Knows K.contents K.leaves K.faults K.reads keeper.old keeper.new memory.new
-        true (may_conflict (Some call.now)) (Steps (I.meaning ident.now) call.now payload.now) (λ s n. ⊥) result }
+    requires known { IfSome (K.contents keeper.old) (Knows memory.old) }
+    requires unchecked { call.now ≢ Call.Check }
+    ensures { Works (Stands (I.meaning ident.now)) (ShowsDamage (I.meaning ident.now) (reads_packets (Some call.now) ≡ true) (checks_store (Some call.now) ≡ true)) (IsFirstLine (I.meaning ident.now)) IsLine Knows K.contents K.leaves K.faults K.reads keeper.old keeper.new memory.new
+        true (may_conflict (Some call.now)) (checks_store (Some call.now)) (Steps (I.meaning ident.now) call.now payload.now) (λ s n. ⊥) result }
 {
     let pending = match Pending::open(alloc, memory, keeper) {
         Ok(pending) => pending,
@@ -74,6 +76,26 @@ fn work_on<R: Threads + Sync, I: Ident, K: Keeper>(
     }
 }
 
+// The work of any command: the check of the store goes over the keeper itself, and every other over a draft.
+fn work_call<R: Threads + Sync, I: Ident, K: Keeper>(
+    rt: &R,
+    alloc: Global,
+    call: &Call,
+    ident: &I,
+    payload: &[u8],
+    memory: &mut Memory,
+    keeper: &mut K,
+) -> Result<Worked, WorkError>
+    requires { IfSome (K.contents keeper.old) (Knows memory.old) }
+    ensures { Works (Stands (I.meaning ident.now)) (ShowsDamage (I.meaning ident.now) (reads_packets (Some call.now) ≡ true) (checks_store (Some call.now) ≡ true)) (IsFirstLine (I.meaning ident.now)) IsLine Knows K.contents K.leaves K.faults K.reads keeper.old keeper.new memory.new
+        true (may_conflict (Some call.now)) (checks_store (Some call.now)) (Steps (I.meaning ident.now) call.now payload.now) (λ s n. ⊥) result }
+{
+    match call {
+        Call::Check => check(rt, alloc, ident, keeper),
+        _ => work_on(rt, alloc, call, ident, payload, memory, keeper),
+    }
+}
+
 // What words with a payload come to.
 fn work_words<R: Threads + Sync, I: Ident, K: Keeper>(
     rt: &R,
@@ -85,11 +107,11 @@ fn work_words<R: Threads + Sync, I: Ident, K: Keeper>(
     keeper: &mut K,
 ) -> Result<Worked, WorkError>
     requires { IfSome (K.contents keeper.old) (Knows memory.old) }
-    ensures { Works (Stands (I.meaning ident.now)) (ShowsDamage (I.meaning ident.now) (is_reading words.now ≡ true)) IsLine Knows K.contents K.leaves K.faults K.reads keeper.old keeper.new memory.new
-        (is_spelled words.now) (is_merging words.now) (Step (I.meaning ident.now) words.now payload.now) (unbounded words.now payload.now) result }
+    ensures { Works (Stands (I.meaning ident.now)) (ShowsDamage (I.meaning ident.now) (is_reading words.now ≡ true) (is_checking words.now ≡ true)) (IsFirstLine (I.meaning ident.now)) IsLine Knows K.contents K.leaves K.faults K.reads keeper.old keeper.new memory.new
+        (is_spelled words.now) (is_merging words.now) (is_checking words.now) (Step (I.meaning ident.now) words.now payload.now) (unbounded words.now payload.now) result }
 {
     match read_words(alloc, words) {
-        Ok(call) => work_on(rt, alloc, &call, ident, payload, memory, keeper),
+        Ok(call) => work_call(rt, alloc, &call, ident, payload, memory, keeper),
         Err(WordsError::Usage) => Err(WorkError::Usage),
         Err(WordsError::NoMemory) => Err(WorkError::NoMemory),
     }
@@ -105,8 +127,8 @@ pub fn work_job<R: Threads + Sync, I: Ident, K: Keeper>(
     keeper: &mut K,
 ) -> Result<Worked, WorkError>
     requires { IfSome (K.contents keeper.old) (Knows memory.old) }
-    ensures { Works (Stands (I.meaning ident.now)) (ShowsDamage (I.meaning ident.now) (job_reading job.now ≡ true)) IsLine Knows K.contents K.leaves K.faults K.reads keeper.old keeper.new memory.new
-        (job_spelled is_spelled job.now) (job_merging is_merging job.now) (Does (Step (I.meaning ident.now)) job.now) (BoundsJob unbounded job.now) result }
+    ensures { Works (Stands (I.meaning ident.now)) (ShowsDamage (I.meaning ident.now) (job_reading job.now ≡ true) (job_checking job.now ≡ true)) (IsFirstLine (I.meaning ident.now)) IsLine Knows K.contents K.leaves K.faults K.reads keeper.old keeper.new memory.new
+        (job_spelled is_spelled job.now) (job_merging is_merging job.now) (job_vouching is_checking job.now) (Does (Step (I.meaning ident.now)) job.now) (BoundsJob unbounded job.now) result }
 {
     match job {
         Job::Call { words, payload } => {

@@ -26,7 +26,7 @@ use mtn_ports::{Ident, Keeper};
 use mtn_step::Call;
 use std::alloc::Global;
 
-/// What a command other than `read` does over a draft, and replies: its line of the step. One arm a command.
+/// What a command other than `read` and `check` does over a draft, and replies: its line of the step. One arm a command.
 pub fn on_draft<I: Ident, K: Keeper>(
     alloc: Global,
     call: &Call,
@@ -35,6 +35,7 @@ pub fn on_draft<I: Ident, K: Keeper>(
     draft: &mut Draft<'_, K>,
 ) -> Result<Reply, HistoryError>
     requires other { call.now ≢ Call.Read }
+    requires unchecked { call.now ≢ Call.Check }
     ensures same_reference { draft.new.keeper.ghost_name ≡ draft.old.keeper.ghost_name }
     ensures replies { Replies (I.meaning ident.now) K.contents K.leaves K.faults draft.old.keeper.now draft.new.keeper.now draft.old.pending draft.new.pending
         (may_conflict (Some call.now)) (Steps (I.meaning ident.now) call.now payload.now) result }
@@ -81,5 +82,6 @@ pub fn on_draft<I: Ident, K: Keeper>(
         ),
         Call::Packets { id, have } => told(packets(alloc, ident, *id, have, payload, draft)),
         Call::Read => unreachable!(),
+        Call::Check => unreachable!(),
     }
 }

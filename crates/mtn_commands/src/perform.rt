@@ -1,5 +1,5 @@
 // Any command over a draft.
-ghost use Rattle.std.specs.Prelude.{◌≡◌, [], Some};
+ghost use Rattle.std.specs.Prelude.{◌≡◌, ◌≢◌, [], Some};
 ghost use Rattle.mtn_commands.specs.Drafts.{Performs, may_conflict, reads_packets};
 ghost use Rattle.mtn_step.specs.Step.{Steps};
 
@@ -13,7 +13,8 @@ use mtn_step::Call;
 use std::alloc::Global;
 use std::thread::Threads;
 
-/// What a command does over a draft with nothing pending, and replies: its line of the step. `rt` is for the ids of many packets.
+/// What a command other than `check` does over a draft with nothing pending, and replies: its line of the step. `rt` is for the
+/// ids of many packets.
 pub fn perform<R: Threads + Sync, I: Ident, K: Keeper>(
     rt: &R,
     alloc: Global,
@@ -23,6 +24,7 @@ pub fn perform<R: Threads + Sync, I: Ident, K: Keeper>(
     draft: &mut Draft<'_, K>,
 ) -> Result<Reply, CommandError>
     requires bare { draft.old.pending.batch ≡ [] }
+    requires unchecked { call.now ≢ Call.Check }
     ensures same_reference { draft.new.keeper.ghost_name ≡ draft.old.keeper.ghost_name }
     ensures performs { Performs (I.meaning ident.now) K.contents K.leaves K.faults draft.old.keeper.now draft.new.keeper.now draft.old.pending draft.new.pending
         (may_conflict (Some call.now)) (reads_packets (Some call.now)) (Steps (I.meaning ident.now) call.now payload.now) result }

@@ -12,13 +12,13 @@ use Rattle.mtn_frame.specs.declared.script.Script.{Script}
 use Rattle.mtn_frame.specs.declared.script.Script.TheVariants.{Bare, Framed}
 use Rattle.mtn_model.specs.declared.status.Status.{Status}
 use Rattle.mtn_model.specs.declared.status.Status.TheVariants as status
-use Rattle.mtn_frame.specs.Kinds.{Kind, Answered, Cut, Halted, Quiet, Hurt, kind_of, ByKind}
+use Rattle.mtn_frame.specs.Kinds.{Kind, Answered, Cut, Halted, Quiet, Hurt, kind_of, ByKind, ByVouch}
 use Rattle.mtn_model.specs.Outcome.{Outcome}
 use Rattle.mtn_frame.specs.Script.{print_as, Does, BoundsJob}
-use Rattle.mtn_frame.specs.Works.{is_spelled, is_merging}
+use Rattle.mtn_frame.specs.Works.{is_spelled, is_merging, is_vouching}
 use Rattle.mtn_frame.specs.One.{One, WritesOne}
 use Rattle.mtn_frame.specs.Frame.{Writes, keeps}
-use Rattle.mtn_frame.specs.Session.{RunsJobs, RunsScript, EndsSession, script_spelled, script_merging}
+use Rattle.mtn_frame.specs.Session.{RunsJobs, RunsScript, EndsSession, script_spelled, script_merging, script_vouching}
 
 map_kind : (k : Kind) (a c h a' c' h' : Type 0) → ByKind k a c h ⊥ ⊥ → (a → a') → (c → c') → (h → h') → ByKind k a' c' h' ⊥ ⊥
 map_kind Answered a c h a' c' h' x on_a on_c on_h = on_a x
@@ -26,6 +26,18 @@ map_kind Cut a c h a' c' h' x on_a on_c on_h = on_c x
 map_kind Halted a c h a' c' h' x on_a on_c on_h = on_h x
 map_kind Quiet a c h a' c' h' x on_a on_c on_h = x
 map_kind Hurt a c h a' c' h' x on_a on_c on_h = x
+
+map_vouch : (st : Status) (a h h' : Type 0) → ByVouch st a h → (h → h') → ByVouch st a h'
+map_vouch status.Ok a h h' x on_h = x
+map_vouch status.Refused a h h' x on_h = x
+map_vouch status.Usage a h h' x on_h = x
+map_vouch status.Conflicts a h h' x on_h = x
+map_vouch status.SourceFault a h h' x on_h = x
+map_vouch status.SinkFault a h h' x on_h = x
+map_vouch status.StoreFault a h h' x on_h = x
+map_vouch status.NoMemory a h h' x on_h = x
+map_vouch status.Damaged a h h' x on_h = on_h x
+map_vouch status.TooLong a h h' x on_h = x
 
 keep_by : (S : Type 0) (st : Status) → (st ≢ status.Ok → st ≢ status.SinkFault → S) → OnTrue (keeps false st) S
 keep_by S status.Ok same = tt
@@ -75,12 +87,12 @@ session_writes Lines w0 w1 k0 k1 o0 o1 status.NoMemory x = tt
 session_writes Lines w0 w1 k0 k1 o0 o1 status.Damaged x = tt
 session_writes Lines w0 w1 k0 k1 o0 o1 status.TooLong x = absurd x
 
-module _ (Stands : Contents → State → Type 0) (Damages : Contents → List ℕ → Type 0) (Lines : List ℕ → Type 0) {M : Type 0} (Knows : M → Contents → Type 0) {K : Type 0} (contents : K → Option Contents) (leaves : K → Contents → Type 0) (faults asked : K → ℕ)
-    (does : List (List ℕ) → List ℕ → State → Outcome → Type 0) (bounds : List (List ℕ) → List ℕ → State → ℕ → Type 0) (spelled merging : List (List ℕ) → Bool) (old new : K) (m1 : M) (w0 w1 : Option (List ℕ)) (o0 o1 : ℕ) (result : Status) where
+module _ (Stands : Contents → State → Type 0) (Damages Firsts : Contents → List ℕ → Type 0) (Lines : List ℕ → Type 0) {M : Type 0} (Knows : M → Contents → Type 0) {K : Type 0} (contents : K → Option Contents) (leaves : K → Contents → Type 0) (faults asked : K → ℕ)
+    (does : List (List ℕ) → List ℕ → State → Outcome → Type 0) (bounds : List (List ℕ) → List ℕ → State → ℕ → Type 0) (spelled merging vouching : List (List ℕ) → Bool) (old new : K) (m1 : M) (w0 w1 : Option (List ℕ)) (o0 o1 : ℕ) (result : Status) where
   abbrev Target : Script → Type 0
-  Target script = RunsScript Stands Damages Lines (Does does) (BoundsJob bounds) contents leaves faults asked old new w0 w1 o0 o1 script (script_spelled spelled script) (script_merging merging script) result
+  Target script = RunsScript Stands Damages Firsts Lines (Does does) (BoundsJob bounds) contents leaves faults asked old new w0 w1 o0 o1 script (script_spelled spelled script) (script_merging merging script) (script_vouching vouching script) result
 
-  bare : (job : Job) → One Stands Damages Lines Knows contents leaves faults asked old new m1 w0 w1 o0 o1 Plain (is_spelled spelled job) (is_merging merging job) (Does does job) (BoundsJob bounds job) result → Target (Bare job)
+  bare : (job : Job) → One Stands Damages Firsts Lines Knows contents leaves faults asked old new m1 w0 w1 o0 o1 Plain (is_spelled spelled job) (is_merging merging job) (is_vouching vouching job) (Does does job) (BoundsJob bounds job) result → Target (Bare job)
   bare job one = record {
     told = one.told;
     done = λ c d s told now stands. map_kind (kind_of result) _ _ _ _ _ _ (one.done c d s told now stands)
@@ -95,6 +107,7 @@ module _ (Stands : Contents → State → Type 0) (Damages : Contents → List �
     written = writes_by Lines w0 w1 result one.written;
     damage = λ is c now. let shown = one.damage is c now in record { line = shown.line; is = shown.is; written = shown.written };
     few_reads = λ c d s n told now stands bounded. one.few_reads c d s n told now stands bounded;
+    vouches = λ on d now. map_vouch result _ _ _ (one.vouches on d now) (λ shown. record { line = shown.line; is = shown.is; written = shown.written });
     usage = one.usage;
     words = one.words;
     conflicts = one.conflicts;
@@ -113,6 +126,7 @@ module _ (Stands : Contents → State → Type 0) (Damages : Contents → List �
     written = session_writes Lines w0 w1 (faults old) (faults new) o0 o1 result run.ends;
     damage = run.damage;
     few_reads = tt;
+    vouches = tt;
     usage = λ is. absurd (subst (EndsSession (faults old) (faults new) o0 o1) is run.ends);
     words = λ none. cc;
     conflicts = λ is. absurd (subst (EndsSession (faults old) (faults new) o0 o1) is run.ends);
@@ -122,7 +136,7 @@ module _ (Stands : Contents → State → Type 0) (Damages : Contents → List �
     later = run.later;
   }
 
-  pub of_bare : (script : Script) (job : Job) → script ≡ Bare job → One Stands Damages Lines Knows contents leaves faults asked old new m1 w0 w1 o0 o1 Plain (is_spelled spelled job) (is_merging merging job) (Does does job) (BoundsJob bounds job) result → Target script
+  pub of_bare : (script : Script) (job : Job) → script ≡ Bare job → One Stands Damages Firsts Lines Knows contents leaves faults asked old new m1 w0 w1 o0 o1 Plain (is_spelled spelled job) (is_merging merging job) (is_vouching vouching job) (Does does job) (BoundsJob bounds job) result → Target script
   of_bare script job is one = subst Target (sym is) (bare job one)
 
   pub of_session : (script : Script) (jobs : List Job) → script ≡ Framed jobs → RunsJobs Stands Damages (Does does) contents leaves faults old new w0 w1 o0 o1 jobs result → Target script

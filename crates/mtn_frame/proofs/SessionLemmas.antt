@@ -68,7 +68,7 @@ split_at_place (x ∷ xs) (suc n) job inside is =
     let more = split_at_place xs n job (omega (arith, inside)) is in
     (x ∷ more.0, more.1, ap (λ ys. x ∷ ys) more.2, ap suc more.3)
 
-module _ (Stands : Contents → State → Type 0) (Damages : Contents → List ℕ → Type 0) (Lines : List ℕ → Type 0) {M : Type 0} (Knows : M → Contents → Type 0) {K : Type 0} (contents : K → Option Contents) (leaves : K → Contents → Type 0) (faults asked : K → ℕ)
+module _ (Stands : Contents → State → Type 0) (Damages Firsts : Contents → List ℕ → Type 0) (Lines : List ℕ → Type 0) {M : Type 0} (Knows : M → Contents → Type 0) {K : Type 0} (contents : K → Option Contents) (leaves : K → Contents → Type 0) (faults asked : K → ℕ)
     (Is : Job → State → Outcome → Type 0) (jobs : List Job) (old : K) (w0 : Option (List ℕ)) (o0 : ℕ) where
   -- the first n jobs were done and answered, over records that stand for a state
   pub record WalkedTo (s : State) (d : Contents) (w : Option (List ℕ)) (n : ℕ) : Type 0 where
@@ -97,8 +97,8 @@ module _ (Stands : Contents → State → Type 0) (Damages : Contents → List �
     sink_later = omega arith;
   }
 
-  module _ (cur next : K) (m m1 : M) (w w1 : Option (List ℕ)) (o o1 : ℕ) (front rest : List Job) (job : Job) (is_jobs : jobs ≡ front ++ job ∷ rest) (spelled merges : Bool) (bounded : State → ℕ → Type 0) (result : Status)
-      (walking : Walking cur m w o (length front)) (one : One Stands Damages Lines Knows contents leaves faults asked cur next m1 w w1 o o1 (Numbered (length front)) spelled merges (Is job) bounded result) where
+  module _ (cur next : K) (m m1 : M) (w w1 : Option (List ℕ)) (o o1 : ℕ) (front rest : List Job) (job : Job) (is_jobs : jobs ≡ front ++ job ∷ rest) (spelled merges vouched : Bool) (bounded : State → ℕ → Type 0) (result : Status)
+      (walking : Walking cur m w o (length front)) (one : One Stands Damages Firsts Lines Knows contents leaves faults asked cur next m1 w w1 o o1 (Numbered (length front)) spelled merges vouched (Is job) bounded result) where
     more_reached : (s : State) (os : List Outcome) (x : Outcome) → length os ≡ length front → Reaches Is s jobs os → Is job (state_after s os) x → Reaches Is s jobs (os ++ x ∷ [])
     more_reached s os x long reaches is = subst (λ js. Reaches Is s js (os ++ x ∷ [])) (sym is_jobs) (reaches_more Is s front rest job os x long (subst (λ js. Reaches Is s js os) is_jobs reaches) is)
 
@@ -236,20 +236,20 @@ module _ (Stands : Contents → State → Type 0) (Damages : Contents → List �
     sink_later = walking.sink_later;
   }
 
-  module _ (cur next : K) (m m1 : M) (w w1 : Option (List ℕ)) (o o1 : ℕ) (items : List Job) (n : ℕ) (job : Job) (spelled merges : Bool) (bounded : State → ℕ → Type 0) (result : Status) (same : items ≡ jobs) (inside : n < length items) (is : job ≡ get_or items n job)
-      (walking : Walking cur m w o n) (one : One Stands Damages Lines Knows contents leaves faults asked cur next m1 w w1 o o1 (Numbered n) spelled merges (Is job) bounded result) where
+  module _ (cur next : K) (m m1 : M) (w w1 : Option (List ℕ)) (o o1 : ℕ) (items : List Job) (n : ℕ) (job : Job) (spelled merges vouched : Bool) (bounded : State → ℕ → Type 0) (result : Status) (same : items ≡ jobs) (inside : n < length items) (is : job ≡ get_or items n job)
+      (walking : Walking cur m w o n) (one : One Stands Damages Firsts Lines Knows contents leaves faults asked cur next m1 w w1 o o1 (Numbered n) spelled merges vouched (Is job) bounded result) where
     pub ended_at : goes_on result ≡ false → RunsJobs Stands Damages Is contents leaves faults old next w0 w1 o0 o1 jobs result
     ended_at off =
         let at = split_at_place items n job inside is in
-        ends cur next m m1 w w1 o o1 at.0 at.1 job (sym same ∙ at.2) spelled merges bounded result (subst (Walking cur m w o) (sym at.3) walking)
-        (subst (λ k. One Stands Damages Lines Knows contents leaves faults asked cur next m1 w w1 o o1 (Numbered k) spelled merges (Is job) bounded result) (sym at.3) one) off
+        ends cur next m m1 w w1 o o1 at.0 at.1 job (sym same ∙ at.2) spelled merges vouched bounded result (subst (Walking cur m w o) (sym at.3) walking)
+        (subst (λ k. One Stands Damages Firsts Lines Knows contents leaves faults asked cur next m1 w w1 o o1 (Numbered k) spelled merges vouched (Is job) bounded result) (sym at.3) one) off
 
     pub walked_on : goes_on result ≡ true → Walking next m1 w1 o1 (n + 1)
     walked_on on =
         let at = split_at_place items n job inside is in
         subst (Walking next m1 w1 o1) (one_more at.0 n at.3)
-        (walks_on cur next m m1 w w1 o o1 at.0 at.1 job (sym same ∙ at.2) spelled merges bounded result (subst (Walking cur m w o) (sym at.3) walking)
-        (subst (λ k. One Stands Damages Lines Knows contents leaves faults asked cur next m1 w w1 o o1 (Numbered k) spelled merges (Is job) bounded result) (sym at.3) one) on)
+        (walks_on cur next m m1 w w1 o o1 at.0 at.1 job (sym same ∙ at.2) spelled merges vouched bounded result (subst (Walking cur m w o) (sym at.3) walking)
+        (subst (λ k. One Stands Damages Firsts Lines Knows contents leaves faults asked cur next m1 w w1 o o1 (Numbered k) spelled merges vouched (Is job) bounded result) (sym at.3) one) on)
       where
         one_more : (front : List Job) (k : ℕ) → length front ≡ k → suc (length front) ≡ k + 1
         one_more front k e = omega (arith, e)

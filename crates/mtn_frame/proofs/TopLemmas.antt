@@ -15,9 +15,9 @@ use Rattle.mtn_frame.specs.Kinds.{Kind, Answered, Cut, Halted, Quiet, Hurt, kind
 use Rattle.mtn_frame.specs.Limit.{Past, Within}
 use Rattle.mtn_model.specs.Outcome.{Outcome}
 use Rattle.mtn_frame.specs.Script.{Does, BoundsJob, IsScript, IsScriptIf, is_session, state_after}
-use Rattle.mtn_frame.specs.Frame.{Told, Counts, Shows, Untouched, Meets, LeavesRecords, Writes, keeps, HasCauses, Completes, StaysLawful, LeavesSource}
-use Rattle.mtn_frame.specs.Session.{RunsScript, AsksFewIf, is_framed, script_spelled, script_merging}
-use Rattle.mtn_frame.specs.Top.{Runs, reads, fed, Feeds, Unread, in_grammar, is_merge}
+use Rattle.mtn_frame.specs.Frame.{Told, Counts, Shows, Untouched, Meets, LeavesRecords, Writes, keeps, HasCauses, Completes, StaysLawful, LeavesSource, VouchesBare}
+use Rattle.mtn_frame.specs.Session.{RunsScript, AsksFewIf, VouchesIf, is_framed, script_spelled, script_merging, script_vouching}
+use Rattle.mtn_frame.specs.Top.{Runs, ComesTo, reads, fed, Feeds, Unread, in_grammar, is_merge, is_vouch}
 use Rattle.mtn_frame.proofs.OneLemmas.{writes_nothing}
 
 consumed : (l0 l1 : Option (List ℕ)) (input p : List ℕ) → l0 ≡ Some input → Consumes l0 l1 p → IsAtEnd l1 → (p ≡ input) × (l1 ≡ Some [])
@@ -114,7 +114,7 @@ known_by true b c on off = cc
 known_by false true c on off = cc
 known_by false false c on off = cc
 
-module _ (Stands : Contents → State → Type 0) (Damages : Contents → List ℕ → Type 0) (Lines : List ℕ → Type 0) (does : List (List ℕ) → List ℕ → State → Outcome → Type 0) (bounds : List (List ℕ) → List ℕ → State → ℕ → Type 0) (takes spelled merging : List (List ℕ) → Bool) (words : List (List ℕ)) where
+module _ (Stands : Contents → State → Type 0) (Damages Firsts : Contents → List ℕ → Type 0) (Lines : List ℕ → Type 0) (does : List (List ℕ) → List ℕ → State → Outcome → Type 0) (bounds : List (List ℕ) → List ℕ → State → ℕ → Type 0) (takes spelled merging vouching : List (List ℕ) → Bool) (words : List (List ℕ)) where
   abbrev Read : Bool
   Read = reads spelled takes words
 
@@ -125,7 +125,7 @@ module _ (Stands : Contents → State → Type 0) (Damages : Contents → List �
   Bounded input = bounds words (fed Read input)
 
   abbrev Target : Told → Told → Counts → Counts → (Contents → Type 0) → (Contents → Type 0) → Status → Type 0
-  Target before after counts0 counts1 may0 may1 result = Runs Stands Damages Lines (Does does) Bounded Scripts (is_session words) (in_grammar spelled words) (is_merge merging words) Read before after counts0 counts1 may0 may1 result
+  Target before after counts0 counts1 may0 may1 result = Runs Stands Damages Firsts Lines (Does does) Bounded (does words) Scripts (is_session words) (in_grammar spelled words) (is_merge merging words) (is_vouch vouching words) Read before after counts0 counts1 may0 may1 result
 
   -- where nothing failed, by what the call meets and its causes
   completes : (before after : Told) (counts0 counts1 : Counts) (st : Status) → Meets Stands (Does does) Scripts Read before after st → HasCauses (is_session words) (in_grammar spelled words) (is_merge merging words) Read before after counts0 counts1 st →
@@ -179,6 +179,7 @@ module _ (Stands : Contents → State → Type 0) (Damages : Contents → List �
           complete = completes Before After Counts0 Counts1 status.NoMemory (λ s input w d tells now. inl (record { contents = refl; written = refl })) causes;
           crash = λ s input w d e tells now left. inl left;
           few_reads = λ single c d s input n told now stands is bounded. omega arith;
+          vouches = λ on d now. tt;
         }
       where
         by_session : (b : Bool) → LeavesRecords b told told status.NoMemory
@@ -202,6 +203,7 @@ module _ (Stands : Contents → State → Type 0) (Damages : Contents → List �
           complete = completes Before After Counts0 Counts1 status.SourceFault (λ s input w d tells now. record { contents = refl; written = refl }) causes;
           crash = λ s input w d e tells now left. inl left;
           few_reads = λ single c d s input n told now stands is bounded. omega arith;
+          vouches = λ on d now. tt;
         }
 
     pub too_long : (Read ≡ true) × Past left0 left1 → (in_grammar spelled words ≡ false → ⊥) → Idle status.TooLong
@@ -217,11 +219,12 @@ module _ (Stands : Contents → State → Type 0) (Damages : Contents → List �
           complete = completes Before After Counts0 Counts1 status.TooLong (λ s input w d tells now. record { contents = refl; written = refl }) causes;
           crash = λ s input w d e tells now left. inl left;
           few_reads = λ single c d s input n told now stands is bounded. omega arith;
+          vouches = λ on d now. tt;
         }
 
   module _ {K : Type 0} (contents : K → Option Contents) (leaves : K → Contents → Type 0) (faults asked : K → ℕ) (old new : K) (left0 left1 w0 w1 : Option (List ℕ)) (s0 s1 o0 o1 : ℕ) (payload : List ℕ) (script : Script) (result : Status)
       (feeds : Feeds Read left0 left1 payload) (within : Within left0 left1) (unread : Unread Read left0 left1) (is : IsScript takes words payload script)
-      (run : RunsScript Stands Damages Lines (Does does) (BoundsJob bounds) contents leaves faults asked old new w0 w1 o0 o1 script (script_spelled spelled script) (script_merging merging script) result) where
+      (run : RunsScript Stands Damages Firsts Lines (Does does) (BoundsJob bounds) contents leaves faults asked old new w0 w1 o0 o1 script (script_spelled spelled script) (script_merging merging script) (script_vouching vouching script) result) where
     abbrev Start : Told
     Start = record { contents = contents old; left = left0; written = w0 }
 
@@ -249,6 +252,22 @@ module _ (Stands : Contents → State → Type 0) (Damages : Contents → List �
     few : (b : Bool) → b ≡ false → (c d : Contents) (s : State) (n : ℕ) → contents old ≡ Some c → contents new ≡ Some d → Stands c s → IsScriptIf b takes words payload script → bounds words payload s n → asked new ≤ asked old + n
     few true single c d s n told now stands is_script bounded = cc
     few false single c d s n told now stands is_script bounded = subst (λ x. AsksFewIf Stands (BoundsJob bounds) x (contents old) (contents new) (asked old) (asked new)) is_script run.few_reads c d s n told now stands bounded
+
+    vouch : (b : Bool) → not b && vouching words ≡ true → IsScriptIf b takes words payload script → (d : Contents) → contents new ≡ Some d → VouchesBare Stands Firsts (does words payload) d w0 w1 result
+    vouch true on is_script d now = cc
+    vouch false on is_script d now = subst (λ x. VouchesIf Stands Firsts (Does does) x (script_vouching vouching x) (contents new) w0 w1 result) is_script run.vouches on d now
+
+    with_source : (d : Contents) (st : Status) → VouchesBare Stands Firsts (does words payload) d w0 w1 st → VouchesBare Stands Firsts (ComesTo (does words) Read left0 left1) d w0 w1 st
+    with_source d status.Ok v = record { state = v.state; stands = v.stands; outcome = v.outcome; is = (payload, feeds, v.is); status = v.status; written = v.written }
+    with_source d status.Refused v = v
+    with_source d status.Usage v = v
+    with_source d status.Conflicts v = v
+    with_source d status.SourceFault v = v
+    with_source d status.SinkFault v = v
+    with_source d status.StoreFault v = v
+    with_source d status.NoMemory v = v
+    with_source d status.Damaged v = v
+    with_source d status.TooLong v = v
 
     run_causes : HasCauses (is_session words) (in_grammar spelled words) (is_merge merging words) Read Start Stop First Last result
     run_causes = record {
@@ -278,6 +297,7 @@ module _ (Stands : Contents → State → Type 0) (Damages : Contents → List �
         | inr after ↦ inr (script, script_is input tells.left, after)
       ];
       few_reads = λ single c d s input n told now stands is_told bounded. few (is_session words) single c d s n told now stands is (subst (λ p. bounds words p s n) (sym (given Read left0 left1 input payload is_told feeds).0) bounded);
+      vouches = λ on d now. with_source d result (vouch (is_session words) on is d now);
     }
 
   -- the same by the answer to whether the source is read

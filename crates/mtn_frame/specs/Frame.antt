@@ -10,13 +10,15 @@ use Rattle.mtn_model.specs.State.{State}
 use Rattle.mtn_ports.specs.Causes.{Rose}
 use Rattle.mtn_ports.specs.Kept.{Same, IfTold}
 use Rattle.mtn_frame.specs.declared.script.Form.{Form}
+use Rattle.mtn_frame.specs.declared.script.Form.TheVariants.{Plain}
 use Rattle.mtn_frame.specs.declared.script.Job.{Job}
 use Rattle.mtn_frame.specs.declared.script.Script.{Script}
 use Rattle.mtn_frame.specs.declared.script.Script.TheVariants.{Bare, Framed}
 use Rattle.mtn_model.specs.declared.status.Status.{Status}
 use Rattle.mtn_model.specs.declared.status.Status.TheVariants as status
-use Rattle.mtn_frame.specs.Kinds.{kind_of, ByKind}
+use Rattle.mtn_frame.specs.Kinds.{kind_of, ByKind, ByVouch}
 use Rattle.mtn_frame.specs.Limit.{Past, Within}
+use Rattle.mtn_frame.specs.One.{Vouched}
 use Rattle.mtn_model.specs.Outcome.{Outcome}
 use Rattle.mtn_frame.specs.Script.{jobs_of, Reaches, state_after, texts, printed, print_as, ending, usage_line}
 
@@ -211,3 +213,11 @@ StaysLawful Stands old new = (c d : Contents) (s : State) → old ≡ Some c →
 abbrev pub AsksFew : (Contents → State → Type 0) → (List ℕ → State → ℕ → Type 0) → Bool → Bool → Told → Told → Counts → Counts → Type 0
 AsksFew Stands Bounded session reads before after counts0 counts1 = session ≡ false → (c d : Contents) (s : State) (input : List ℕ) (n : ℕ) → before.contents ≡ Some c → after.contents ≡ Some d → Stands c s → OnTrue reads (before.left ≡ Some input) →
     Bounded input s n → counts1.reads ≤ counts0.reads + n
+
+-- what a single command that vouches for the store says of told records: that they stand for a state, or their first damage
+abbrev pub VouchesBare : (Contents → State → Type 0) → (Contents → List ℕ → Type 0) → (State → Outcome → Type 0) → Contents → Option (List ℕ) → Option (List ℕ) → Status → Type 0
+VouchesBare Stands Firsts Outcomes d written0 written1 result = ByVouch result (Vouched Stands Outcomes Plain d written0 written1 result) (ShowsDamage Firsts d written0 written1)
+
+-- the same of words that vouch, whatever the records are that are told at the end
+abbrev pub Vouches : (Contents → State → Type 0) → (Contents → List ℕ → Type 0) → (State → Outcome → Type 0) → Bool → Told → Told → Status → Type 0
+Vouches Stands Firsts Outcomes vouched before after result = vouched ≡ true → (d : Contents) → after.contents ≡ Some d → VouchesBare Stands Firsts Outcomes d before.written after.written result

@@ -1,4 +1,5 @@
 -- The kinds of the statuses.
+use Rattle.std.specs.Prelude.{⊤}
 use Rattle.mtn_model.specs.declared.status.Status.{Status}
 use Rattle.mtn_model.specs.declared.status.Status.TheVariants.{Ok, Refused, Usage, Conflicts, SourceFault, SinkFault, StoreFault, NoMemory, Damaged, TooLong}
 
@@ -29,3 +30,16 @@ ByKind Cut answered cut halted quiet hurt = cut
 ByKind Halted answered cut halted quiet hurt = halted
 ByKind Quiet answered cut halted quiet hurt = quiet
 ByKind Hurt answered cut halted quiet hurt = hurt
+
+-- a fact where a command that vouches for the store was done, and one where it shows a damage; it is never refused
+abbrev pub ByVouch : Status → Type 0 → Type 0 → Type 0
+ByVouch Ok sound hurt = sound
+ByVouch Refused sound hurt = ⊥
+ByVouch Usage sound hurt = ⊤
+ByVouch Conflicts sound hurt = ⊥
+ByVouch SourceFault sound hurt = ⊤
+ByVouch SinkFault sound hurt = ⊤
+ByVouch StoreFault sound hurt = ⊤
+ByVouch NoMemory sound hurt = ⊤
+ByVouch Damaged sound hurt = hurt
+ByVouch TooLong sound hurt = ⊤

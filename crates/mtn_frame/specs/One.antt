@@ -13,7 +13,7 @@ use Rattle.mtn_ports.specs.declared.keeper.KeepError.TheVariants.{Failed}
 use Rattle.mtn_frame.specs.declared.script.Form.{Form}
 use Rattle.mtn_model.specs.declared.status.Status.{Status}
 use Rattle.mtn_model.specs.declared.status.Status.TheVariants as status
-use Rattle.mtn_frame.specs.Kinds.{kind_of, ByKind}
+use Rattle.mtn_frame.specs.Kinds.{kind_of, ByKind, ByVouch}
 use Rattle.mtn_model.specs.Outcome.{Outcome}
 use Rattle.mtn_frame.specs.Script.{usage_line, print_as}
 
@@ -72,15 +72,24 @@ pub record ShowsOne (Damages : Contents → List ℕ → Type 0) (form : Form) (
   pub is : Damages c line
   pub written : Appends written0 written1 (print_as form status.Damaged line)
 
+-- the records stand for a state, over which the command was done and answered whole
+pub record Vouched (Stands : Contents → State → Type 0) (Outcomes : State → Outcome → Type 0) (form : Form) (d : Contents) (written0 written1 : Option (List ℕ)) (result : Status) : Type 0 where
+  pub state : State
+  pub stands : Stands d state
+  pub outcome : Outcome
+  pub is : Outcomes state outcome
+  pub status : result ≡ outcome.status
+  pub written : Appends written0 written1 (print_as form outcome.status outcome.output)
+
 -- the records stand for the state of such an outcome
 pub record StandsAfter (Stands : Contents → State → Type 0) (Is : Outcome → Type 0) (now : Contents) : Type 0 where
   pub outcome : Outcome
   pub is : Is outcome
   pub stands : Stands now outcome.state
 
-pub record One (Stands : Contents → State → Type 0) (Damages : Contents → List ℕ → Type 0) (Lines : List ℕ → Type 0) {M : Type 0} (Knows : M → Contents → Type 0)
+pub record One (Stands : Contents → State → Type 0) (Damages Firsts : Contents → List ℕ → Type 0) (Lines : List ℕ → Type 0) {M : Type 0} (Knows : M → Contents → Type 0)
     {K : Type 0} (contents : K → Option Contents) (leaves : K → Contents → Type 0) (faults asked : K → ℕ) (old new : K) (after : M)
-    (written0 written1 : Option (List ℕ)) (o0 o1 : ℕ) (form : Form) (spelled merges : Bool) (Outcomes : State → Outcome → Type 0) (Bounded : State → ℕ → Type 0) (result : Status) : Type 0 where
+    (written0 written1 : Option (List ℕ)) (o0 o1 : ℕ) (form : Form) (spelled merges vouched : Bool) (Outcomes : State → Outcome → Type 0) (Bounded : State → ℕ → Type 0) (result : Status) : Type 0 where
   pub told : WasTold (contents old) (contents new)
   pub done : (c d : Contents) (s : State) → contents old ≡ Some c → contents new ≡ Some d → Stands c s →
       ByKind (kind_of result) (AnsweredOne Stands (Outcomes s) form d written0 written1 result) (CutOne Stands (Outcomes s) form d written0 written1) (Stands d s × Appends written0 written1 []) ⊥ ⊥
@@ -96,5 +105,6 @@ pub record One (Stands : Contents → State → Type 0) (Damages : Contents → 
   pub store : result ≡ status.StoreFault → Rose (faults old) (faults new)
   pub sink : result ≡ status.SinkFault → Rose o0 o1
   pub few_reads : (c d : Contents) (s : State) (n : ℕ) → contents old ≡ Some c → contents new ≡ Some d → Stands c s → Bounded s n → asked new ≤ asked old + n
+  pub vouches : vouched ≡ true → (d : Contents) → contents new ≡ Some d → ByVouch result (Vouched Stands Outcomes form d written0 written1 result) (ShowsOne Firsts form d written0 written1)
   pub later : faults old ≤ faults new
   pub sink_later : o0 ≤ o1

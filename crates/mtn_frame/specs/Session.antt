@@ -12,8 +12,8 @@ use Rattle.mtn_model.specs.declared.status.Status.TheVariants as status
 use Rattle.mtn_model.specs.Outcome.{Outcome}
 use Rattle.mtn_frame.specs.Script.{jobs_of}
 use Rattle.mtn_frame.specs.One.{WasTold}
-use Rattle.mtn_frame.specs.Frame.{RunsOver, StandsAfterSome, LeavesRecords, Writes, Shows, ShowsLast}
-use Rattle.mtn_frame.specs.Works.{is_spelled, is_merging}
+use Rattle.mtn_frame.specs.Frame.{RunsOver, StandsAfterSome, LeavesRecords, Writes, Shows, ShowsLast, VouchesBare}
+use Rattle.mtn_frame.specs.Works.{is_spelled, is_merging, is_vouching}
 
 -- a session goes on behind an answer from 0 to 3
 abbrev pub goes_on : Status → Bool
@@ -65,15 +65,24 @@ abbrev pub script_merging : (List (List ℕ) → Bool) → Script → Bool
 script_merging merging (Bare job) = is_merging merging job
 script_merging merging (Framed jobs) = false
 
+-- whether it is one command that vouches for the store
+abbrev pub script_vouching : (List (List ℕ) → Bool) → Script → Bool
+script_vouching vouching (Bare job) = is_vouching vouching job
+script_vouching vouching (Framed jobs) = false
+
 -- a bare job asks for no more records than it says
 abbrev pub AsksFewIf : (Contents → State → Type 0) → (Job → State → ℕ → Type 0) → Script → Option Contents → Option Contents → ℕ → ℕ → Type 0
 AsksFewIf Stands Bounded (Bare job) old new before now = (c d : Contents) (s : State) (n : ℕ) → old ≡ Some c → new ≡ Some d → Stands c s → Bounded job s n → now ≤ before + n
 AsksFewIf Stands Bounded (Framed jobs) old new before now = ⊤
 
+abbrev pub VouchesIf : (Contents → State → Type 0) → (Contents → List ℕ → Type 0) → (Job → State → Outcome → Type 0) → Script → Bool → Option Contents → Option (List ℕ) → Option (List ℕ) → Status → Type 0
+VouchesIf Stands Firsts Is (Bare job) vouched new written0 written1 result = vouched ≡ true → (d : Contents) → new ≡ Some d → VouchesBare Stands Firsts (Is job) d written0 written1 result
+VouchesIf Stands Firsts Is (Framed jobs) vouched new written0 written1 result = ⊤
+
 -- What a script leaves, once the input was read.
-pub record RunsScript (Stands : Contents → State → Type 0) (Damages : Contents → List ℕ → Type 0) (Lines : List ℕ → Type 0) (Is : Job → State → Outcome → Type 0) (Bounded : Job → State → ℕ → Type 0)
+pub record RunsScript (Stands : Contents → State → Type 0) (Damages Firsts : Contents → List ℕ → Type 0) (Lines : List ℕ → Type 0) (Is : Job → State → Outcome → Type 0) (Bounded : Job → State → ℕ → Type 0)
     {K : Type 0} (contents : K → Option Contents) (leaves : K → Contents → Type 0) (faults asked : K → ℕ) (old new : K)
-    (written0 written1 : Option (List ℕ)) (o0 o1 : ℕ) (script : Script) (spelled merges : Bool) (result : Status) : Type 0 where
+    (written0 written1 : Option (List ℕ)) (o0 o1 : ℕ) (script : Script) (spelled merges vouched : Bool) (result : Status) : Type 0 where
   pub told : WasTold (contents old) (contents new)
   pub done : (c d : Contents) (s : State) → contents old ≡ Some c → contents new ≡ Some d → Stands c s → RunsOver Stands Is script s d written0 written1 result
   pub crash : (c d e : Contents) (s : State) → contents old ≡ Some c → contents new ≡ Some d → Stands c s → leaves new e → leaves old e ⊎ StandsAfterSome Stands Is s (jobs_of script) e
@@ -86,5 +95,6 @@ pub record RunsScript (Stands : Contents → State → Type 0) (Damages : Conten
   pub store : result ≡ status.StoreFault → Rose (faults old) (faults new)
   pub sink : result ≡ status.SinkFault → Rose o0 o1
   pub few_reads : AsksFewIf Stands Bounded script (contents old) (contents new) (asked old) (asked new)
+  pub vouches : VouchesIf Stands Firsts Is script vouched (contents new) written0 written1 result
   pub read : (result ≡ status.SourceFault → ⊥) × (result ≡ status.TooLong → ⊥)
   pub later : faults old ≤ faults new

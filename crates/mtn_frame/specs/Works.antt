@@ -56,17 +56,28 @@ HasReason spelled merges before now Lines IsDamage (Err (Damaged line)) = (spell
 HasReason spelled merges before now Lines IsDamage (Err Failed) = (spelled ≡ true) × Rose before now
 HasReason spelled merges before now Lines IsDamage (Err NoMemory) = ⊤
 
+-- What a command that vouches for the store says of records, whatever they are: that they stand for a state, over which it did
+-- this and put nothing, or that this is their first damage. No rule refuses it.
+abbrev pub VouchesFor : (Contents → State → Type 0) → (Contents → List ℕ → Type 0) → Contents → (State → Outcome → Type 0) → Result Worked WorkError → Type 0
+VouchesFor Stands Firsts c Outcomes (Ok worked) = (s : State) × Stands c s × Outcomes s (replied worked.reply s) × (worked.reply.conflicts ≡ false) × (worked.batch ≡ [])
+VouchesFor Stands Firsts c Outcomes (Err Usage) = ⊤
+VouchesFor Stands Firsts c Outcomes (Err (Refused refusal)) = ⊥
+VouchesFor Stands Firsts c Outcomes (Err (Damaged line)) = Firsts c line
+VouchesFor Stands Firsts c Outcomes (Err Failed) = ⊤
+VouchesFor Stands Firsts c Outcomes (Err NoMemory) = ⊤
+
 -- What a command does over a keeper, with a memory of what was read before that is true of its records. `Outcomes` says what it does to a state, `Knows` that a
--- memory is true of records, `Damages` that a line shows a damage of records, `Lines` that a line shows a damage at all, `Bounded` how
+-- memory is true of records, `Damages` that a line shows a damage of records, `Firsts` the first one, `Lines` that a line shows a damage at all, `Bounded` how
 -- many records are asked for at most.
-pub record Works (Stands : Contents → State → Type 0) (Damages : Contents → List ℕ → Type 0) (Lines : List ℕ → Type 0) {M : Type 0} (Knows : M → Contents → Type 0)
+pub record Works (Stands : Contents → State → Type 0) (Damages Firsts : Contents → List ℕ → Type 0) (Lines : List ℕ → Type 0) {M : Type 0} (Knows : M → Contents → Type 0)
     {K : Type 0} (contents : K → Option Contents) (leaves : K → Contents → Type 0) (faults asked : K → ℕ) (old new : K) (after : M)
-    (spelled merges : Bool) (Outcomes : State → Outcome → Type 0) (Bounded : State → ℕ → Type 0) (result : Result Worked WorkError) : Type 0 where
+    (spelled merges vouched : Bool) (Outcomes : State → Outcome → Type 0) (Bounded : State → ℕ → Type 0) (result : Result Worked WorkError) : Type 0 where
   pub stays : Stays contents leaves faults old new
   pub done : (c : Contents) (s : State) → contents new ≡ Some c → Stands c s → WorksOver Stands c s (Outcomes s) result
   pub knows : (c : Contents) → contents new ≡ Some c → Knows after (with_all c (puts_of result))
   pub reason : HasReason spelled merges (faults old) (faults new) Lines (λ line. IfTold (contents new) (λ c. Damages c line)) result
   pub few_reads : (c : Contents) (s : State) (n : ℕ) → contents new ≡ Some c → Stands c s → Bounded s n → asked new ≤ asked old + n
+  pub vouches : (c : Contents) → contents new ≡ Some c → vouched ≡ true → VouchesFor Stands Firsts c Outcomes result
 
 -- whether the words of a job are in the grammar; an input that is no list of requests came with words that are
 abbrev pub is_spelled : (List (List ℕ) → Bool) → Job → Bool
@@ -76,6 +87,10 @@ is_spelled spelled (BadInput number) = true
 abbrev pub is_merging : (List (List ℕ) → Bool) → Job → Bool
 is_merging merges (Call words payload) = merges words
 is_merging merges (BadInput number) = false
+
+abbrev pub is_vouching : (List (List ℕ) → Bool) → Job → Bool
+is_vouching vouches (Call words payload) = vouches words
+is_vouching vouches (BadInput number) = false
 
 -- an answer with what is to be put for it
 abbrev pub settled : Form → Status → List ℕ → List Put → Settled

@@ -2,7 +2,7 @@
 ghost use Rattle.std.specs.Prelude.{◌≡◌, ◌≤◌, ◌&&◌, ◌||◌, IfOk, OnErr, IsErrOf, map, true};
 ghost use Rattle.mtn_frame.specs.Script.{Does, IsScript, is_session as session_words, IsSession, job_of, front_of, last_of};
 ghost use Rattle.mtn_frame.specs.Limit.{Stops};
-ghost use Rattle.mtn_frame.specs.Top.{Feeds, Unread, Runs, reads, fed, in_grammar, is_merge};
+ghost use Rattle.mtn_frame.specs.Top.{Feeds, Unread, Runs, reads, fed, in_grammar, is_merge, is_vouch};
 ghost use Rattle.mtn_ports.specs.Causes.{Rose};
 
 use crate::payload::{ReadStop, read_payload};
@@ -148,8 +148,8 @@ pub fn run_frame<C: Commands, S: Source, O: Sink, K: Keeper>(
     sink: &mut O,
     keeper: &mut K,
 ) -> Status
-    ensures { Runs (C.stands commands.now) (C.damages commands.now) C.lines (Does (C.does commands.now)) (λ input. C.bounds commands.now words.now (fed (reads C.spelled C.takes words.now) input)) (λ input. IsScript C.takes words.now (fed (reads C.spelled C.takes words.now) input))
-        (session_words words.now) (in_grammar C.spelled words.now) (is_merge C.merging words.now) (reads C.spelled C.takes words.now)
+    ensures { Runs (C.stands commands.now) (C.damages commands.now) (C.firsts commands.now) C.lines (Does (C.does commands.now)) (λ input. C.bounds commands.now words.now (fed (reads C.spelled C.takes words.now) input)) (C.does commands.now words.now) (λ input. IsScript C.takes words.now (fed (reads C.spelled C.takes words.now) input))
+        (session_words words.now) (in_grammar C.spelled words.now) (is_merge C.merging words.now) (is_vouch C.vouching words.now) (reads C.spelled C.takes words.now)
         (record { contents = K.contents keeper.old; left = S.left source.old; written = O.written sink.old })
         (record { contents = K.contents keeper.new; left = S.left source.new; written = O.written sink.new })
         (record { keeper = K.faults keeper.old; source = S.faults source.old; sink = O.faults sink.old; reads = K.reads keeper.old })

@@ -62,6 +62,9 @@ pub trait Commands {
     /// A line shows a damage of contents.
     ghost damages: { Self → Contents → Seq ℕ → Type 0 };
 
+    /// A line shows the first damage of contents.
+    ghost firsts: { Self → Contents → Seq ℕ → Type 0 };
+
     /// A line shows a damage, of whatever contents.
     ghost lines: { Seq ℕ → Type 0 };
 
@@ -76,6 +79,9 @@ pub trait Commands {
 
     /// Words of a merge.
     ghost merging: { Seq (Seq ℕ) → Bool };
+
+    /// Words of a command that vouches for the store: it says that the contents stand for a state, or shows their first damage.
+    ghost vouching: { Seq (Seq ℕ) → Bool };
 
     /// Raw words that ask for a payload.
     ghost takes: { Seq (Seq ℕ) → Bool };
@@ -102,6 +108,6 @@ pub trait Commands {
         keeper: &mut K,
     ) -> Result<Worked, WorkError>
         requires knows { IfSome (K.contents keeper.old) (knows self.now memory.old) }
-        ensures works { Works (stands self.now) (damages self.now) lines (knows self.now) K.contents K.leaves K.faults K.reads keeper.old keeper.new memory.new
-            (spelled words.now) (merging words.now) (does self.now words.now payload.now) (bounds self.now words.now payload.now) result };
+        ensures works { Works (stands self.now) (damages self.now) (firsts self.now) lines (knows self.now) K.contents K.leaves K.faults K.reads keeper.old keeper.new memory.new
+            (spelled words.now) (merging words.now) (vouching words.now) (does self.now words.now payload.now) (bounds self.now words.now payload.now) result };
 }

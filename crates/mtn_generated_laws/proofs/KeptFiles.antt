@@ -19,7 +19,7 @@ use Rattle.mtn_replay.specs.Texts.{text_under}
 use Rattle.mtn_replay.proofs.FileLemmas.{get_inserted, insert_held, keeps_more}
 use Rattle.mtn_step_laws.proofs.Accepting.{refused_already}
 use Rattle.mtn_step_laws.proofs.Certifying.{both_none}
-use Rattle.mtn_generated_laws.proofs.LawfulGrowth.{IsAdded, next, went_on}
+use Rattle.mtn_step_laws.proofs.LawfulGrowth.{IsAdded, next, went_on}
 
 onward : (a b c : Table) → Keeps a b → Keeps b c → Keeps a c
 onward a b c first then id bytes held = then id bytes (first id bytes held)

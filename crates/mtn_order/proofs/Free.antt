@@ -5,7 +5,7 @@ use Rattle.mtn_base.specs.declared.refusal.Cause.TheVariants.{UnknownFile, Unkno
 use Rattle.mtn_model.specs.Outcome.{Outcome}
 use Rattle.mtn_step.specs.Step.{found, id_line, unless, PutsRevision, Steps}
 use Rattle.mtn_step.specs.declared.call.Call.{Call}
-use Rattle.mtn_step.specs.declared.call.Call.TheVariants.{PutFile, PutRevision, GetFile, GetRevision, GetManifestOf, GetRoster, GetContentChanged, GetCorrespondingPath, Ask, Graph, Merge, ShowConflicts, Cert, Certs, Key, Heads, Branches, Commit, MergeHeads, Packets, Read}
+use Rattle.mtn_step.specs.declared.call.Call.TheVariants.{PutFile, PutRevision, GetFile, GetRevision, GetManifestOf, GetRoster, GetContentChanged, GetCorrespondingPath, Ask, Graph, Merge, ShowConflicts, Cert, Certs, Key, Heads, Branches, Commit, MergeHeads, Packets, Read, Generate, Check}
 use Rattle.mtn_step_laws.proofs.Outcomes.{one_of_step}
 use Rattle.mtn_replay.specs.Files.{file_refusal, with_file}
 use Rattle.mtn_replay.specs.Texts.{text_under}
@@ -16,6 +16,7 @@ use Rattle.mtn_step.specs.Certifying.{merge_said, signature_of}
 use Rattle.mtn_order.specs.Free.{in_log_order, IsOrderFree, IsSameOutcome, KeepsIds}
 use Rattle.mtn_order.proofs.Certs.{branches_there, certified_there, commits_free, heads_free, listed_there, merges_heads_free, named_there}
 use Rattle.mtn_order.proofs.Framing.{asked_free, graphed_free, is_outcome, same_found, same_unless, viewed_free}
+use Rattle.mtn_order.proofs.Generating.{checks_free, generates_free}
 use Rattle.mtn_order.proofs.Importing.{reading_free}
 use Rattle.mtn_order.proofs.Plans.{merge_free, shows_free}
 use Rattle.mtn_order.proofs.Revisions.{puts_free}
@@ -61,6 +62,8 @@ step_free f (MergeHeads branch author date key resolves) payload free ids s t o 
     merges_heads_free f (ids.1 refl) (merge_said key author branch date) (λ l r. ids.0) resolves payload branch s t o same does
 step_free f (Packets id have) payload free ids s t o same does = absurd (let e = free in cc)
 step_free f Read payload free ids s t o same does = reading_free f payload s t o same does
+step_free f (Generate n) payload free ids s t o same does = generates_free f n s t o same does
+step_free f Check payload free ids s t o same does = checks_free f s t o same does
 
 -- so any two outcomes are the same
 pub steps_same : (f : List ℕ → List ℕ) (call : Call) (payload : List ℕ) → in_log_order call ≡ false → KeepsIds f call → (s t : State) (o p : Outcome) → IsSameUpToOrder f s t → Steps f call payload s o → Steps f call payload t p → IsSameOutcome f o p

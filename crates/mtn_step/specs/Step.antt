@@ -1,5 +1,5 @@
 -- What a command does to a state, and what it answers.
-use Rattle.std.specs.Prelude.{◌≡◌, List, [], ◌∷◌, ◌++◌, Option, Some, None, Ok, Err, ℕ, Bool, true, false}
+use Rattle.std.specs.Prelude.{◌≡◌, List, [], ◌∷◌, ◌++◌, length, codes, decimal, Option, Some, None, Ok, Err, ℕ, Bool, true, false}
 use Rattle.std.specs.FinMap.{get}
 use Rattle.std.specs.List.{flat_map}
 use Rattle.hex.specs.Hex.{encode_lower}
@@ -20,6 +20,9 @@ use Rattle.mtn_base.specs.declared.refusal.Refusal.{Refusal}
 use Rattle.mtn_changeset_laws.specs.Changes.{or_else}
 use Rattle.mtn_conflicts.specs.ConflictText.{conflict_stanzas}
 use Rattle.mtn_conflicts.specs.declared.lists.Conflicts.{Conflicts}
+use Rattle.mtn_generated.specs.Growing.{Answer, Generates}
+use Rattle.mtn_generated.specs.Growing.Stop.{Refused, Conflicting}
+use Rattle.mtn_generated.specs.Numbered.{summary_text}
 use Rattle.mtn_history_laws.specs.History.{Revision}
 use Rattle.mtn_exports.specs.Exports.{IsExported}
 use Rattle.mtn_imports.specs.Imports.{Kept, ReadsInput, kept_text}
@@ -34,7 +37,7 @@ use Rattle.mtn_replay.specs.Files.{file_refusal, with_file}
 use Rattle.mtn_replay.specs.Lawful.{IsHistory}
 use Rattle.mtn_replay.specs.Texts.{text_under}
 use Rattle.mtn_step.specs.declared.call.Call.{Call}
-use Rattle.mtn_step.specs.declared.call.Call.TheVariants.{PutFile, PutRevision, GetFile, GetRevision, GetManifestOf, GetRoster, GetContentChanged, GetCorrespondingPath, Ask, Graph, Merge, ShowConflicts, Cert, Certs, Key, Heads, Branches, Commit, MergeHeads, Packets, Read}
+use Rattle.mtn_step.specs.declared.call.Call.TheVariants.{PutFile, PutRevision, GetFile, GetRevision, GetManifestOf, GetRoster, GetContentChanged, GetCorrespondingPath, Ask, Graph, Merge, ShowConflicts, Cert, Certs, Key, Heads, Branches, Commit, MergeHeads, Packets, Read, Generate, Check}
 use Rattle.mtn_step.specs.declared.call.Said.{Said}
 use Rattle.mtn_step.specs.Certifying.{AreBranches, AreCertsOf, AreHeads, certs_text, held_refusal, key_refusal, merge_said, said_certs, said_refusal, signature_of, value_lines, with_certs}
 
@@ -163,6 +166,16 @@ pub record ReadsPackets (f : List ℕ → List ℕ) (input : List ℕ) (s : Stat
   pub reads : ReadsInput f s input refusal after new
   pub is : o ≡ read_outcome refusal s after new
 
+-- what n generated revisions are answered with: their summary, the refusal, or the conflicts of a merge
+abbrev pub Generated : ℕ → State → Answer → Outcome → Type 0
+Generated n s (Ok g) o = o ≡ done g.state (summary_text n g.tips.last)
+Generated n s (Err (Refused cause)) o = o ≡ refused cause s
+Generated n s (Err (Conflicting left right conflicts)) o = o ≡ conflicted s (conflict_text left right conflicts)
+
+-- `ok`, the number of revisions, and LF
+abbrev pub sound_text : State → List ℕ
+sound_text s = codes "ok " ++ decimal (length s.log) ++ 10 ∷ []
+
 -- The outcome of a command over a state, one line a command; f is what the ident makes of a text.
 abbrev pub Steps : (List ℕ → List ℕ) → Call → List ℕ → State → Outcome → Type 0
 Steps f PutFile payload s o = o ≡ unless (file_refusal f s payload) s (with_file f s payload) (id_line (f payload))
@@ -187,6 +200,8 @@ Steps f (MergeHeads branch author date key resolves) payload s o = OfHistory f s
     HeadsMerged (λ left right. Merges f s.files h left right resolves payload) (λ left right. Commits f (merge_said key author branch date left right)) s o ids)
 Steps f (Packets id have) payload s o = OfHistory f s (λ h. Viewed (IsExported s h id have) s o)
 Steps f Read payload s o = ReadsPackets f payload s o
+Steps f (Generate n) payload s o = (answer : Answer) × Generates f n s answer × Generated n s answer o
+Steps f Check payload s o = o ≡ done s (sound_text s)
 
 -- whether a command takes a payload, one line a command
 abbrev pub takes_payload : Call → Bool
@@ -211,3 +226,5 @@ takes_payload (Commit said) = true
 takes_payload (MergeHeads branch author date key resolves) = resolves
 takes_payload (Packets id have) = false
 takes_payload Read = true
+takes_payload (Generate n) = false
+takes_payload Check = false

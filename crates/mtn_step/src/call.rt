@@ -111,6 +111,12 @@ pub enum Call {
     },
     /// `read`: accepts the payload's packets, all or none, and answers how many files, revisions and certificates are new.
     Read,
+    /// `generate N`: accepts N generated revisions, all or none, in a store that has none, and answers how many they are.
+    Generate {
+        count: u64,
+    },
+    /// `check`: reads the whole store, and answers how many revisions it has.
+    Check,
 }
 
 impl Call {
@@ -135,6 +141,7 @@ impl Call {
             Call::MergeHeads { resolves, .. } => *resolves,
             Call::Packets { .. } => false,
             Call::Read => true,
+            Call::Generate { .. } | Call::Check => false,
         }
     }
 }

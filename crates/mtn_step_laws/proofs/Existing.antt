@@ -22,7 +22,9 @@ use Rattle.mtn_step.specs.Certifying.{AreHeads, merge_said}
 use Rattle.mtn_step.specs.Step.{Asked, Commits, Ended, Ending, HeadsMerged, Listed, OfHistory, PutsRevision, Shown, Steps, Viewed, told}
 use Rattle.mtn_step.specs.declared.call.Said.{Said}
 use Rattle.mtn_step.specs.declared.call.Call.{Call}
-use Rattle.mtn_step.specs.declared.call.Call.TheVariants.{PutFile, PutRevision, GetFile, GetRevision, GetManifestOf, GetRoster, GetContentChanged, GetCorrespondingPath, Ask, Graph, Merge, ShowConflicts, Cert, Certs, Key, Heads, Branches, Commit, MergeHeads, Packets, Read}
+use Rattle.mtn_step.specs.declared.call.Call.TheVariants.{PutFile, PutRevision, GetFile, GetRevision, GetManifestOf, GetRoster, GetContentChanged, GetCorrespondingPath, Ask, Graph, Merge, ShowConflicts, Cert, Certs, Key, Heads, Branches, Commit, MergeHeads, Packets, Read, Generate, Check}
+use Rattle.mtn_step_laws.proofs.Generating.{some_generated}
+use Rattle.mtn_step_laws.proofs.SomeGeneration.{some_of}
 use Rattle.mtn_step_laws.proofs.CertLists.{some_branches, some_certs, some_heads}
 use Rattle.mtn_exports.specs.Exports.{IsExported}
 use Rattle.mtn_exports.proofs.Sending.{some_export}
@@ -108,3 +110,5 @@ module _ (f : List ℕ → List ℕ) (s : State) (lawful : IsLawful f s) where
       (o.0, (lawful.history, lawful.log, (ids.0, ids.1, o.1)))
   some_of_step (Packets id have) payload = viewed (λ h answer. IsExported s h id have answer) (some_export f s lawful.history lawful.log (λ x. some_certs s.certs x) id have)
   some_of_step Read payload = some_reading f s payload lawful
+  some_of_step (Generate n) payload = let answer = some_of f n s lawful in let o = some_generated n s answer.0 in (o.0, (answer.0, answer.1, o.1))
+  some_of_step Check payload = (_, refl)

@@ -4,6 +4,8 @@ pub mod Decided
 pub mod OnePlan
 pub mod SomePlan
 pub mod Swapped
+pub mod OneGeneration
+pub mod Generating
 pub mod Outcomes
 pub mod Decoding
 pub mod Telling
@@ -14,4 +16,6 @@ pub mod Accepting
 pub mod Importing
 pub mod OneImport
 pub mod SomeImport
+pub mod LawfulGrowth
+pub mod SomeGeneration
 pub mod Existing

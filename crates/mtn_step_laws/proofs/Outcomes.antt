@@ -3,7 +3,7 @@ use Rattle.std.proofs.Common.{◌≡◌, ℕ, Bool, List, [], ◌∷◌, Option,
 use Rattle.mtn_model.specs.State.{State}
 use Rattle.mtn_replay.specs.Lawful.{IsLawful}
 use Rattle.mtn_step.specs.declared.call.Call.{Call}
-use Rattle.mtn_step.specs.declared.call.Call.TheVariants.{PutFile, PutRevision, GetFile, GetRevision, GetManifestOf, GetRoster, GetContentChanged, GetCorrespondingPath, Ask, Graph, Merge, ShowConflicts, Cert, Certs, Key, Heads, Branches, Commit, MergeHeads, Packets, Read}
+use Rattle.mtn_step.specs.declared.call.Call.TheVariants.{PutFile, PutRevision, GetFile, GetRevision, GetManifestOf, GetRoster, GetContentChanged, GetCorrespondingPath, Ask, Graph, Merge, ShowConflicts, Cert, Certs, Key, Heads, Branches, Commit, MergeHeads, Packets, Read, Generate, Check}
 use Rattle.mtn_history_laws.specs.History.{Revision}
 use Rattle.mtn_replay.proofs.Histories.{one_history}
 use Rattle.mtn_answers.specs.Views.{TextAnswer}
@@ -32,6 +32,8 @@ use Rattle.mtn_step.specs.declared.call.Said.{Said}
 use Rattle.mtn_step_laws.proofs.Decided.{one_commit, one_decided}
 use Rattle.mtn_exports.specs.Exports.{IsExported}
 use Rattle.mtn_exports.proofs.Sending.{one_export}
+use Rattle.mtn_step_laws.proofs.Generating.{one_generated}
+use Rattle.mtn_step_laws.proofs.OneGeneration.{one_of}
 use Rattle.mtn_step_laws.proofs.OneImport.{one_reading}
 use Rattle.mtn_step_laws.proofs.OnePlan.{one_looked, one_plan}
 use Rattle.mtn_answers.proofs.Orders.{one_answer, one_graph}
@@ -144,3 +146,5 @@ one_of_step f s (MergeHeads branch author date key resolves) payload o p lawful 
     of_heads f s branch (λ h ids q. HeadsMerged (λ l r. Merges f s.files h l r resolves payload) (λ l r. Commits f (said l r)) s q ids) o p (λ h ids history x y. one_merged f s h resolves payload said ids o p history x y) is also
 one_of_step f s (Packets id have) payload o p lawful is also = one_viewed f s (λ h answer. IsExported s h id have answer) o p (λ h a b x y. one_export s h id have a b x y) is also
 one_of_step f s Read payload o p lawful is also = one_reading f payload s o p is also
+one_of_step f s (Generate n) payload o p lawful is also = one_generated n s o p is.0 also.0 (one_of f n s is.0 also.0 is.1 also.1) is.2 also.2
+one_of_step f s Check payload o p lawful is also = is ∙ sym also

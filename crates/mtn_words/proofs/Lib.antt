@@ -1,3 +1,4 @@
 mod WordsLemmas
 mod PathWords
 mod Names
+mod Counts

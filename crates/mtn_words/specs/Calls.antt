@@ -4,14 +4,14 @@ use Rattle.std.specs.Option.{option_and_then}
 use Rattle.mtn_base.specs.Hex.{read_id}
 use Rattle.mtn_base.specs.declared.id.Id.{Id}
 use Rattle.mtn_step.specs.declared.call.Call.{Call}
-use Rattle.mtn_step.specs.declared.call.Call.TheVariants.{PutFile, PutRevision, GetFile, GetRevision, GetManifestOf, GetRoster, GetContentChanged, GetCorrespondingPath, Ask, Graph, Merge, ShowConflicts, Cert, Certs, Key, Heads, Branches, Commit, MergeHeads, Packets, Read}
+use Rattle.mtn_step.specs.declared.call.Call.TheVariants.{PutFile, PutRevision, GetFile, GetRevision, GetManifestOf, GetRoster, GetContentChanged, GetCorrespondingPath, Ask, Graph, Merge, ShowConflicts, Cert, Certs, Key, Heads, Branches, Commit, MergeHeads, Packets, Read, Generate, Check}
 use Rattle.mtn_step.specs.declared.call.Said.{Said}
 use Rattle.mtn_answers.specs.declared.query.Query.{Query}
 use Rattle.mtn_answers.specs.declared.query.Query.TheVariants.{Parents, Children, Ancestors, Descendents, CommonAncestors, EraseAncestors, Toposort, AncestryDifference, Leaves, Roots}
 use Rattle.mtn_words.specs.declared.words.Command.{Command}
 use Rattle.mtn_words.specs.declared.words.OptionWord.{OptionWord}
 use Rattle.mtn_words.specs.Options.{has_flag, option_value, takes, with_key, with_value}
-use Rattle.mtn_words.specs.Positionals.{id_and_ids, ids, no_words, one_id, one_word, read_path, some_ids, two_ids}
+use Rattle.mtn_words.specs.Positionals.{id_and_ids, ids, no_words, one_count, one_id, one_word, read_path, some_ids, two_ids}
 use Rattle.mtn_words.specs.Words.{command_of}
 
 -- an id and a path
@@ -85,6 +85,8 @@ call_named name words =
     else if bytes_eq name (codes "get_revision") then option_map GetRevision (one_id words)
     else if bytes_eq name (codes "key") then key_named words
     else if bytes_eq name (codes "read") then option_map (λ _. Read) (no_words words)
+    else if bytes_eq name (codes "generate") then option_map Generate (one_count words)
+    else if bytes_eq name (codes "check") then option_map (λ _. Check) (no_words words)
     else view_named name words
 
 -- a command that takes no option

@@ -1,7 +1,8 @@
 -- Words that stand behind a command and its options: none, a word, ids, paths.
-use Rattle.std.specs.Prelude.{List, [], ◌∷◌, Option, Some, None, ℕ, Bool, ◌&&◌, not, nat_lt, nat_le, length, option_map, if◌then◌else◌}
+use Rattle.std.specs.Prelude.{List, [], ◌∷◌, Option, Some, None, ℕ, Bool, ◌&&◌, not, nat_lt, nat_le, bytes_eq, decimal, length, option_map, if◌then◌else◌}
 use Rattle.std.specs.List.{list_all}
 use Rattle.std.specs.Str.{is_utf8}
+use Rattle.std.specs.Str.Parse.{digits_value}
 use Rattle.std.specs.Option.{option_and_then}
 use Rattle.mtn_base.specs.Comps.{is_dots, is_plain_byte}
 use Rattle.mtn_base.specs.Hex.{read_id}
@@ -58,3 +59,15 @@ two_ids make [] = None
 two_ids make (a ∷ []) = None
 two_ids make (a ∷ b ∷ []) = option_and_then (λ x. option_map (make x) (read_id b)) (read_id a)
 two_ids make (_ ∷ _ ∷ _ ∷ _) = None
+
+-- the number of revisions to be generated, from 1 to 2000, in decimal digits without a leading zero
+abbrev pub count_with : List ℕ → ℕ → Option ℕ
+count_with word n = if bytes_eq word (decimal n) && (nat_le 1 n && nat_le n 2000) then Some n else None
+
+abbrev pub read_count : List ℕ → Option ℕ
+read_count word = count_with word (digits_value 10 word)
+
+abbrev pub one_count : List (List ℕ) → Option ℕ
+one_count [] = None
+one_count (word ∷ []) = read_count word
+one_count (_ ∷ _ ∷ _) = None

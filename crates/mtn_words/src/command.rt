@@ -6,7 +6,7 @@ ghost use Rattle.mtn_words.specs.Words.{Reads};
 
 use crate::options::takes;
 use crate::positionals::{
-    id_of_word, ids, no_words, one_id, one_word, path_word, some_ids, two_ids,
+    id_of_word, ids, no_words, one_count, one_id, one_word, path_word, some_ids, two_ids,
 };
 use crate::with_options::{cert, commit, merge, merge_heads};
 use crate::words::{OptionWord, WordsError, step_words};
@@ -87,6 +87,8 @@ fn call_named(alloc: Global, name: &str, words: &[Bytes]) -> Result<Call, WordsE
         "get_revision" => one_id(words).map(|id| Call::GetRevision { id }),
         "key" => key_named(alloc, words),
         "read" => no_words(words).map(|()| Call::Read),
+        "generate" => one_count(alloc, words).map(|count| Call::Generate { count }),
+        "check" => no_words(words).map(|()| Call::Check),
         _ => view_named(alloc, name, words),
     }
 }

@@ -1,4 +1,4 @@
-use Rattle.mtn_generated_laws.proofs.OneGeneration.{one_of}
+use Rattle.mtn_step_laws.proofs.OneGeneration.{one_of}
 use Rattle.mtn_generated_laws.proofs.one_generation.Goals as goal
 
 pub returns : goal.returns

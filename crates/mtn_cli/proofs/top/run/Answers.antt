@@ -1,3 +1,4 @@
+use Rattle.mtn_cli.proofs.SoundLemmas.{checks_are_sound}
 use Rattle.mtn_cli.proofs.RunLemmas.{heads_merges_are_decided, merges_are_decided, order_free, stays_lawful}
 use Rattle.mtn_cli.proofs.top.run.Goals as goal
 
@@ -13,6 +14,9 @@ returns g c =
       causes = all.causes;
       complete = all.complete;
       crash = all.crash;
+      vouches = all.vouches;
+      checks = checks_are_sound (g.I.Ident.meaning c.args.ident.now) c.args.words.now (record { contents = g.K.Keeper.contents c.args.keeper.now; left = g.S.Source.left c.args.source.now; written = g.O.Sink.written c.args.sink.now })
+          (record { contents = g.K.Keeper.contents c.run_words.new.keeper; left = g.S.Source.left c.run_words.new.source; written = g.O.Sink.written c.run_words.new.sink }) c.run_words.result all.vouches;
       order_free = order_free (g.I.Ident.meaning c.args.ident.now) c.args.words.now;
       merges = merges_are_decided (g.I.Ident.meaning c.args.ident.now) c.args.words.now _ _ c.run_words.result all.meets;
       merges_heads = heads_merges_are_decided (g.I.Ident.meaning c.args.ident.now) c.args.words.now _ _ c.run_words.result all.meets;

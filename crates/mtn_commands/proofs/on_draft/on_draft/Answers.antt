@@ -64,3 +64,6 @@ returns-in-Packets-clause-replies g c = rw c.in-Packets.is (replies_as _ _ _ _ _
 
 pub unreachable-requires : goal.unreachable-requires
 unreachable-requires g c = c.requires.other c.in-Read.is
+
+pub unreachable-requires-in-Check : goal.unreachable-requires-in-Check
+unreachable-requires-in-Check g c = c.requires.unchecked c.in-Check.is

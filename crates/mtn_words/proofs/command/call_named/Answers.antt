@@ -12,4 +12,6 @@ returns-in_default c =
       not_named name (codes "get_revision") c.in_default.not-get_revision,
       not_named name (codes "key") c.in_default.not-key,
       not_named name (codes "read") c.in_default.not-read,
+      not_named name (codes "generate") c.in_default.not-generate,
+      not_named name (codes "check") c.in_default.not-check,
     ) c.view_named.ensures

@@ -12,7 +12,7 @@ use Rattle.mtn_replay.specs.Lawful.{IsLawful}
 use Rattle.mtn_replay.proofs.Histories.{history_is_grown}
 use Rattle.mtn_step_laws.proofs.SomeDecision.{some_decision}
 use Rattle.mtn_step_laws.proofs.SomePlan.{some_plan}
-use Rattle.mtn_generated_laws.proofs.LawfulGrowth.{lawful_files, lawful_growth}
+use Rattle.mtn_step_laws.proofs.LawfulGrowth.{lawful_files, lawful_growth}
 
 module _ (f : List ℕ → List ℕ) (work : Work) (tips : Tips) (s : State) (lawful : IsLawful f s) where
   some_text : (text : List ℕ) → (answer : Answer) × PutsText f work tips s text answer

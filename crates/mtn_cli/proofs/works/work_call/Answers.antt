@@ -1,0 +1,10 @@
+use Rattle.mtn_history.specs.Memory.{Knows}
+use Rattle.mtn_cli.proofs.CheckLemmas.{remembering}
+use Rattle.mtn_cli.proofs.works.work_call.Goals as goal
+
+pub work_on-requires-clause-unchecked : goal.work_on-requires-clause-unchecked
+work_on-requires-clause-unchecked g c = λ κs alive. c.in_default.not-Check
+
+pub returns-in-Check : goal.returns-in-Check
+returns-in-Check g c =
+    remembering (g.I.Ident.meaning c.args.ident.now) g.K.Keeper.contents g.K.Keeper.leaves g.K.Keeper.faults g.K.Keeper.reads c.args.keeper.now c.check.new.keeper c.check.ensures.stays Knows c.args.memory.now c.args.call.now c.args.payload.now c.check.result c.in-Check.is c.requires c.check.ensures
