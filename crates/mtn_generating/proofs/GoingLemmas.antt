@@ -1,8 +1,9 @@
 -- What calls do over a draft, one after the other.
-use Rattle.std.specs.Prelude.{IfErr, IfSome}
+use Rattle.std.specs.Prelude.{IfSome}
 use Rattle.std.proofs.Common.{◌≡◌, ◌≢◌, ◌⊎◌, ℕ, ◌≤◌, List, false, [], Option, Some, None, Result, Ok, Err, refl, sym, ap, ◌∙◌, subst, ⊎_elim, arith}
 use Rattle.mtn_base.specs.Hex.{id_of}
 use Rattle.mtn_base.specs.declared.id.Id.{Id}
+use Rattle.mtn_conflicts.specs.ConflictText.{IsLesser}
 use Rattle.mtn_conflicts.specs.declared.lists.Conflicts.{Conflicts}
 use Rattle.mtn_base.specs.declared.refusal.Cause.{Cause}
 use Rattle.mtn_generated.specs.Growing.Stop.{Refused}
@@ -40,7 +41,7 @@ use Rattle.mtn_replay.specs.Making.{edge_tree}
 use Rattle.mtn_roster.specs.Tree.{Tree}
 use Rattle.mtn_reading.specs.Unfit.{IsAnswered, IsShownFor}
 use Rattle.mtn_reading.proofs.UnfitReading.{at_told, if_told, wider}
-use Rattle.mtn_generating.specs.Generating.{Ends, Goes, IfGenerateDamage, IsUndamaged, PutsFiles, Reaches}
+use Rattle.mtn_generating.specs.Generating.{Ends, Goes, IfGenerateDamage, IsOrdered, IsUndamaged, PutsFiles, Reaches}
 use Rattle.mtn_generating.specs.Numbered.{text_over, tips_of, work_of}
 use Rattle.mtn_generating.specs.Unfit.{IsAnsweredBy, IsShownWith}
 use Rattle.mtn_generating.specs.declared.error.GenerateError.{GenerateError}
@@ -138,18 +139,20 @@ module _ (f : List ℕ → List ℕ) {K : Type 0} (contents : K → Option Conte
   wanting old new before after Comes result stays is = subst (Goes f contents leaves faults old new before after Comes) (sym is) record {
     stays = stays;
     done = λ c s now draft. tt;
+    ordered = tt;
     damaged = if_told (contents new) _ (λ c now. tt);
     failed = λ e. absurd cc;
   }
 
   -- a call failed
   pub went_wrong : (old mid new : K) (before after : Pending) (Comes : State → Answer → Type 0) (e : HistoryError) (answer : GenerateError) → Stays contents leaves faults old mid → Stays contents leaves faults mid new →
-      IsAnsweredBy e answer → ((c : Contents) (s : State) → contents mid ≡ Some c → IsDraft f c before s → Ends (error.Failed e) (Comes s)) → IfSome (contents new) (λ c. IfGenerateDamage answer (IsShownWith c)) →
+      IsAnsweredBy e answer → ((c : Contents) (s : State) → contents mid ≡ Some c → IsDraft f c before s → Ends (error.Failed e) (Comes s)) → IsOrdered answer → IfSome (contents new) (λ c. IfGenerateDamage answer (IsShownWith c)) →
       (e ≡ history.Store Failed → Rose (faults old) (faults mid)) → (answer ≡ error.Failed (history.Store Failed) → (e ≡ history.Store Failed) ⊎ Rose (faults mid) (faults new)) →
       Goes f contents leaves faults old new before after Comes (Err answer)
-  went_wrong old mid new before after Comes e answer first then is ends shown rose failed = record {
+  went_wrong old mid new before after Comes e answer first then is ends ordered shown rose failed = record {
     stays = stays_trans contents leaves faults old mid new first then;
     done = λ c s now draft. ends_as (Comes s) e answer is (ends c s (then.same c now) draft);
+    ordered = ordered;
     damaged = shown;
     failed = λ same. ⊎_elim (λ own. rose_sooner (faults old) (faults mid) (faults new) (rose own) then.later)
         (λ later. rose_later (faults old) (faults mid) (faults new) first.later later) (failed (let both : fails answer ≡ fails (error.Failed (history.Store Failed)) = same in cc));
@@ -166,6 +169,7 @@ module _ (f : List ℕ → List ℕ) {K : Type 0} (contents : K → Option Conte
   goes_on old mid new before middle after Next Comes result first leads goes = record {
     stays = stays_trans contents leaves faults old mid new first goes.stays;
     done = λ c s now draft. let t = leads c s (goes.stays.same c now) draft in reaches_more c (Next t.0) (Comes s) t.2 result after (goes.done c t.0 now t.1);
+    ordered = goes.ordered;
     damaged = goes.damaged;
     failed = λ e. rose_later (faults old) (faults mid) (faults new) first.later (goes.failed e);
   }
@@ -184,6 +188,7 @@ module _ (f : List ℕ → List ℕ) {K : Type 0} (contents : K → Option Conte
           let a = keeps c s now draft in
           let same : id ≡ id_of (f text) = ap (λ (b : List ℕ). id_of b) named in
           (a.0, record { refusal = None; after = a.0; decides = a.1; is = ap (λ t. Ok (grown a.0 t)) (behind ∙ ap (λ (x : Id). tips_after (work_of work) x (tips_of tips)) same) }, a.2);
+      ordered = tt;
       damaged = if_told (contents new) _ (λ c now. tt);
       failed = λ e. absurd cc;
     }
@@ -200,11 +205,12 @@ module _ (f : List ℕ → List ℕ) {K : Type 0} (contents : K → Option Conte
 
     -- its tree was not made
     pub no_tree : (old new : K) (before after : Pending) (e : GenerateError) → Stays contents leaves faults old new →
-        ((g : List ℕ → List ℕ) (s : State) → (d : IsFounded g (contents new) before s) → IsUndamaged e) → IfSome (contents new) (λ c. IfGenerateDamage e (IsShownWith c)) →
+        ((g : List ℕ → List ℕ) (s : State) → (d : IsFounded g (contents new) before s) → IsUndamaged e) → IsOrdered e → IfSome (contents new) (λ c. IfGenerateDamage e (IsShownWith c)) →
         (e ≡ error.Failed (history.Store Failed) → Rose (faults old) (faults new)) → Goes f contents leaves faults old new before after PutsOne (Err e)
-    no_tree old new before after e stays sound shown rose = record {
+    no_tree old new before after e stays sound ordered shown rose = record {
       stays = stays;
       done = λ c s now draft. ends_undamaged (PutsOne s) e (sound f s (founded f (contents new) c before s now draft));
+      ordered = ordered;
       damaged = shown;
       failed = λ same. rose (let both : fails e ≡ fails (error.Failed (history.Store Failed)) = same in cc);
     }
@@ -258,13 +264,14 @@ module _ (f : List ℕ → List ℕ) {K : Type 0} (contents : K → Option Conte
         Goes f contents leaves faults old new before after (λ s. AddsWork f i (tips_of tips) s (work_of work)) result
     joins_work i work old new before after result is goes = subst (λ (w : Work). Goes f contents leaves faults old new before after (λ s. AddsWork f i (tips_of tips) s (work_of w)) result) (sym is) goes
 
-    pub conflicting : (old new : K) (before after : Pending) (left right : Id) (conflicts : Conflicts) → Stays contents leaves faults old new → PlansOver (contents new) before (Ok (Conflicted left right conflicts)) →
+    pub conflicting : (old new : K) (before after : Pending) (left right : Id) (conflicts : Conflicts) → Stays contents leaves faults old new → IsLesser left right → PlansOver (contents new) before (Ok (Conflicted left right conflicts)) →
         Goes f contents leaves faults old new before after MergesBoth (Err (error.Conflicting left right conflicts))
-    conflicting old new before after left right conflicts stays plans = record {
+    conflicting old new before after left right conflicts stays lesser plans = record {
       stays = stays;
       done = λ c s now draft.
           let d = founded f (contents new) c before s now draft in
           record { history = d.stands.history; spelled = d.stands.spelled; plan = Ok (Conflicted left right conflicts); planned = plans s d; carried = refl };
+      ordered = lesser;
       damaged = if_told (contents new) _ (λ c now. tt);
       failed = λ e. absurd cc;
     }
@@ -308,6 +315,7 @@ module _ (f : List ℕ → List ℕ) {K : Type 0} (contents : K → Option Conte
     files_failed old new before after texts e are stays puts sound rose = record {
       stays = stays;
       done = λ c s now draft. files_end c s after e (subst (λ (ts : List (List ℕ)). PutsFiles f c s ts (Err e) after) are (puts c s now draft));
+      ordered = tt;
       damaged = never_shown (contents new) e sound;
       failed = λ same. rose (let both : fails (error.Failed e) ≡ fails (error.Failed (history.Store Failed)) = same in cc);
     }

@@ -1,18 +1,16 @@
 -- The revisions, one behind the other.
-use Rattle.std.specs.Prelude.{IfErr, IfSome}
-use Rattle.std.proofs.Common.{◌≡◌, ◌<◌, ◌≤◌, ◌+◌, ℕ, suc, List, Option, Some, None, Result, Ok, Err, refl, sym, ap, ◌∙◌, subst, arith}
-use Rattle.mtn_generated.specs.Growing.{Adds, Answer, Grows, Onward, grown}
-use Rattle.mtn_generated.specs.Numbered.{Work as GeneratedWork, Tips as GeneratedTips, work_at}
+use Rattle.std.proofs.Common.{◌≡◌, ◌≤◌, ℕ, suc, List, Option, Some, Result, Ok, Err, sym, subst}
+use Rattle.mtn_generated.specs.Growing.{Adds, Answer, Grows, grown}
+use Rattle.mtn_generated.specs.Numbered.{Work as GeneratedWork, work_at}
 use Rattle.mtn_generated.proofs.Stopping.{stays as stop_stays}
 use Rattle.mtn_history.specs.Stands.{IsDraft}
 use Rattle.mtn_history.specs.declared.errors.HistoryError.TheVariants as history
-use Rattle.mtn_history.specs.declared.errors.StoreError.TheVariants.{Failed}
 use Rattle.mtn_history.specs.declared.pending.Pending.{Pending}
 use Rattle.mtn_model.specs.State.{State}
 use Rattle.mtn_model.specs.Table.{Contents}
 use Rattle.mtn_ports.specs.Kept.{Stays}
 use Rattle.mtn_reading.proofs.UnfitReading.{if_told}
-use Rattle.mtn_generating.specs.Generating.{Ends, Goes, Reaches}
+use Rattle.mtn_generating.specs.Generating.{Ends, Goes}
 use Rattle.mtn_generating.specs.Numbered.{tips_of, work_of}
 use Rattle.mtn_generating.specs.declared.error.GenerateError.{GenerateError}
 use Rattle.mtn_generating.specs.declared.error.GenerateError.TheVariants as error
@@ -52,7 +50,7 @@ module _ (f : List ℕ → List ℕ) {K : Type 0} (contents : K → Option Conte
       Goes f contents leaves faults old new before after (λ s. Grows f s count) (Err e)
   stopped count e most goes =
       let all = grows (Err e) goes in
-      record { stays = all.stays; done = λ c s now draft. ends_later f s i count e most (all.done c s now draft); damaged = all.damaged; failed = all.failed }
+      record { stays = all.stays; done = λ c s now draft. ends_later f s i count e most (all.done c s now draft); ordered = all.ordered; damaged = all.damaged; failed = all.failed }
 
 -- all of them
 pub ended : (f : List ℕ → List ℕ) {K : Type 0} (contents : K → Option Contents) (leaves : K → Contents → Type 0) (faults : K → ℕ) (old new : K) (before after : Pending) (n count : ℕ) (tips : Tips) → n ≡ count →
@@ -60,6 +58,7 @@ pub ended : (f : List ℕ → List ℕ) {K : Type 0} (contents : K → Option Co
 ended f contents leaves faults old new before after n count tips all stays grew = record {
   stays = stays;
   done = λ c s now draft. subst (λ k. HasGrown f c s k tips after) all (grew c s now draft);
+  ordered = tt;
   damaged = if_told (contents new) _ (λ c now. tt);
   failed = λ e. absurd cc;
 }

@@ -1,20 +1,15 @@
 -- What all revisions come to, and what is told of it.
-use Rattle.std.specs.Prelude.{◌==◌, IfErr, IfSome}
-use Rattle.std.proofs.Common.{◌≡◌, ◌<◌, ℕ, Bool, true, false, cond, List, [], length, Option, Some, None, Result, Ok, Err, refl, sym, ap, ◌∙◌, subst, arith}
+use Rattle.std.specs.Prelude.{◌==◌}
+use Rattle.std.proofs.Common.{◌≡◌, ◌<◌, ℕ, Bool, true, false, cond, List, [], length, Option, Some, None, Ok, Err, refl, sym, ap, ◌∙◌, subst, arith}
 use Rattle.std.proofs.lemmas.Bool.Decides.{nat_tests}
 use Rattle.mtn_base.specs.declared.refusal.Cause.{Cause}
 use Rattle.mtn_base.specs.declared.refusal.Cause.TheVariants.{StoreNotEmpty}
 use Rattle.mtn_generated.specs.Growing.Stop.{Refused}
 use Rattle.mtn_generated.specs.Growing.{Answer, Generates, Grows, Unless, grown, store_refusal}
 use Rattle.mtn_generated.specs.Numbered.{summary_text}
-use Rattle.mtn_history.specs.Damage.{IsDamage}
-use Rattle.mtn_history.specs.Errors.{IfDamage, IfStoreDamage}
 use Rattle.mtn_history.specs.Meta.{IsMetaOf}
 use Rattle.mtn_history.specs.Stands.{IsDraft}
-use Rattle.mtn_history.specs.declared.errors.Damage.{Damage}
-use Rattle.mtn_history.specs.declared.errors.HistoryError.{HistoryError}
 use Rattle.mtn_history.specs.declared.errors.HistoryError.TheVariants as history
-use Rattle.mtn_history.specs.declared.errors.StoreError.{StoreError}
 use Rattle.mtn_history.specs.declared.errors.StoreError.TheVariants.{Failed, Damaged, NoMemory}
 use Rattle.mtn_history.specs.declared.pending.Pending.{Pending}
 use Rattle.mtn_model.specs.State.{State}
@@ -22,7 +17,7 @@ use Rattle.mtn_model.specs.Table.{Contents}
 use Rattle.mtn_ports.specs.Kept.{with_all}
 use Rattle.mtn_reading.specs.Unfit.{SpoilsReading}
 use Rattle.mtn_reading.proofs.UnfitReading.{no_state, spoils}
-use Rattle.mtn_generating.specs.Generating.{Ends, IfGenerateDamage, Reaches, Tells}
+use Rattle.mtn_generating.specs.Generating.{IfGenerateDamage, Reaches, Tells}
 use Rattle.mtn_generating.specs.Numbered.{tips_of}
 use Rattle.mtn_generating.specs.Unfit.{IsShownWith}
 use Rattle.mtn_generating.specs.declared.error.GenerateError.{GenerateError}

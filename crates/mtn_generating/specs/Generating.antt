@@ -1,6 +1,6 @@
 -- What the calls of the generator answer over a draft, and what is pending then.
 use Rattle.std.specs.Prelude.{◌≡◌, ℕ, List, Option, Some, None, Result, Ok, Err, IfErr, IfSome, ⊤}
-use Rattle.mtn_base.specs.declared.refusal.Cause.{Cause}
+use Rattle.mtn_conflicts.specs.ConflictText.{IsLesser}
 use Rattle.mtn_generated.specs.Growing.{Answer, Generates, Grown, files_refusal, grown, with_files}
 use Rattle.mtn_generated.specs.Growing.Stop.{Conflicting, Refused}
 use Rattle.mtn_generated.specs.Numbered.{summary_text}
@@ -9,7 +9,6 @@ use Rattle.mtn_history.specs.Stands.{IsDraft}
 use Rattle.mtn_history.specs.declared.errors.Damage.{Damage}
 use Rattle.mtn_history.specs.declared.errors.HistoryError.{HistoryError}
 use Rattle.mtn_history.specs.declared.errors.HistoryError.TheVariants as history
-use Rattle.mtn_history.specs.declared.errors.StoreError.{StoreError}
 use Rattle.mtn_history.specs.declared.errors.StoreError.TheVariants.{Failed}
 use Rattle.mtn_history.specs.declared.pending.Pending.{Pending}
 use Rattle.mtn_model.specs.State.{State}
@@ -26,6 +25,11 @@ use Rattle.mtn_generating.specs.declared.work.Tips.{Tips}
 abbrev pub IfGenerateDamage : GenerateError → (Damage → Type 0) → Type 0
 IfGenerateDamage (error.Conflicting left right conflicts) P = ⊤
 IfGenerateDamage (error.Failed e) P = IfStoreDamage e P
+
+-- of two sides with conflicts the lesser id is the left one
+abbrev pub IsOrdered : GenerateError → Type 0
+IsOrdered (error.Conflicting left right conflicts) = IsLesser left right
+IsOrdered (error.Failed e) = ⊤
 
 -- the error is no refusal, and over a state no damage comes
 abbrev pub IsUndamaged : GenerateError → Type 0
@@ -49,6 +53,7 @@ pub record Goes (f : List ℕ → List ℕ) {K : Type 0} (contents : K → Optio
     (Comes : State → Answer → Type 0) (result : Result Tips GenerateError) : Type 0 where
   pub stays : Stays contents leaves faults old new
   pub done : (c : Contents) (s : State) → contents new ≡ Some c → IsDraft f c before s → Reaches f c (Comes s) result after
+  pub ordered : IfErr result IsOrdered
   pub damaged : IfSome (contents new) (λ c. IfErr result (λ e. IfGenerateDamage e (IsShownWith c)))
   pub failed : result ≡ Err (error.Failed (history.Store Failed)) → Rose (faults old) (faults new)
 

@@ -3,7 +3,7 @@ ghost use Rattle.std.specs.Prelude.{◌≡◌, ◌≢◌, ℕ, List, Err, IfErr,
 ghost use Rattle.mtn_generated.specs.Growing.{AddsWork, MergesTips, PutsEdge, PutsText};
 ghost use Rattle.mtn_generated.specs.Numbered.{no_id};
 ghost use Rattle.mtn_generated.specs.Numbered.Work.{Joins};
-ghost use Rattle.mtn_generating.specs.Generating.{Goes, IfGenerateDamage, IsUndamaged};
+ghost use Rattle.mtn_generating.specs.Generating.{Goes, IfGenerateDamage, IsOrdered, IsUndamaged};
 ghost use Rattle.mtn_generating.specs.Numbered.{IsFit, text_over, tips_of, work_of};
 ghost use Rattle.mtn_generating.specs.Unfit.{IsShownWith};
 ghost use Rattle.mtn_history.specs.Stands.{IsFounded};
@@ -64,6 +64,7 @@ fn tree_of<K: Keeper>(
     ensures pending { draft.new.pending ≡ draft.old.pending }
     ensures made { (f : List ℕ → List ℕ) (s : State) → (d : IsFounded f (K.contents draft.new.keeper.now) draft.old.pending s) → IfOk result (λ t. t ≡ tree_in d.stands.history no_id edge.now) }
     ensures sound { (f : List ℕ → List ℕ) (s : State) → (d : IsFounded f (K.contents draft.new.keeper.now) draft.old.pending s) → IfErr result IsUndamaged }
+    ensures ordered { IfErr result IsOrdered }
     ensures damaged { IfSome (K.contents draft.new.keeper.now) (λ c. IfErr result (λ e. IfGenerateDamage e (IsShownWith c))) }
     ensures failed { result ≡ Err (GenerateError.Failed (HistoryError.Store StoreError.Failed)) → Rose (K.faults draft.old.keeper.now) (K.faults draft.new.keeper.now) }
 {

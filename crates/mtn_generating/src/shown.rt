@@ -1,6 +1,6 @@
 // An error of a call, as the generator answers it.
 ghost use Rattle.std.specs.Prelude.{◌≡◌, ◌⊎◌, IfSome};
-ghost use Rattle.mtn_generating.specs.Generating.{IfGenerateDamage};
+ghost use Rattle.mtn_generating.specs.Generating.{IfGenerateDamage, IsOrdered};
 ghost use Rattle.mtn_generating.specs.Unfit.{IsAnsweredBy, IsShownWith};
 ghost use Rattle.mtn_history.specs.Damage.{IsDamage};
 ghost use Rattle.mtn_history.specs.Errors.{IfStoreDamage};
@@ -21,6 +21,7 @@ pub fn shown<K: Keeper>(draft: &mut Draft<'_, K>, error: HistoryError) -> Genera
     ensures stays { Stays K.contents K.leaves K.faults draft.old.keeper.now draft.new.keeper.now }
     ensures pending { draft.new.pending ≡ draft.old.pending }
     ensures answered { IsAnsweredBy error result }
+    ensures ordered { IsOrdered result }
     ensures shown { IfSome (K.contents draft.new.keeper.now) (λ c. IfGenerateDamage result (IsShownWith c)) }
     ensures failed { result ≡ GenerateError.Failed (HistoryError.Store StoreError.Failed) → (error ≡ HistoryError.Store StoreError.Failed) ⊎ Rose (K.faults draft.old.keeper.now) (K.faults draft.new.keeper.now) }
 {

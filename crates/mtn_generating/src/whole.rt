@@ -1,6 +1,6 @@
 // The call `generate`.
 ghost use Rattle.std.specs.Prelude.{◌≡◌, [], Err, IfErr, IfSome, OnErr, Some};
-ghost use Rattle.mtn_generating.specs.Generating.{IfGenerateDamage, Tells};
+ghost use Rattle.mtn_generating.specs.Generating.{IfGenerateDamage, IsOrdered, Tells};
 ghost use Rattle.mtn_generating.specs.Unfit.{IsShownWith};
 ghost use Rattle.mtn_history.specs.Meta.{IsMetaOf};
 ghost use Rattle.mtn_history.specs.Stands.{IsDraft};
@@ -29,6 +29,7 @@ fn generated<I: Ident, K: Keeper>(
     ensures stays { Stays K.contents K.leaves K.faults draft.old.keeper.now draft.new.keeper.now }
     ensures generates { (c : Contents) (s : State) → K.contents draft.new.keeper.now ≡ Some c → IsDraft (I.meaning ident.now) c draft.old.pending s →
         Tells (I.meaning ident.now) c s count result draft.new.pending }
+    ensures ordered { IfErr result IsOrdered }
     ensures damaged { IfSome (K.contents draft.new.keeper.now) (λ c. IfErr result (λ e. IfGenerateDamage e (IsShownWith c))) }
     ensures failed { result ≡ Err (GenerateError.Failed (HistoryError.Store StoreError.Failed)) → Rose (K.faults draft.old.keeper.now) (K.faults draft.new.keeper.now) }
 {
@@ -58,6 +59,7 @@ pub fn generate<I: Ident, K: Keeper>(
     ensures generates { (c : Contents) (s : State) → K.contents draft.new.keeper.now ≡ Some c → IsDraft (I.meaning ident.now) c draft.old.pending s →
         Tells (I.meaning ident.now) c s count result draft.new.pending }
     ensures err { OnErr result (draft.new.pending ≡ draft.old.pending) }
+    ensures ordered { IfErr result IsOrdered }
     ensures damaged { IfSome (K.contents draft.new.keeper.now) (λ c. IsMetaOf (with_all c draft.old.pending.batch) (record { count = draft.old.pending.count; is_new = draft.old.pending.is_new }) →
         IfErr result (λ e. IfGenerateDamage e (SpoilsReading (I.meaning ident.now) (with_all c draft.old.pending.batch)))) }
     ensures failed { result ≡ Err (GenerateError.Failed (HistoryError.Store StoreError.Failed)) → Rose (K.faults draft.old.keeper.now) (K.faults draft.new.keeper.now) }

@@ -1,5 +1,5 @@
 -- Text by text.
-use Rattle.std.proofs.Common.{◌∙◌, ap, arith, Err}
+use Rattle.std.proofs.Common.{◌∙◌, arith}
 use Rattle.mtn_ports.proofs.KeptLemmas.{stays_trans}
 use Rattle.mtn_generating.proofs.FileLemmas.{all_put, not_put, one_put}
 use Rattle.mtn_generating.proofs.files.put_files.Goals as goal

@@ -14,4 +14,4 @@ returns-in-Ok-clause-goes g c =
 pub returns-clause-goes : goal.returns-clause-goes
 returns-clause-goes g c =
     no_tree (g.I.Ident.meaning c.args.ident.now) g.K.Keeper.contents g.K.Keeper.leaves g.K.Keeper.faults c.args.revision c.args.work c.args.tips.now c.args.draft.now.keeper.now c.tree_of.new.draft.keeper.now c.args.draft.now.pending c.tree_of.new.draft.pending c.in-Err.error
-    c.in-Err.ensures.stays c.in-Err.ensures.sound c.in-Err.ensures.damaged (λ is. c.in-Err.ensures.failed (ap Err is))
+    c.in-Err.ensures.stays c.in-Err.ensures.sound c.in-Err.ensures.ordered c.in-Err.ensures.damaged (λ is. c.in-Err.ensures.failed (ap Err is))

@@ -1,5 +1,5 @@
 use Rattle.std.specs.Prelude.{IfSome}
-use Rattle.std.proofs.Common.{◌≡◌, Some, sym, ap, ◌∙◌, subst}
+use Rattle.std.proofs.Common.{◌≡◌, sym, ap, ◌∙◌, subst}
 use Rattle.mtn_changeset_laws.specs.Changes.{tree_after}
 use Rattle.mtn_generated.specs.Numbered.{no_id}
 use Rattle.mtn_marking.specs.Marking.{MarkedTree}

@@ -1,5 +1,4 @@
 -- What is shown is a damage of what the draft began with.
-use Rattle.std.specs.Prelude.{IfSome}
 use Rattle.std.proofs.Common.{◌≡◌, Some, sym, ap, ◌∙◌}
 use Rattle.mtn_reading.proofs.UnfitReading.{at_told, if_told}
 use Rattle.mtn_generating.proofs.ToldLemmas.{spoiled}
