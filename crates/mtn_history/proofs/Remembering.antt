@@ -35,6 +35,11 @@ nothing_known k none empty c n = record {
     never : (x : Recalled) → Contains [] x → ⊥
     never x c = omega (arith, c.1)
 
+-- so a draft may forget all
+pub forgotten : (told : Option Contents) (p : Pending) (k : Cache) → k.rosters.items ≡ [] → ((at : ℕ) → get_noted nat_cmp k.log at ≡ None) → IfSome told (λ c. AreRecalled (with_all c p.batch) p.count k)
+forgotten None p k none empty = tt
+forgotten (Some c) p k none empty = nothing_known k none empty (with_all c p.batch) p.count
+
 -- table 1 tells one number
 one_count : (c : Contents) (a b : Bool) (m n : ℕ) → MatchBool a ((body_at c 1 count_key ≡ None) × (m ≡ 0)) (Counted c m) → MatchBool b ((body_at c 1 count_key ≡ None) × (n ≡ 0)) (Counted c n) → m ≡ n
 one_count c true true m n x y = x.1 ∙ sym y.1

@@ -1,5 +1,5 @@
 // A keeper with pending records.
-ghost use Rattle.std.specs.Prelude.{◌≡◌, ◌<◌, ◌≤◌, ◌+◌, ◌^◌, ◌++◌, true, false, length, Err, Some, IfOk, IfErr, IfSome, IsSome, IsTrue, OnOk, OnErr, option_map};
+ghost use Rattle.std.specs.Prelude.{◌≡◌, ◌<◌, ◌≤◌, ◌+◌, ◌^◌, ◌++◌, [], true, false, length, Err, Some, IfOk, IfErr, IfSome, IsSome, IsTrue, OnOk, OnErr, option_map};
 ghost use Rattle.mtn_model.specs.Table.{Contents, body_at};
 ghost use Rattle.mtn_ports.specs.Causes.{Rose};
 ghost use Rattle.mtn_ports.specs.Kept.{AreKeyed, Gets, IsBody, IsBodyIf, IsNext, StaysAbove, Steps, TellsBody, over, with_all};
@@ -16,7 +16,7 @@ use crate::cache::Cache;
 use crate::{Memory, Meta, Pending, Rebuilt, StoreError};
 use mtn_ancestry::Pos;
 use mtn_base::{Bytes, Id, NoMemory};
-use mtn_ports::Keeper;
+use mtn_ports::{Batch, Keeper};
 use mtn_records::LogRecord;
 use std::alloc::Global;
 use std::marker::Model;
@@ -259,6 +259,30 @@ impl<'a, K: Keeper> Draft<'a, K> {
         ensures pending { self.new.pending ≡ self.old.pending }
     {
         self.cache.add_log(at, log);
+    }
+
+    /// What is pending where nothing is: to go back to by [`Draft::restore`]. It takes no memory.
+    pub fn nothing_pending(&self) -> Pending
+        requires bare { self.now.pending.batch ≡ [] }
+        ensures same { result ≡ self.now.pending }
+        ensures counted { IfSome (K.contents self.now.keeper.now) (IsCounted result) }
+    {
+        Pending {
+            alloc: self.pending.alloc,
+            batch: Batch::new(self.pending.alloc),
+            count: self.pending.count,
+            is_new: self.pending.is_new,
+        }
+    }
+
+    /// Goes back to what was pending before. What is pending is given up, and all that is remembered. It takes no memory.
+    pub fn restore(&mut self, pending: Pending)
+        requires counted { IfSome (K.contents self.old.keeper.now) (IsCounted pending) }
+        ensures keeper { self.new.keeper ≡ self.old.keeper }
+        ensures pending { self.new.pending ≡ pending }
+    {
+        self.cache = Cache::new(pending.alloc);
+        self.pending = pending;
     }
 
     /// The number of revisions. It takes no memory.
