@@ -4,7 +4,7 @@ pub mod Making
 pub mod Plans
 pub mod Each
 pub mod Parents
-pub mod Unborn
+pub mod UnbornLemmas
 pub mod Picking
 pub mod Finding
 pub mod Damaging

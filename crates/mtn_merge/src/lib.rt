@@ -25,5 +25,6 @@ mod sides;
 mod text;
 
 pub use answer::Planned;
+pub use births::unborn;
 pub use mtn_plans::Outcome;
 pub use planning::{look, plan, plan_with};

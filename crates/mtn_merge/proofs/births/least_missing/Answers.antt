@@ -1,5 +1,5 @@
 use Rattle.std.proofs.Common.{◌+◌, arith}
-use Rattle.mtn_merge.proofs.Unborn.{bounded_more, missing_all, missing_here}
+use Rattle.mtn_merge.proofs.UnbornLemmas.{bounded_more, missing_all, missing_here}
 use Rattle.mtn_merge.proofs.births.least_missing.Goals as goal
 use Rattle.mtn_merge.proofs.births.least_missing.Goals.{then-number-least-2, else-number-least-2}
 

@@ -5,7 +5,7 @@ use Rattle.mtn_base.proofs.Sorting.{no_split}
 use Rattle.mtn_roster.specs.declared.entry.Entry.{Entry}
 use Rattle.mtn_merge.specs.Births.{number_in}
 use Rattle.mtn_merge.proofs.Each.{each_all, each_next}
-use Rattle.mtn_merge.proofs.Unborn.{item_at, keeps_itself, keeps_on, of_tree}
+use Rattle.mtn_merge.proofs.UnbornLemmas.{item_at, keeps_itself, keeps_on, of_tree}
 use Rattle.mtn_merge.proofs.births.push_births.Goals as goal
 use Rattle.mtn_merge.proofs.births.push_births.Goals.{in-Some+in_ok-push_birth, in_default}
 

@@ -6,7 +6,7 @@ use Rattle.std.proofs.Common.{subst}
 use Rattle.mtn_base.specs.declared.name.NodeName.{NodeName}
 use Rattle.mtn_merge.specs.Births.{number_in}
 use Rattle.mtn_merge.proofs.Each.{each_all, each_next}
-use Rattle.mtn_merge.proofs.Unborn.{keeps_itself, keeps_on}
+use Rattle.mtn_merge.proofs.UnbornLemmas.{keeps_itself, keeps_on}
 use Rattle.mtn_merge.proofs.births.push_decided.Goals as goal
 
 pub loop-node-init : goal.loop-node-init

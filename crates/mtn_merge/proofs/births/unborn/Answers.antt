@@ -1,5 +1,5 @@
 use Rattle.mtn_merge.specs.Births.{number_in}
-use Rattle.mtn_merge.proofs.Unborn.{missed}
+use Rattle.mtn_merge.proofs.UnbornLemmas.{missed}
 use Rattle.mtn_merge.proofs.births.unborn.Goals as goal
 
 pub returns-clause-left : goal.returns-clause-left
