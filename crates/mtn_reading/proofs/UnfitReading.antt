@@ -116,7 +116,7 @@ module _ (f : List ℕ → List ℕ) (c : Contents) (start : Pending) (bare : st
   own = ap (λ (ps : List Put). with_all c ps) bare
 
   -- where no draft over them stands for a state, these records stand for none
-  no_state : ((s : State) → IsDraft f c start s → ⊥) → (s : State) → Stands f c s → ⊥
+  pub no_state : ((s : State) → IsDraft f c start s → ⊥) → (s : State) → Stands f c s → ⊥
   no_state never s stands =
       let begun = opened_by start.is_new start.count f (with_all c start.batch) s counted (subst (λ (d : Contents). Stands f d s) (sym own) stands) in
       never s (record { count = begun.0; stands = begun.1 })
@@ -124,7 +124,7 @@ module _ (f : List ℕ → List ℕ) (c : Contents) (start : Pending) (bare : st
   some_record : ((s : State) → Stands f c s → ⊥) → c ≡ nothing → ⊥
   some_record none empty = none empty_state (inl (record { records = empty; state = refl }))
 
-  spoils : (p : Pending) (came : Damage) → IsDamage (with_all c p.batch) came → ((s : State) → Stands f c s → ⊥) → (d : Damage) → IsShownFor c came d → SpoilsReading f (with_all c start.batch) d
+  pub spoils : (p : Pending) (came : Damage) → IsDamage (with_all c p.batch) came → ((s : State) → Stands f c s → ⊥) → (d : Damage) → IsShownFor c came d → SpoilsReading f (with_all c start.batch) d
   spoils p came damage none d (inl empty) = absurd (some_record none empty)
   spoils p came damage none d (inr is) = inr (subst (λ (x : Contents). IsUnfit f x d) (sym own) (record { shown = is.0; asked = asks c p came d damage is.1; unfit = none }))
 

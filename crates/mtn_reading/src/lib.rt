@@ -31,3 +31,4 @@ mod unfit;
 pub use counts::Counts;
 pub use error::ReadError;
 pub use input::read;
+pub use unfit::kept_error;
