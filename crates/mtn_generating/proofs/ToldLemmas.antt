@@ -1,0 +1,72 @@
+-- What all revisions come to, and what is told of it.
+use Rattle.std.specs.Prelude.{◌==◌}
+use Rattle.std.proofs.Common.{◌≡◌, ◌<◌, ℕ, Bool, true, false, cond, List, [], length, Option, Some, None, Ok, Err, refl, sym, ap, ◌∙◌, subst, arith}
+use Rattle.std.proofs.lemmas.Bool.Decides.{nat_tests}
+use Rattle.mtn_base.specs.declared.refusal.Cause.{Cause}
+use Rattle.mtn_base.specs.declared.refusal.Cause.TheVariants.{StoreNotEmpty}
+use Rattle.mtn_generated.specs.Growing.Stop.{Refused}
+use Rattle.mtn_generated.specs.Growing.{Answer, Generates, Grows, Unless, grown, store_refusal}
+use Rattle.mtn_generated.specs.Numbered.{summary_text}
+use Rattle.mtn_history.specs.Meta.{IsMetaOf}
+use Rattle.mtn_history.specs.Stands.{IsDraft}
+use Rattle.mtn_history.specs.declared.errors.HistoryError.TheVariants as history
+use Rattle.mtn_history.specs.declared.errors.StoreError.TheVariants.{Failed, Damaged, NoMemory}
+use Rattle.mtn_history.specs.declared.pending.Pending.{Pending}
+use Rattle.mtn_model.specs.State.{State}
+use Rattle.mtn_model.specs.Table.{Contents}
+use Rattle.mtn_ports.specs.Kept.{with_all}
+use Rattle.mtn_reading.specs.Unfit.{SpoilsReading}
+use Rattle.mtn_reading.proofs.UnfitReading.{no_state, spoils}
+use Rattle.mtn_generating.specs.Generating.{IfGenerateDamage, Reaches, Tells}
+use Rattle.mtn_generating.specs.Numbered.{tips_of}
+use Rattle.mtn_generating.specs.Unfit.{IsShownWith}
+use Rattle.mtn_generating.specs.declared.error.GenerateError.{GenerateError}
+use Rattle.mtn_generating.specs.declared.error.GenerateError.TheVariants as error
+use Rattle.mtn_generating.specs.declared.work.Tips.{Tips}
+use Rattle.mtn_generating.proofs.GoingLemmas.{ends_more}
+
+store_empty : (s : State) → length s.log ≡ 0 → store_refusal s ≡ None
+store_empty s none = by (length s.log == 0) refl
+  where
+    by : (b : Bool) → (length s.log == 0) ≡ b → cond {A = Option Cause} b None (Some (StoreNotEmpty (length s.log))) ≡ None
+    by true e = refl
+    by false e = absurd (grind (arith, nat_tests))
+
+store_full : (s : State) → 0 < length s.log → store_refusal s ≡ Some (StoreNotEmpty (length s.log))
+store_full s some = by (length s.log == 0) refl
+  where
+    by : (b : Bool) → (length s.log == 0) ≡ b → cond {A = Option Cause} b None (Some (StoreNotEmpty (length s.log))) ≡ Some (StoreNotEmpty (length s.log))
+    by false e = refl
+    by true e = absurd (grind (arith, nat_tests))
+
+unless_at : (o p : Option Cause) (Is : Answer → Type 0) (answer : Answer) → o ≡ p → Unless p Is answer → Unless o Is answer
+unless_at o p Is answer same is = subst (λ x. Unless x Is answer) (sym same) is
+
+module _ (f : List ℕ → List ℕ) (c : Contents) (s : State) (n : ℕ) (before : Pending) (draft : IsDraft f c before s) where
+  -- a log that has a revision
+  pub not_empty : (count : ℕ) (p : Pending) → count ≡ before.count → 0 < count → Tells f c s n (Err (error.Failed (history.Refused (StoreNotEmpty count)))) p
+  not_empty count p is some =
+      let same : count ≡ length s.log = is ∙ draft.count in
+      let stop : Answer = Err (Refused (StoreNotEmpty count)) in
+      let stopped : stop ≡ Err (Refused (StoreNotEmpty (length s.log))) = ap (λ (k : ℕ). Err (Refused (StoreNotEmpty k))) same in
+      unless_at (store_refusal s) (Some (StoreNotEmpty (length s.log))) (Grows f s n) stop (store_full s (omega (arith, same, some))) stopped
+
+  module _ (empty : before.count ≡ 0) where
+    generates : (answer : Answer) → Grows f s n answer → Generates f n s answer
+    generates answer grows = unless_at (store_refusal s) None (Grows f s n) answer (store_empty s (sym draft.count ∙ empty)) grows
+
+    pub told : (tips : Tips) (text : List ℕ) (p : Pending) → Reaches f c (Grows f s n) (Ok tips) p → text ≡ summary_text n tips.last → Tells f c s n (Ok text) p
+    told tips text p so is = (grown so.0 (tips_of tips), generates _ so.1, is, so.2)
+
+    pub untold : (e : GenerateError) (p q : Pending) → Reaches f c (Grows f s n) (Err e) p → Tells f c s n (Err e) q
+    untold e p q so = ends_more (Grows f s n) (Generates f n s) generates e so
+
+-- what is shown while there are other records is a record of such as stand for no state
+pub spoiled : (f : List ℕ → List ℕ) (c : Contents) (before : Pending) → before.batch ≡ [] → IsMetaOf (with_all c before.batch) (record { count = before.count; is_new = before.is_new }) →
+    (n : ℕ) (p : Pending) (e : GenerateError) → ((s : State) → IsDraft f c before s → Tells f c s n (Err e) p) → IfGenerateDamage e (IsShownWith c) → IfGenerateDamage e (SpoilsReading f (with_all c before.batch))
+spoiled f c before bare counted n p (error.Conflicting left right conflicts) tells shown = tt
+spoiled f c before bare counted n p (error.Failed (history.Refused cause)) tells shown = tt
+spoiled f c before bare counted n p (error.Failed (history.Store Failed)) tells shown = tt
+spoiled f c before bare counted n p (error.Failed (history.Store NoMemory)) tells shown = tt
+spoiled f c before bare counted n p (error.Failed (history.Store (Damaged d))) tells shown =
+    spoils f c before bare counted shown.pending shown.came shown.damage (no_state f c before bare counted (λ s draft. tells s draft)) d shown.shown

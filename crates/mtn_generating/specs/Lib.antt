@@ -1,0 +1,3 @@
+pub mod Numbered
+pub mod Generating
+pub mod Unfit
