@@ -11,3 +11,4 @@ pub mod QueryLemmas
 pub mod ViewLemmas
 pub mod PacketsLemmas
 pub mod ReadingLemmas
+pub mod GeneratingLemmas

@@ -27,7 +27,7 @@ use Rattle.mtn_graph_queries.specs.declared.query.QueryError.TheVariants as quer
 use Rattle.mtn_reading.specs.Unfit.{IsUnfit}
 use Rattle.mtn_step.specs.Step.{done, refused}
 use Rattle.mtn_step.specs.declared.call.Call.{Call}
-use Rattle.mtn_step.specs.declared.call.Call.TheVariants.{Merge, MergeHeads, Read}
+use Rattle.mtn_step.specs.declared.call.Call.TheVariants.{Generate, Merge, MergeHeads, Read}
 
 -- what a command answers for a query without an answer
 abbrev pub query_refusal : QueryError → HistoryError
@@ -98,6 +98,7 @@ pub record Replies (f : List ℕ → List ℕ) {K : Type 0} (contents : K → Op
 abbrev pub may_conflict : Option Call → Bool
 may_conflict (Some (Merge a b resolves)) = true
 may_conflict (Some (MergeHeads branch author date key resolves)) = true
+may_conflict (Some (Generate count)) = true
 may_conflict _ = false
 
 -- an error of a command that refuses by its cause alone
@@ -115,12 +116,13 @@ Performed f c s Is (Ok reply) p = (t : State) × Is (replied reply t) × IsDraft
 Performed f c s Is (Err (command.Refused refusal)) p = Is (refused_with refusal s)
 Performed f c s Is (Err (command.Store e)) p = IfDamage e (λ _. ⊥)
 
--- a command that reads packets
+-- a command that puts one text behind the other, as one that reads packets does
 abbrev pub reads_packets : Option Call → Bool
 reads_packets (Some Read) = true
+reads_packets (Some (Generate count)) = true
 reads_packets _ = false
 
--- A damage of these records. Where packets are read, it may be a record of such as stand for no state
+-- A damage of these records. Where texts are put one behind the other, it may be a record of such as stand for no state
 abbrev pub IsCommandDamage : (List ℕ → List ℕ) → Bool → Contents → Damage → Type 0
 IsCommandDamage f reading c d = IsDamage c d ⊎ ((reading ≡ true) × IsUnfit f c d)
 

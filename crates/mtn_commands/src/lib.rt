@@ -12,6 +12,7 @@ pub mod ask;
 pub mod cert;
 pub mod certs;
 pub mod error;
+pub mod generate;
 pub mod get_content_changed;
 pub mod get_corresponding_path;
 pub mod get_file;

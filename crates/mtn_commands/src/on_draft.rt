@@ -1,5 +1,5 @@
 // A command over a draft that refuses by its cause alone.
-ghost use Rattle.std.specs.Prelude.{◌≡◌, ◌≢◌, Some};
+ghost use Rattle.std.specs.Prelude.{◌≡◌, ◌≢◌, ℕ, Some};
 ghost use Rattle.mtn_commands.specs.Drafts.{Replies, may_conflict};
 ghost use Rattle.mtn_step.specs.Step.{Steps};
 
@@ -26,7 +26,7 @@ use mtn_ports::{Ident, Keeper};
 use mtn_step::Call;
 use std::alloc::Global;
 
-/// What a command other than `read` and `check` does over a draft, and replies: its line of the step. One arm a command.
+/// What a command other than `read`, `generate` and `check` does over a draft, and replies: its line of the step. One arm a command.
 pub fn on_draft<I: Ident, K: Keeper>(
     alloc: Global,
     call: &Call,
@@ -36,6 +36,7 @@ pub fn on_draft<I: Ident, K: Keeper>(
 ) -> Result<Reply, HistoryError>
     requires other { call.now ≢ Call.Read }
     requires unchecked { call.now ≢ Call.Check }
+    requires ungenerated { (count : ℕ) → call.now ≢ Call.Generate count }
     ensures same_reference { draft.new.keeper.ghost_name ≡ draft.old.keeper.ghost_name }
     ensures replies { Replies (I.meaning ident.now) K.contents K.leaves K.faults draft.old.keeper.now draft.new.keeper.now draft.old.pending draft.new.pending
         (may_conflict (Some call.now)) (Steps (I.meaning ident.now) call.now payload.now) result }
@@ -82,6 +83,7 @@ pub fn on_draft<I: Ident, K: Keeper>(
         ),
         Call::Packets { id, have } => told(packets(alloc, ident, *id, have, payload, draft)),
         Call::Read => unreachable!(),
+        Call::Generate { .. } => unreachable!(),
         Call::Check => unreachable!(),
     }
 }

@@ -4,6 +4,7 @@ ghost use Rattle.mtn_commands.specs.Drafts.{Performs, may_conflict, reads_packet
 ghost use Rattle.mtn_step.specs.Step.{Steps};
 
 use crate::error::{CommandError, whole};
+use crate::generate::generate;
 use crate::on_draft::on_draft;
 use crate::read::read;
 use mtn_frame::Reply;
@@ -31,6 +32,7 @@ pub fn perform<R: Threads + Sync, I: Ident, K: Keeper>(
 {
     match call {
         Call::Read => read(rt, alloc, ident, payload, draft),
+        Call::Generate { count } => generate(alloc, ident, *count, payload, draft),
         _ => whole(on_draft(alloc, call, ident, payload, draft)),
     }
 }

@@ -65,5 +65,8 @@ returns-in-Packets-clause-replies g c = rw c.in-Packets.is (replies_as _ _ _ _ _
 pub unreachable-requires : goal.unreachable-requires
 unreachable-requires g c = c.requires.other c.in-Read.is
 
+pub unreachable-requires-in-Generate : goal.unreachable-requires-in-Generate
+unreachable-requires-in-Generate g c = c.requires.ungenerated c.in-Generate.count c.in-Generate.is
+
 pub unreachable-requires-in-Check : goal.unreachable-requires-in-Check
 unreachable-requires-in-Check g c = c.requires.unchecked c.in-Check.is

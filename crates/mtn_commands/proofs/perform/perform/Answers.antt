@@ -7,5 +7,8 @@ on_draft-requires-clause-other g c = λ κs alive. c.in_default.not-Read
 pub returns-in_default-clause-performs : goal.returns-in_default-clause-performs
 returns-in_default-clause-performs g c = performs_as _ _ _ _ _ _ _ _ _ _ _ c.on_draft.result c.whole.result c.whole.ensures c.on_draft.ensures.replies
 
+pub returns-in-Generate-clause-performs : goal.returns-in-Generate-clause-performs
+returns-in-Generate-clause-performs g c = rw c.in-Generate.is c.generate.ensures.performs
+
 pub returns-in-Read-clause-performs : goal.returns-in-Read-clause-performs
 returns-in-Read-clause-performs g c = rw c.in-Read.is c.read.ensures.performs
