@@ -8,6 +8,9 @@
 //! to there, and the draft stands for the state with all revisions; or the refusal, or the conflicts of a merge. After an error the
 //! draft has pending what it had before. Damage is answered only where the draft's records stand for no state.
 //!
+//! It is not proved that the changes of every revision apply to its parent's tree. One whose changes failed would have no tree whose
+//! manifest its text could name, and is answered as want of memory; whatever is answered otherwise does not rest on this.
+//!
 //! Cost: a revision with one edge makes its tree twice, once to name its manifest and once where it is accepted; a merge is planned
 //! once. Trees have twelve nodes at most, so that the cost is linear in the number of revisions but for look-ups.
 #![tactic(auto)]
