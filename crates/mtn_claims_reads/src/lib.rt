@@ -1,14 +1,14 @@
-//! How many records a revision's text asks for: the promise of `mtn_put_revision`, under its own clauses with the call as its body.
+//! How many records a revision's text asks for: the promise of `mtn_put_revision`, under its
+//! clause `reads` with the call as its body; `mtn_claims_store` restates the others.
 //!
 //! Each edit of `must-fail/` puts a body that asks for more in the place of the call, and is refused.
 #![tactic(auto)]
 
-ghost use Rattle.std.specs.Prelude.{◌≡◌, ◌≤◌, ◌+◌, ℕ, Some, IfSome};
+ghost use Rattle.std.specs.Prelude.{◌≡◌, ◌≤◌, ◌+◌, IfSome, Some, ℕ};
 ghost use Rattle.mtn_history.specs.Files.{MakesIds};
 ghost use Rattle.mtn_history.specs.Stands.{IsDraft, IsFounded};
 ghost use Rattle.mtn_model.specs.State.{State};
 ghost use Rattle.mtn_model.specs.Table.{Contents};
-ghost use Rattle.mtn_ports.specs.Kept.{Stays};
 ghost use Rattle.mtn_put_revision.specs.Keeping.{IsPlanned};
 ghost use Rattle.mtn_put_revision.specs.Reads.{IsBoundOf};
 
@@ -26,7 +26,6 @@ pub fn asks<I: Ident, K: Keeper>(
     draft: &mut Draft<'_, K>,
     text: &[u8],
 ) -> Result<Id, HistoryError>
-    ensures stays { Stays K.contents K.leaves K.faults draft.old.keeper.now draft.new.keeper.now }
     ensures reads { (c : Contents) (s : State) (n : ℕ) → K.contents draft.new.keeper.now ≡ Some c → IsDraft (I.meaning ident.now) c draft.old.pending s → MakesIds (I.meaning ident.now) →
         IsBoundOf 38 (I.meaning ident.now) s text.now n → K.reads draft.new.keeper.now ≤ K.reads draft.old.keeper.now + n }
 {
@@ -45,7 +44,6 @@ pub fn asks_as<I: Ident, K: Keeper>(
     requires id { id.0 ≡ I.meaning ident.now text.now }
     requires planned { (s : State) → (d : IsFounded (I.meaning ident.now) (K.contents draft.old.keeper.now) draft.old.pending s) →
         IfSome tree (λ t. IsPlanned (I.meaning ident.now) s.files d.stands.history text.now t) }
-    ensures stays { Stays K.contents K.leaves K.faults draft.old.keeper.now draft.new.keeper.now }
     ensures reads { (c : Contents) (s : State) (n : ℕ) → K.contents draft.new.keeper.now ≡ Some c → IsDraft (I.meaning ident.now) c draft.old.pending s → MakesIds (I.meaning ident.now) →
         IsBoundOf 38 (I.meaning ident.now) s text.now n → K.reads draft.new.keeper.now ≤ K.reads draft.old.keeper.now + n }
 {
