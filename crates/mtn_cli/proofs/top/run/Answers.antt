@@ -13,6 +13,7 @@ returns g c =
       causes = all.causes;
       complete = all.complete;
       crash = all.crash;
+      few_reads = all.few_reads;
       order_free = order_free (g.I.Ident.meaning c.args.ident.now) c.args.words.now;
       merges = merges_are_decided (g.I.Ident.meaning c.args.ident.now) c.args.words.now _ _ c.run_words.result all.meets;
       merges_heads = heads_merges_are_decided (g.I.Ident.meaning c.args.ident.now) c.args.words.now _ _ c.run_words.result all.meets;
