@@ -22,8 +22,8 @@ use Rattle.mtn_ports.specs.Kept.{Stays, with_all}
 use Rattle.mtn_ports.specs.declared.batch.Put.{Put}
 use Rattle.mtn_step.specs.Step.{Steps, done, sound_text}
 use Rattle.mtn_step.specs.declared.call.Call.{Call}
-use Rattle.mtn_step.specs.declared.call.Call.TheVariants.{Check}
-use Rattle.mtn_cli.specs.Store.{IsFirstLine, IsLine, IsTold, ShowsDamage, checks_store}
+use Rattle.mtn_step.specs.declared.call.Call.TheVariants.{Check, PutRevision}
+use Rattle.mtn_cli.specs.Store.{IsFirstLine, IsLine, IsTold, ShowsDamage, bounds_of, checks_store}
 
 -- another command does not check the store
 pub not_checking : (call : Call) → call ≢ Check → checks_store (Some call) ≡ false
@@ -97,14 +97,14 @@ module _ (f : List ℕ → List ℕ) {K : Type 0} (contents : K → Option Conte
 
   -- what a memory knew it knows still
   pub remembering : {M : Type 0} (Knows : M → Contents → Type 0) (m : M) (call : Call) (payload : List ℕ) (r : Result Worked WorkError) → call ≡ Check → IfSome (contents old) (Knows m) → Target r →
-      Works (Stands f) (ShowsDamage f (reads_packets (Some call) ≡ true) (checks_store (Some call) ≡ true)) (IsFirstLine f) IsLine Knows contents leaves faults asked old new m true (may_conflict (Some call)) (checks_store (Some call)) (Steps f call payload) (λ s n. ⊥) r
+      Works (Stands f) (ShowsDamage f (reads_packets (Some call) ≡ true) (checks_store (Some call) ≡ true)) (IsFirstLine f) IsLine Knows contents leaves faults asked old new m true (may_conflict (Some call)) (checks_store (Some call)) (Steps f call payload) (bounds_of f (Some call) payload) r
   remembering {M} Knows m call payload r is known works =
-      subst (λ (k : Call). Works (Stands f) (ShowsDamage f (reads_packets (Some k) ≡ true) (checks_store (Some k) ≡ true)) (IsFirstLine f) IsLine Knows contents leaves faults asked old new m true (may_conflict (Some k)) (checks_store (Some k)) (Steps f k payload) (λ s n. ⊥) r) (sym is) record {
+      subst (λ (k : Call). Works (Stands f) (ShowsDamage f (reads_packets (Some k) ≡ true) (checks_store (Some k) ≡ true)) (IsFirstLine f) IsLine Knows contents leaves faults asked old new m true (may_conflict (Some k)) (checks_store (Some k)) (Steps f k payload) (bounds_of f (Some k) payload) r) (sym is) record {
         stays = works.stays;
         done = works.done;
         knows = λ c now. still r works c now;
         reason = works.reason;
-        few_reads = works.few_reads;
+        few_reads = λ c s n now stands bounded. absurd (let other : Some Check ≡ Some PutRevision = bounded.0 in cc);
         vouches = works.vouches;
       }
     where

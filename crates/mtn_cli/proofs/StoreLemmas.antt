@@ -10,16 +10,16 @@ use Rattle.mtn_history.specs.Stands.{Stands}
 use Rattle.mtn_step.specs.Step.{Steps}
 use Rattle.mtn_step.specs.declared.call.Call.{Call}
 use Rattle.mtn_cli.specs.Step.{StepOf}
-use Rattle.mtn_cli.specs.Store.{IsFirstLine, IsLine, ShowsDamage, checks_store}
+use Rattle.mtn_cli.specs.Store.{IsFirstLine, IsLine, ShowsDamage, bounds_of, checks_store}
 use Rattle.mtn_commands.specs.Drafts.{may_conflict, reads_packets}
 
 module _ (f : List ℕ → List ℕ) {M : Type 0} (Knows : M → Contents → Type 0) {K : Type 0} (contents : K → Option Contents) (leaves : K → Contents → Type 0) (faults asked : K → ℕ) (payload : List ℕ) where
   abbrev Target : K → K → M → Option Call → Result Worked WorkError → Type 0
-  Target old new m call r = Works (Stands f) (ShowsDamage f (reads_packets call ≡ true) (checks_store call ≡ true)) (IsFirstLine f) IsLine Knows contents leaves faults asked old new m (is_some call) (may_conflict call) (checks_store call) (StepOf f call payload) (λ s n. ⊥) r
+  Target old new m call r = Works (Stands f) (ShowsDamage f (reads_packets call ≡ true) (checks_store call ≡ true)) (IsFirstLine f) IsLine Knows contents leaves faults asked old new m (is_some call) (may_conflict call) (checks_store call) (StepOf f call payload) (bounds_of f call payload) r
 
   -- words that spell a command
   pub worked : (old new : K) (m : M) (call : Option Call) (k : Call) (r : Result Worked WorkError) → call ≡ Some k →
-      Works (Stands f) (ShowsDamage f (reads_packets (Some k) ≡ true) (checks_store (Some k) ≡ true)) (IsFirstLine f) IsLine Knows contents leaves faults asked old new m true (may_conflict (Some k)) (checks_store (Some k)) (Steps f k payload) (λ s n. ⊥) r → Target old new m call r
+      Works (Stands f) (ShowsDamage f (reads_packets (Some k) ≡ true) (checks_store (Some k) ≡ true)) (IsFirstLine f) IsLine Knows contents leaves faults asked old new m true (may_conflict (Some k)) (checks_store (Some k)) (Steps f k payload) (bounds_of f (Some k) payload) r → Target old new m call r
   worked old new m call k r is works = subst (λ x. Target old new m x r) (sym is) works
 
   known_at : (told : Option Contents) (m : M) → IfSome told (Knows m) → (c : Contents) → told ≡ Some c → Knows m c
@@ -32,7 +32,7 @@ module _ (f : List ℕ → List ℕ) {M : Type 0} (Knows : M → Contents → Ty
     done = λ c s now stands. refl;
     knows = known_at (contents k) m known;
     reason = refl;
-    few_reads = λ c s n now stands bounded. absurd bounded;
+    few_reads = λ c s n now stands bounded. omega arith;
     vouches = λ c now on. tt;
   }
 
@@ -42,6 +42,6 @@ module _ (f : List ℕ → List ℕ) {M : Type 0} (Knows : M → Contents → Ty
     done = λ c s now stands. tt;
     knows = known_at (contents k) m known;
     reason = tt;
-    few_reads = λ c s n now stands bounded. absurd bounded;
+    few_reads = λ c s n now stands bounded. omega arith;
     vouches = λ c now on. tt;
   }

@@ -2,7 +2,7 @@
 ghost use Rattle.std.specs.Prelude.{◌≡◌, true, IfSome};
 ghost use Rattle.std.specs.List.{list_any};
 ghost use Rattle.mtn_cli.specs.Step.{Step};
-ghost use Rattle.mtn_cli.specs.Store.{IsFirstLine, IsLine, ShowsDamage, is_checking, is_merging, is_spelled, job_checking, job_reading, script_checking, script_reading, unbounded};
+ghost use Rattle.mtn_cli.specs.Store.{IsFirstLine, IsLine, ShowsDamage, is_checking, is_merging, is_spelled, job_checking, job_reading, script_checking, script_reading, bounds};
 ghost use Rattle.mtn_frame.specs.One.{One};
 ghost use Rattle.mtn_frame.specs.Script.{BoundsJob, Does};
 ghost use Rattle.mtn_frame.specs.Session.{RunsJobs, RunsScript, script_merging, script_spelled, script_vouching};
@@ -33,7 +33,7 @@ fn one<R: Threads + Sync, I: Ident, O: Sink, K: Keeper>(
 ) -> Status
     requires { IfSome (K.contents keeper.old) (Knows memory.old) }
     ensures { One (Stands (I.meaning ident.now)) (ShowsDamage (I.meaning ident.now) (job_reading job.now ≡ true) (job_checking job.now ≡ true)) (IsFirstLine (I.meaning ident.now)) IsLine Knows K.contents K.leaves K.faults K.reads keeper.old keeper.new memory.new
-        (O.written sink.old) (O.written sink.new) (O.faults sink.old) (O.faults sink.new) form (job_spelled is_spelled job.now) (job_merging is_merging job.now) (job_vouching is_checking job.now) (Does (Step (I.meaning ident.now)) job.now) (BoundsJob unbounded job.now) result }
+        (O.written sink.old) (O.written sink.new) (O.faults sink.old) (O.faults sink.new) form (job_spelled is_spelled job.now) (job_merging is_merging job.now) (job_vouching is_checking job.now) (Does (Step (I.meaning ident.now)) job.now) (BoundsJob (bounds (I.meaning ident.now)) job.now) result }
 {
     let worked = work_job(rt, alloc, ident, job, memory, keeper);
     let settled = settle(alloc, form, worked);
@@ -80,7 +80,7 @@ pub fn run_script<R: Threads + Sync, I: Ident, O: Sink, K: Keeper>(
     sink: &mut O,
     keeper: &mut K,
 ) -> Status
-    ensures { RunsScript (Stands (I.meaning ident.now)) (ShowsDamage (I.meaning ident.now) (script_reading script.now ≡ true) (script_checking script.now ≡ true)) (IsFirstLine (I.meaning ident.now)) IsLine (Does (Step (I.meaning ident.now))) (BoundsJob unbounded) K.contents K.leaves K.faults K.reads keeper.old keeper.new
+    ensures { RunsScript (Stands (I.meaning ident.now)) (ShowsDamage (I.meaning ident.now) (script_reading script.now ≡ true) (script_checking script.now ≡ true)) (IsFirstLine (I.meaning ident.now)) IsLine (Does (Step (I.meaning ident.now))) (BoundsJob (bounds (I.meaning ident.now))) K.contents K.leaves K.faults K.reads keeper.old keeper.new
         (O.written sink.old) (O.written sink.new) (O.faults sink.old) (O.faults sink.new) script.now (script_spelled is_spelled script.now) (script_merging is_merging script.now) (script_vouching is_checking script.now) result }
 {
     let mut memory = Memory::new(alloc);

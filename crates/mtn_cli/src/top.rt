@@ -1,9 +1,9 @@
 // The top call.
 ghost use Rattle.std.specs.Prelude.{◌≡◌, IfOk};
-ghost use Rattle.mtn_cli.specs.Run.{ChecksAreSound, ChecksStore, HeadsMergesAreDecided, MergesAreDecided, OrderFree, Outcomes, ReadsPackets, Scripts, StaysLawful, is_read};
+ghost use Rattle.mtn_cli.specs.Run.{AtMost, ChecksAreSound, ChecksStore, HeadsMergesAreDecided, MergesAreDecided, OrderFree, Outcomes, ReadsPackets, Scripts, StaysLawful, is_read};
 ghost use Rattle.mtn_cli.specs.Step.{Step};
-ghost use Rattle.mtn_cli.specs.Store.{IsFirstLine, IsLine, ShowsDamage, is_checking, is_merging, is_spelled, unbounded};
-ghost use Rattle.mtn_frame.specs.Frame.{Completes, HasCauses, LeavesRecords, Meets, Survives, TellsDamage, Vouches, Writes};
+ghost use Rattle.mtn_cli.specs.Store.{IsFirstLine, IsLine, ShowsDamage, bounds, is_checking, is_merging, is_spelled};
+ghost use Rattle.mtn_frame.specs.Frame.{AsksFew, Completes, HasCauses, LeavesRecords, Meets, Survives, TellsDamage, Vouches, Writes};
 ghost use Rattle.mtn_frame.specs.Payload.{takes_last as takes_payload};
 ghost use Rattle.mtn_frame.specs.Script.{Does, IsScript, is_session as session_words};
 ghost use Rattle.mtn_frame.specs.Top.{ComesTo, Runs, fed, in_grammar, is_merge, is_vouch, reads};
@@ -50,7 +50,7 @@ fn run_words<R: Threads + Sync, I: Ident, S: Source, O: Sink, K: Keeper>(
     sink: &mut O,
     keeper: &mut K,
 ) -> Status
-    ensures { Runs (Stands (I.meaning ident.now)) (ShowsDamage (I.meaning ident.now) (ReadsPackets words.now (S.left source.old) (S.left source.new)) (ChecksStore words.now (S.left source.old) (S.left source.new))) (IsFirstLine (I.meaning ident.now)) IsLine (Does (Step (I.meaning ident.now))) (λ input. unbounded words.now (fed (reads is_spelled takes_payload words.now) input)) (Step (I.meaning ident.now) words.now) (λ input. IsScript takes_payload words.now (fed (reads is_spelled takes_payload words.now) input))
+    ensures { Runs (Stands (I.meaning ident.now)) (ShowsDamage (I.meaning ident.now) (ReadsPackets words.now (S.left source.old) (S.left source.new)) (ChecksStore words.now (S.left source.old) (S.left source.new))) (IsFirstLine (I.meaning ident.now)) IsLine (Does (Step (I.meaning ident.now))) (λ input. bounds (I.meaning ident.now) words.now (fed (reads is_spelled takes_payload words.now) input)) (Step (I.meaning ident.now) words.now) (λ input. IsScript takes_payload words.now (fed (reads is_spelled takes_payload words.now) input))
         (session_words words.now) (in_grammar is_spelled words.now) (is_merge is_merging words.now) (is_vouch is_checking words.now) (reads is_spelled takes_payload words.now)
         (record { contents = K.contents keeper.old; left = S.left source.old; written = O.written sink.old })
         (record { contents = K.contents keeper.new; left = S.left source.new; written = O.written sink.new })
@@ -119,6 +119,11 @@ pub fn run<R: Threads + Sync, I: Ident, S: Source, O: Sink, K: Keeper>(
     ensures checks { ChecksAreSound (I.meaning ident.now) words.now
         (record { contents = K.contents keeper.old; left = S.left source.old; written = O.written sink.old })
         (record { contents = K.contents keeper.new; left = S.left source.new; written = O.written sink.new }) result }
+    ensures few_reads { AsksFew (Stands (I.meaning ident.now)) (AtMost (I.meaning ident.now) words.now) (session_words words.now) (is_read words.now)
+        (record { contents = K.contents keeper.old; left = S.left source.old; written = O.written sink.old })
+        (record { contents = K.contents keeper.new; left = S.left source.new; written = O.written sink.new })
+        (record { keeper = K.faults keeper.old; source = S.faults source.old; sink = O.faults sink.old; reads = K.reads keeper.old })
+        (record { keeper = K.faults keeper.new; source = S.faults source.new; sink = O.faults sink.new; reads = K.reads keeper.new }) }
     ensures order_free { OrderFree (I.meaning ident.now) words.now }
     ensures merges { MergesAreDecided (I.meaning ident.now) words.now
         (record { contents = K.contents keeper.old; left = S.left source.old; written = O.written sink.old })

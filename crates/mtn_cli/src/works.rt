@@ -1,7 +1,7 @@
 // A command over a draft of the keeper.
 ghost use Rattle.std.specs.Prelude.{◌≡◌, ◌≢◌, IfSome, Some, true};
 ghost use Rattle.mtn_cli.specs.Step.{Step};
-ghost use Rattle.mtn_cli.specs.Store.{IsFirstLine, IsLine, ShowsDamage, checks_store, is_checking, is_merging, is_reading, is_spelled, job_checking, job_reading, unbounded};
+ghost use Rattle.mtn_cli.specs.Store.{IsFirstLine, IsLine, ShowsDamage, bounds, bounds_of, checks_store, is_checking, is_merging, is_reading, is_spelled, job_checking, job_reading};
 ghost use Rattle.mtn_commands.specs.Drafts.{may_conflict, reads_packets};
 ghost use Rattle.mtn_frame.specs.Script.{BoundsJob, Does};
 ghost use Rattle.mtn_frame.specs.Works.{Works, is_merging as job_merging, is_spelled as job_spelled, is_vouching as job_vouching};
@@ -50,7 +50,7 @@ fn work_on<R: Threads + Sync, I: Ident, K: Keeper>(
     requires known { IfSome (K.contents keeper.old) (Knows memory.old) }
     requires unchecked { call.now ≢ Call.Check }
     ensures { Works (Stands (I.meaning ident.now)) (ShowsDamage (I.meaning ident.now) (reads_packets (Some call.now) ≡ true) (checks_store (Some call.now) ≡ true)) (IsFirstLine (I.meaning ident.now)) IsLine Knows K.contents K.leaves K.faults K.reads keeper.old keeper.new memory.new
-        true (may_conflict (Some call.now)) (checks_store (Some call.now)) (Steps (I.meaning ident.now) call.now payload.now) (λ s n. ⊥) result }
+        true (may_conflict (Some call.now)) (checks_store (Some call.now)) (Steps (I.meaning ident.now) call.now payload.now) (bounds_of (I.meaning ident.now) (Some call.now) payload.now) result }
 {
     let pending = match Pending::open(alloc, memory, keeper) {
         Ok(pending) => pending,
@@ -88,7 +88,7 @@ fn work_call<R: Threads + Sync, I: Ident, K: Keeper>(
 ) -> Result<Worked, WorkError>
     requires { IfSome (K.contents keeper.old) (Knows memory.old) }
     ensures { Works (Stands (I.meaning ident.now)) (ShowsDamage (I.meaning ident.now) (reads_packets (Some call.now) ≡ true) (checks_store (Some call.now) ≡ true)) (IsFirstLine (I.meaning ident.now)) IsLine Knows K.contents K.leaves K.faults K.reads keeper.old keeper.new memory.new
-        true (may_conflict (Some call.now)) (checks_store (Some call.now)) (Steps (I.meaning ident.now) call.now payload.now) (λ s n. ⊥) result }
+        true (may_conflict (Some call.now)) (checks_store (Some call.now)) (Steps (I.meaning ident.now) call.now payload.now) (bounds_of (I.meaning ident.now) (Some call.now) payload.now) result }
 {
     match call {
         Call::Check => check(rt, alloc, ident, keeper),
@@ -108,7 +108,7 @@ fn work_words<R: Threads + Sync, I: Ident, K: Keeper>(
 ) -> Result<Worked, WorkError>
     requires { IfSome (K.contents keeper.old) (Knows memory.old) }
     ensures { Works (Stands (I.meaning ident.now)) (ShowsDamage (I.meaning ident.now) (is_reading words.now ≡ true) (is_checking words.now ≡ true)) (IsFirstLine (I.meaning ident.now)) IsLine Knows K.contents K.leaves K.faults K.reads keeper.old keeper.new memory.new
-        (is_spelled words.now) (is_merging words.now) (is_checking words.now) (Step (I.meaning ident.now) words.now payload.now) (unbounded words.now payload.now) result }
+        (is_spelled words.now) (is_merging words.now) (is_checking words.now) (Step (I.meaning ident.now) words.now payload.now) (bounds (I.meaning ident.now) words.now payload.now) result }
 {
     match read_words(alloc, words) {
         Ok(call) => work_call(rt, alloc, &call, ident, payload, memory, keeper),
@@ -128,7 +128,7 @@ pub fn work_job<R: Threads + Sync, I: Ident, K: Keeper>(
 ) -> Result<Worked, WorkError>
     requires { IfSome (K.contents keeper.old) (Knows memory.old) }
     ensures { Works (Stands (I.meaning ident.now)) (ShowsDamage (I.meaning ident.now) (job_reading job.now ≡ true) (job_checking job.now ≡ true)) (IsFirstLine (I.meaning ident.now)) IsLine Knows K.contents K.leaves K.faults K.reads keeper.old keeper.new memory.new
-        (job_spelled is_spelled job.now) (job_merging is_merging job.now) (job_vouching is_checking job.now) (Does (Step (I.meaning ident.now)) job.now) (BoundsJob unbounded job.now) result }
+        (job_spelled is_spelled job.now) (job_merging is_merging job.now) (job_vouching is_checking job.now) (Does (Step (I.meaning ident.now)) job.now) (BoundsJob (bounds (I.meaning ident.now)) job.now) result }
 {
     match job {
         Job::Call { words, payload } => {

@@ -1,7 +1,11 @@
 // A command over a draft that refuses by its cause alone.
-ghost use Rattle.std.specs.Prelude.{◌≡◌, ◌≢◌, ℕ, Some};
+ghost use Rattle.std.specs.Prelude.{◌≡◌, ◌≢◌, ◌≤◌, ◌+◌, ℕ, Some};
 ghost use Rattle.mtn_commands.specs.Drafts.{Replies, may_conflict};
 ghost use Rattle.mtn_step.specs.Step.{Steps};
+ghost use Rattle.mtn_commands.specs.Reads.{Asks};
+ghost use Rattle.mtn_model.specs.State.{State};
+ghost use Rattle.mtn_model.specs.Table.{Contents};
+ghost use Rattle.mtn_history.specs.Stands.{IsDraft};
 
 use crate::ask::{ask, graph};
 use crate::cert::cert;
@@ -40,6 +44,8 @@ pub fn on_draft<I: Ident, K: Keeper>(
     ensures same_reference { draft.new.keeper.ghost_name ≡ draft.old.keeper.ghost_name }
     ensures replies { Replies (I.meaning ident.now) K.contents K.leaves K.faults draft.old.keeper.now draft.new.keeper.now draft.old.pending draft.new.pending
         (may_conflict (Some call.now)) (Steps (I.meaning ident.now) call.now payload.now) result }
+    ensures few_reads { (c : Contents) (s : State) (n : ℕ) → K.contents draft.new.keeper.now ≡ Some c → IsDraft (I.meaning ident.now) c draft.old.pending s →
+        Asks (I.meaning ident.now) call.now payload.now s n → K.reads draft.new.keeper.now ≤ K.reads draft.old.keeper.now + n }
 {
     match call {
         Call::PutFile => told(put_file(alloc, ident, payload, draft)),

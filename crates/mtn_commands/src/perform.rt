@@ -1,7 +1,11 @@
 // Any command over a draft.
-ghost use Rattle.std.specs.Prelude.{◌≡◌, ◌≢◌, [], Some};
+ghost use Rattle.std.specs.Prelude.{◌≡◌, ◌≢◌, ◌≤◌, ◌+◌, ℕ, [], Some};
 ghost use Rattle.mtn_commands.specs.Drafts.{Performs, may_conflict, reads_packets};
 ghost use Rattle.mtn_step.specs.Step.{Steps};
+ghost use Rattle.mtn_commands.specs.Reads.{Asks};
+ghost use Rattle.mtn_model.specs.State.{State};
+ghost use Rattle.mtn_model.specs.Table.{Contents};
+ghost use Rattle.mtn_history.specs.Stands.{IsDraft};
 
 use crate::error::{CommandError, whole};
 use crate::generate::generate;
@@ -29,6 +33,8 @@ pub fn perform<R: Threads + Sync, I: Ident, K: Keeper>(
     ensures same_reference { draft.new.keeper.ghost_name ≡ draft.old.keeper.ghost_name }
     ensures performs { Performs (I.meaning ident.now) K.contents K.leaves K.faults draft.old.keeper.now draft.new.keeper.now draft.old.pending draft.new.pending
         (may_conflict (Some call.now)) (reads_packets (Some call.now)) (Steps (I.meaning ident.now) call.now payload.now) result }
+    ensures few_reads { (c : Contents) (s : State) (n : ℕ) → K.contents draft.new.keeper.now ≡ Some c → IsDraft (I.meaning ident.now) c draft.old.pending s →
+        Asks (I.meaning ident.now) call.now payload.now s n → K.reads draft.new.keeper.now ≤ K.reads draft.old.keeper.now + n }
 {
     match call {
         Call::Read => read(rt, alloc, ident, payload, draft),

@@ -1,7 +1,7 @@
 use Rattle.std.specs.List.{list_any}
 use Rattle.std.proofs.Common.{◌≡◌, true, sym, ◌∙◌, arith}
 use Rattle.mtn_cli.specs.Step.{Step}
-use Rattle.mtn_cli.specs.Store.{IsFirstLine, IsLine, ShowsDamage, is_checking, is_merging, is_spelled, job_checking, job_reading, unbounded}
+use Rattle.mtn_cli.specs.Store.{IsFirstLine, IsLine, ShowsDamage, is_checking, is_merging, is_spelled, job_checking, job_reading, bounds}
 use Rattle.mtn_history.specs.Memory.{Knows}
 use Rattle.mtn_history.specs.Stands.{Stands}
 use Rattle.mtn_frame.specs.Script.{Does, BoundsJob}
@@ -20,7 +20,7 @@ returns-then-not-goes_on g c =
     ended_at (Stands (g.I.Ident.meaning c.args.ident.now)) (ShowsDamage (g.I.Ident.meaning c.args.ident.now) (list_any job_reading c.args.jobs.now ≡ true) (list_any job_checking c.args.jobs.now ≡ true)) (IsFirstLine (g.I.Ident.meaning c.args.ident.now)) IsLine Knows g.K.Keeper.contents g.K.Keeper.leaves g.K.Keeper.faults g.K.Keeper.reads (Does (Step (g.I.Ident.meaning c.args.ident.now))) c.args.jobs.now
     c.args.keeper.now (g.O.Sink.written c.args.sink.now) (g.O.Sink.faults c.args.sink.now)
     c.loop-number.keeper c.one-status.new.keeper c.loop-number.memory c.one-status.new.memory (g.O.Sink.written c.loop-number.sink) (g.O.Sink.written c.one-status.new.sink) (g.O.Sink.faults c.loop-number.sink) (g.O.Sink.faults c.one-status.new.sink)
-    c.as_slice-job-items.result.now c.loop-number.number c.job-item.result (job_spelled is_spelled c.job-item.result) (job_merging is_merging c.job-item.result) (job_vouching is_checking c.job-item.result) (BoundsJob unbounded c.job-item.result) c.one-status.result c.as_slice-job-items.ensures c.loop-number-test.true c.job-item.is c.loop-number.invariant
+    c.as_slice-job-items.result.now c.loop-number.number c.job-item.result (job_spelled is_spelled c.job-item.result) (job_merging is_merging c.job-item.result) (job_vouching is_checking c.job-item.result) (BoundsJob (bounds (g.I.Ident.meaning c.args.ident.now)) c.job-item.result) c.one-status.result c.as_slice-job-items.ensures c.loop-number-test.true c.job-item.is c.loop-number.invariant
     (one_of_jobs (g.I.Ident.meaning c.args.ident.now) Knows g.K.Keeper.contents g.K.Keeper.leaves g.K.Keeper.faults g.K.Keeper.reads c.loop-number.keeper c.one-status.new.keeper c.one-status.new.memory (g.O.Sink.written c.loop-number.sink) (g.O.Sink.written c.one-status.new.sink) (g.O.Sink.faults c.loop-number.sink) (g.O.Sink.faults c.one-status.new.sink)
     _ _ _ _ _ _ c.one-status.result c.args.jobs.now c.as_slice-job-items.result.now c.loop-number.number c.job-item.result c.as_slice-job-items.ensures c.loop-number-test.true c.job-item.is c.one-status.ensures) (sym c.goes_on.ensures ∙ c.if-not-goes_on.true)
 
@@ -29,7 +29,7 @@ loop-number-preserved g c =
     walked_on (Stands (g.I.Ident.meaning c.args.ident.now)) (ShowsDamage (g.I.Ident.meaning c.args.ident.now) (list_any job_reading c.args.jobs.now ≡ true) (list_any job_checking c.args.jobs.now ≡ true)) (IsFirstLine (g.I.Ident.meaning c.args.ident.now)) IsLine Knows g.K.Keeper.contents g.K.Keeper.leaves g.K.Keeper.faults g.K.Keeper.reads (Does (Step (g.I.Ident.meaning c.args.ident.now))) c.args.jobs.now
     c.args.keeper.now (g.O.Sink.written c.args.sink.now) (g.O.Sink.faults c.args.sink.now)
     c.loop-number.keeper c.one-status.new.keeper c.loop-number.memory c.one-status.new.memory (g.O.Sink.written c.loop-number.sink) (g.O.Sink.written c.one-status.new.sink) (g.O.Sink.faults c.loop-number.sink) (g.O.Sink.faults c.one-status.new.sink)
-    c.as_slice-job-items.result.now c.loop-number.number c.job-item.result (job_spelled is_spelled c.job-item.result) (job_merging is_merging c.job-item.result) (job_vouching is_checking c.job-item.result) (BoundsJob unbounded c.job-item.result) c.one-status.result c.as_slice-job-items.ensures c.loop-number-test.true c.job-item.is c.loop-number.invariant
+    c.as_slice-job-items.result.now c.loop-number.number c.job-item.result (job_spelled is_spelled c.job-item.result) (job_merging is_merging c.job-item.result) (job_vouching is_checking c.job-item.result) (BoundsJob (bounds (g.I.Ident.meaning c.args.ident.now)) c.job-item.result) c.one-status.result c.as_slice-job-items.ensures c.loop-number-test.true c.job-item.is c.loop-number.invariant
     (one_of_jobs (g.I.Ident.meaning c.args.ident.now) Knows g.K.Keeper.contents g.K.Keeper.leaves g.K.Keeper.faults g.K.Keeper.reads c.loop-number.keeper c.one-status.new.keeper c.one-status.new.memory (g.O.Sink.written c.loop-number.sink) (g.O.Sink.written c.one-status.new.sink) (g.O.Sink.faults c.loop-number.sink) (g.O.Sink.faults c.one-status.new.sink)
     _ _ _ _ _ _ c.one-status.result c.args.jobs.now c.as_slice-job-items.result.now c.loop-number.number c.job-item.result c.as_slice-job-items.ensures c.loop-number-test.true c.job-item.is c.one-status.ensures) (sym c.goes_on.ensures ∙ c.if-not-goes_on.false)
 

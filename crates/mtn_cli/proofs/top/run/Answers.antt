@@ -14,6 +14,7 @@ returns g c =
       causes = all.causes;
       complete = all.complete;
       crash = all.crash;
+      few_reads = all.few_reads;
       vouches = all.vouches;
       checks = checks_are_sound (g.I.Ident.meaning c.args.ident.now) c.args.words.now (record { contents = g.K.Keeper.contents c.args.keeper.now; left = g.S.Source.left c.args.source.now; written = g.O.Sink.written c.args.sink.now })
           (record { contents = g.K.Keeper.contents c.run_words.new.keeper; left = g.S.Source.left c.run_words.new.source; written = g.O.Sink.written c.run_words.new.sink }) c.run_words.result all.vouches;

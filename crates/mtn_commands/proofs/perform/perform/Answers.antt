@@ -1,3 +1,4 @@
+use Rattle.std.proofs.Common.{sym, ◌∙◌}
 use Rattle.mtn_commands.proofs.ReplyLemmas.{performs_as}
 use Rattle.mtn_commands.proofs.perform.perform.Goals as goal
 
@@ -12,3 +13,9 @@ returns-in-Generate-clause-performs g c = rw c.in-Generate.is c.generate.ensures
 
 pub returns-in-Read-clause-performs : goal.returns-in-Read-clause-performs
 returns-in-Read-clause-performs g c = rw c.in-Read.is c.read.ensures.performs
+
+pub returns-in-Read-clause-few_reads : goal.returns-in-Read-clause-few_reads
+returns-in-Read-clause-few_reads g c = λ x s n told draft asks. absurd (let both = sym asks.0 ∙ c.in-Read.is in cc)
+
+pub returns-in-Generate-clause-few_reads : goal.returns-in-Generate-clause-few_reads
+returns-in-Generate-clause-few_reads g c = λ x s n told draft asks. absurd (let both = sym asks.0 ∙ c.in-Generate.is in cc)

@@ -1,6 +1,6 @@
 -- The text is put, and what is said of it is held.
 use Rattle.std.specs.Prelude.{option_copied}
-use Rattle.std.proofs.Common.{Some, None, Err, ap, ◌∙◌}
+use Rattle.std.proofs.Common.{Some, None, Err, ap, ◌∙◌, sym}
 use Rattle.std.proofs.lemmas.Result.{err_from_is_err_and}
 use Rattle.mtn_ports.proofs.KeptLemmas.{rose_before, stays_trans}
 use Rattle.mtn_commands.specs.Certifying.{ending}
@@ -65,3 +65,12 @@ returns-in_ok-id_text-in-Some-clause-drafts g c =
     let a = c.in_ok-id.ensures.accepts k s (c.in_ok-certify-in-Some.ensures.stays.same k told) draft in
     put_said f text said k s c.in_ok-id.id mid.pending a c.certify.new.draft.pending c.in_ok-id_text-in-Some.field-0 c.in_ok-id_text-in-Some.ensures
     (c.in_ok-certify-in-Some.ensures.certifies f k a.1.0 told a.1.2 (is_put f text said k s c.in_ok-id.id mid.pending a))))
+
+pub returns-in_err-certify-in-Some-clause-reads : goal.returns-in_err-certify-in-Some-clause-reads
+returns-in_err-certify-in-Some-clause-reads g c = λ none. absurd (let both = sym none ∙ ap option_copied c.in-Some.is in cc)
+
+pub returns-in_err-id_text-in-Some-clause-reads : goal.returns-in_err-id_text-in-Some-clause-reads
+returns-in_err-id_text-in-Some-clause-reads g c = λ none. absurd (let both = sym none ∙ ap option_copied c.in-Some.is in cc)
+
+pub returns-in_ok-id_text-in-Some-clause-reads : goal.returns-in_ok-id_text-in-Some-clause-reads
+returns-in_ok-id_text-in-Some-clause-reads g c = λ none. absurd (let both = sym none ∙ ap option_copied c.in-Some.is in cc)
