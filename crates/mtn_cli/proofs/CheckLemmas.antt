@@ -85,7 +85,7 @@ module _ (f : List ℕ → List ℕ) {K : Type 0} (contents : K → Option Conte
     knows = λ c now. tt;
     reason = (
       refl,
-      λ c now. record { damage = d; cause = inr (inr (refl, (first c now).0)); is_shown = (first c now).1; no_state = λ s stands. never c s d stands (first c now).0; is = refl },
+      λ c now. record { damage = d; cause = inr (inr refl, (first c now).0); is_shown = (first c now).1; no_state = λ s stands. never c s d stands (first c now).0; is = refl },
       (d, refl),
     );
     few_reads = λ c s n now stands bounded. absurd bounded;

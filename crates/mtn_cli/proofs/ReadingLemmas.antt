@@ -24,7 +24,7 @@ use Rattle.mtn_cli.specs.Store.{IsFirstLine, IsLine, ShowsDamage, is_checking, i
 shows_more : (f : List ℕ → List ℕ) (P Q R S : Type 0) → (P → Q) → (R → S) → (c : Contents) (line : List ℕ) → ShowsDamage f P R c line → ShowsDamage f Q S c line
 shows_more f P Q R S more checks c line shows = record {
   damage = shows.damage;
-  cause = elim shows.cause [ inl own ↦ inl own | inr (inl unfit) ↦ inr (inl (more unfit.0, unfit.1)) | inr (inr first) ↦ inr (inr (checks first.0, first.1)) ];
+  cause = elim shows.cause [ inl own ↦ inl own | inr (inl r, first) ↦ inr (inl (more r), first) | inr (inr k, first) ↦ inr (inr (checks k), first) ];
   is_shown = shows.is_shown;
   no_state = shows.no_state;
   is = shows.is;

@@ -22,15 +22,13 @@ use Rattle.mtn_history.specs.declared.pending.Pending.{Pending}
 use Rattle.mtn_history.specs.Damage.{IsDamage, IsShown}
 use Rattle.mtn_history.specs.declared.errors.Damage.{Damage}
 use Rattle.mtn_history.specs.Errors.{IfDamage}
-use Rattle.mtn_check_laws.specs.FirstDamage.{IsFirstDamage}
-use Rattle.mtn_reading.specs.Unfit.{IsUnfit}
 use Rattle.mtn_history.specs.Meta.{IsMetaOf}
 use Rattle.mtn_history.specs.Stands.{Stands, IsDraft}
 use Rattle.mtn_history.proofs.FileLemmas.{draft_stands}
 use Rattle.mtn_history.proofs.MetaLemmas.{no_damage, shown}
 use Rattle.mtn_commands.proofs.ReasonLemmas.{command_reason, reason_of, wider_command_reason}
 use Rattle.mtn_commands.specs.Drafts.{Counts, HasCommandReason, IsCommandDamage, IsCommandQuiet, Performed, Performs, drafted}
-use Rattle.mtn_cli.specs.Store.{IsFirstLine, IsLine, IsTold, ShowsDamage}
+use Rattle.mtn_cli.specs.Store.{IsFirstLine, IsLine, IsTold, MeetsDamage}
 
 -- a fact of told records
 at_told : (o : Option Contents) (P : Contents → Type 0) (c : Contents) → o ≡ Some c → IfSome o P → P c
@@ -82,7 +80,7 @@ none_put merges pending before after (Err e) none is quiet = tt
 
 module _ (f : List ℕ → List ℕ) {M : Type 0} (Knows : M → Contents → Type 0) {K : Type 0} (contents : K → Option Contents) (leaves : K → Contents → Type 0) (faults asked : K → ℕ) (merges reading checking : Bool) (off : checking ≡ false) (Outcomes : State → Outcome → Type 0) where
   abbrev Target : K → K → M → Result Worked WorkError → Type 0
-  Target old new m r = Works (Stands f) (ShowsDamage f (reading ≡ true) (checking ≡ true)) (IsFirstLine f) IsLine Knows contents leaves faults asked old new m true merges checking Outcomes (λ s n. ⊥) r
+  Target old new m r = Works (Stands f) (MeetsDamage f (reading ≡ true)) (IsFirstLine f) IsLine Knows contents leaves faults asked old new m true merges checking Outcomes (λ s n. ⊥) r
 
   -- a command over a draft does not check the store
   unchecked : checking ≡ true → (P : Type 0) → P
@@ -151,10 +149,6 @@ module _ (f : List ℕ → List ℕ) {M : Type 0} (Knows : M → Contents → Ty
   has_no_state c d (inl own) s stands = no_damage f c s d stands own
   has_no_state c d (inr unfit) s stands = unfit.1.unfit s stands
 
-  cause_of : (c : Contents) (d : Damage) → IsCommandDamage f reading c d → IsDamage c d ⊎ (((reading ≡ true) × IsUnfit f c d) ⊎ ((checking ≡ true) × IsFirstDamage f c d))
-  cause_of c d (inl own) = inl own
-  cause_of c d (inr unfit) = inr (inl unfit)
-
   -- an error with nothing put
   pub erred : (old new : K) (m : M) (e : CommandError) (out : WorkError) → IsTold e out → Stays contents leaves faults old new →
       ((c : Contents) (s : State) → contents new ≡ Some c → Stands f c s → Erred s e) → HasCommandReason f reading (contents new) (faults old) (faults new) (Err e) → IfSome (contents new) (Knows m) → Target old new m (Err out)
@@ -183,7 +177,7 @@ module _ (f : List ℕ → List ℕ) {M : Type 0} (Knows : M → Contents → Ty
       refl,
       λ c now.
           let cause = at_told (contents new) (λ x. IsCommandDamage f reading x d) c now reason in
-          record { damage = d; cause = cause_of c d cause; is_shown = is_shown_by c d cause; no_state = λ s stands. has_no_state c d cause s stands; is = refl },
+          record { damage = d; cause = cause; is_shown = is_shown_by c d cause; no_state = λ s stands. has_no_state c d cause s stands; is = refl },
       (d, refl),
     );
     few_reads = λ c s n now stands none. absurd none;

@@ -1,5 +1,5 @@
 -- The commands of a store, as the frame sees them.
-use Rattle.std.specs.Prelude.{◌≡◌, ◌⊎◌, List, ℕ, Bool, false, true, Option, Some, is_some}
+use Rattle.std.specs.Prelude.{◌≡◌, ◌⊎◌, List, ℕ, Bool, false, true, Option, Some, IfSome, is_some, ⊤}
 use Rattle.std.specs.List.{list_any}
 use Rattle.mtn_model.specs.State.{State}
 use Rattle.mtn_model.specs.Table.{Contents}
@@ -13,6 +13,7 @@ use Rattle.mtn_frame.specs.declared.script.Script.{Script}
 use Rattle.mtn_frame.specs.declared.script.Script.TheVariants.{Bare, Framed}
 use Rattle.mtn_frame.specs.declared.works.WorkError.{WorkError}
 use Rattle.mtn_frame.specs.declared.works.WorkError.TheVariants as work
+use Rattle.mtn_ports.specs.Causes.{Rose}
 use Rattle.mtn_history.specs.Damage.{IsDamage, IsShown}
 use Rattle.mtn_history.specs.Files.{MakesIds}
 use Rattle.mtn_history.specs.Stands.{Stands}
@@ -81,14 +82,31 @@ pub record IsFirstLine (f : List ℕ → List ℕ) (c : Contents) (line : List �
   pub first : IsFirstDamage f c damage
   pub is : line ≡ damage_line damage
 
--- A damage of these records, and its line. Under this ident they stand for no state. Where packets are read, `Reads`, it may be no
--- damage of them alone, but a record of such as stand for no state; where the store is checked, `Checks`, it is their first damage.
+-- A damage of these records, and its line. Under this ident they stand for no state. Where packets are read or a history is generated,
+-- `Reads`, and where the store is checked, `Checks`, it may be their first damage, in the order in which a check looks at them.
 pub record ShowsDamage (f : List ℕ → List ℕ) (Reads Checks : Type 0) (c : Contents) (line : List ℕ) : Type 0 where
   pub damage : Damage
-  pub cause : IsDamage c damage ⊎ ((Reads × IsUnfit f c damage) ⊎ (Checks × IsFirstDamage f c damage))
+  pub cause : IsDamage c damage ⊎ ((Reads ⊎ Checks) × IsFirstDamage f c damage)
   pub is_shown : IsShown c damage
   pub no_state : (s : State) → Stands f c s → ⊥
   pub is : line ≡ damage_line damage
+
+-- What a command over a draft meets: where it puts texts one behind the other, it may be no damage of these records alone, but a record
+-- of such as stand for no state. It is not shown so, and private functions alone cite this.
+pub record MeetsDamage (f : List ℕ → List ℕ) (Reads : Type 0) (c : Contents) (line : List ℕ) : Type 0 where
+  pub damage : Damage
+  pub cause : IsDamage c damage ⊎ (Reads × IsUnfit f c damage)
+  pub is_shown : IsShown c damage
+  pub no_state : (s : State) → Stands f c s → ⊥
+  pub is : line ≡ damage_line damage
+
+-- The first damage of records that stand for no state, or why it was not found
+abbrev pub IsFirstShown : (List ℕ → List ℕ) → Option Contents → ℕ → ℕ → WorkError → Type 0
+IsFirstShown f told before now work.Usage = ⊥
+IsFirstShown f told before now (work.Refused refusal) = ⊥
+IsFirstShown f told before now (work.Damaged line) = IsLine line × IfSome told (λ c. (d : Damage) × IsFirstDamage f c d × IsShown c d × (line ≡ damage_line d))
+IsFirstShown f told before now work.Failed = Rose before now
+IsFirstShown f told before now work.NoMemory = ⊤
 
 -- how an error of a command is told: a refusal whole, a damage by its line, where there is memory for that
 abbrev pub IsTold : CommandError → WorkError → Type 0

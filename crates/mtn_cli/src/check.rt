@@ -1,12 +1,14 @@
 // The check of the whole store, which goes over the keeper itself.
-ghost use Rattle.std.specs.Prelude.{◌≡◌, ◌∷◌, ◌++◌, [], IfOk, ⊤, false, true, codes, decimal};
-ghost use Rattle.mtn_cli.specs.Store.{IsFirstLine, IsLine, ShowsDamage};
+ghost use Rattle.std.specs.Prelude.{◌≡◌, ◌∷◌, ◌++◌, [], IfOk, IfSome, ⊤, false, true, codes, decimal};
+ghost use Rattle.mtn_cli.specs.Store.{IsFirstLine, IsFirstShown, IsLine, ShowsDamage};
 ghost use Rattle.mtn_frame.specs.Works.{Works};
 ghost use Rattle.mtn_history.specs.Stands.{Stands};
+ghost use Rattle.mtn_model.specs.State.{State};
+ghost use Rattle.mtn_ports.specs.Kept.{Stays};
 ghost use Rattle.mtn_step.specs.Step.{done, sound_text};
 
 use crate::damage::tell;
-use mtn_base::{List, NoMemory};
+use mtn_base::{Bytes, List, NoMemory};
 use mtn_check::check_store;
 use mtn_check_laws::standing_has_no_damage;
 use mtn_commands::error::CommandError;
@@ -53,6 +55,27 @@ pub fn check<R: Threads + Sync, I: Ident, K: Keeper>(
     match check_store(rt, alloc, ident, PIECES, keeper) {
         Ok(count) => Ok(sound(alloc, count)?),
         Err(HistoryError::Store(error)) => Err(tell(alloc, CommandError::Store(error))),
+        Err(HistoryError::Refused(_)) => unreachable!(),
+    }
+}
+
+/// The first damage of a store of which a command met that its records stand for no state; what the command met is shown where the
+/// keeper tells nothing and a check finds no damage.
+pub fn first_shown<R: Threads + Sync, I: Ident, K: Keeper>(
+    rt: &R,
+    alloc: Global,
+    ident: &I,
+    line: Bytes,
+    keeper: &mut K,
+) -> WorkError
+    requires line { IsLine line }
+    requires none { IfSome (K.contents keeper.old) (λ c. (s : State) → Stands (I.meaning ident.now) c s → ⊥) }
+    ensures stays { Stays K.contents K.leaves K.faults keeper.old keeper.new }
+    ensures shown { IsFirstShown (I.meaning ident.now) (K.contents keeper.new) (K.faults keeper.old) (K.faults keeper.new) result }
+{
+    match check_store(rt, alloc, ident, PIECES, keeper) {
+        Ok(_) => WorkError::Damaged { line },
+        Err(HistoryError::Store(error)) => tell(alloc, CommandError::Store(error)),
         Err(HistoryError::Refused(_)) => unreachable!(),
     }
 }

@@ -1,7 +1,7 @@
 // A command over a draft of the keeper.
 ghost use Rattle.std.specs.Prelude.{◌≡◌, ◌≢◌, IfSome, Some, true};
 ghost use Rattle.mtn_cli.specs.Step.{Step};
-ghost use Rattle.mtn_cli.specs.Store.{IsFirstLine, IsLine, ShowsDamage, bounds, bounds_of, checks_store, is_checking, is_merging, is_reading, is_spelled, job_checking, job_reading};
+ghost use Rattle.mtn_cli.specs.Store.{IsFirstLine, IsLine, MeetsDamage, ShowsDamage, bounds, bounds_of, checks_store, is_checking, is_merging, is_reading, is_spelled, job_checking, job_reading};
 ghost use Rattle.mtn_commands.specs.Drafts.{may_conflict, reads_packets};
 ghost use Rattle.mtn_frame.specs.Script.{BoundsJob, Does};
 ghost use Rattle.mtn_frame.specs.Works.{Works, is_merging as job_merging, is_spelled as job_spelled, is_vouching as job_vouching};
@@ -11,7 +11,7 @@ ghost use Rattle.mtn_ports.specs.Kept.{with_all};
 ghost use Rattle.mtn_history.specs.Stands.{Stands};
 ghost use Rattle.mtn_step.specs.Step.{Steps};
 
-use crate::check::check;
+use crate::check::{check, first_shown};
 use crate::damage::tell;
 use mtn_base::{Bytes, Cause, Refusal};
 use mtn_commands::error::CommandError;
@@ -49,7 +49,7 @@ fn work_on<R: Threads + Sync, I: Ident, K: Keeper>(
 ) -> Result<Worked, WorkError>
     requires known { IfSome (K.contents keeper.old) (Knows memory.old) }
     requires unchecked { call.now ≢ Call.Check }
-    ensures { Works (Stands (I.meaning ident.now)) (ShowsDamage (I.meaning ident.now) (reads_packets (Some call.now) ≡ true) (checks_store (Some call.now) ≡ true)) (IsFirstLine (I.meaning ident.now)) IsLine Knows K.contents K.leaves K.faults K.reads keeper.old keeper.new memory.new
+    ensures { Works (Stands (I.meaning ident.now)) (MeetsDamage (I.meaning ident.now) (reads_packets (Some call.now) ≡ true)) (IsFirstLine (I.meaning ident.now)) IsLine Knows K.contents K.leaves K.faults K.reads keeper.old keeper.new memory.new
         true (may_conflict (Some call.now)) (checks_store (Some call.now)) (Steps (I.meaning ident.now) call.now payload.now) (bounds_of (I.meaning ident.now) (Some call.now) payload.now) result }
 {
     let pending = match Pending::open(alloc, memory, keeper) {
@@ -76,6 +76,38 @@ fn work_on<R: Threads + Sync, I: Ident, K: Keeper>(
     }
 }
 
+// Whether a command puts texts one behind the other, so that what it meets may be no damage of the store's records alone.
+fn puts_many(call: &Call) -> bool
+    ensures { result ≡ reads_packets (Some call.now) }
+{
+    matches!(call, Call::Read | Call::Generate { .. })
+}
+
+// The command's work over the keeper, whose damage is shown as one of the store's own records, or as its first.
+fn work_shown<R: Threads + Sync, I: Ident, K: Keeper>(
+    rt: &R,
+    alloc: Global,
+    call: &Call,
+    ident: &I,
+    payload: &[u8],
+    memory: &mut Memory,
+    keeper: &mut K,
+) -> Result<Worked, WorkError>
+    requires known { IfSome (K.contents keeper.old) (Knows memory.old) }
+    requires unchecked { call.now ≢ Call.Check }
+    ensures { Works (Stands (I.meaning ident.now)) (ShowsDamage (I.meaning ident.now) (reads_packets (Some call.now) ≡ true) (checks_store (Some call.now) ≡ true)) (IsFirstLine (I.meaning ident.now)) IsLine Knows K.contents K.leaves K.faults K.reads keeper.old keeper.new memory.new
+        true (may_conflict (Some call.now)) (checks_store (Some call.now)) (Steps (I.meaning ident.now) call.now payload.now) (bounds_of (I.meaning ident.now) (Some call.now) payload.now) result }
+{
+    let worked = work_on(rt, alloc, call, ident, payload, memory, keeper);
+    if !puts_many(call) {
+        return worked;
+    }
+    match worked {
+        Err(WorkError::Damaged { line }) => Err(first_shown(rt, alloc, ident, line, keeper)),
+        other => other,
+    }
+}
+
 // The work of any command: the check of the store goes over the keeper itself, and every other over a draft.
 fn work_call<R: Threads + Sync, I: Ident, K: Keeper>(
     rt: &R,
@@ -92,7 +124,7 @@ fn work_call<R: Threads + Sync, I: Ident, K: Keeper>(
 {
     match call {
         Call::Check => check(rt, alloc, ident, keeper),
-        _ => work_on(rt, alloc, call, ident, payload, memory, keeper),
+        _ => work_shown(rt, alloc, call, ident, payload, memory, keeper),
     }
 }
 

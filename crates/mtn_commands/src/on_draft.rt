@@ -1,11 +1,7 @@
 // A command over a draft that refuses by its cause alone.
-ghost use Rattle.std.specs.Prelude.{◌≡◌, ◌≢◌, ◌≤◌, ◌+◌, ℕ, Some};
+ghost use Rattle.std.specs.Prelude.{◌≡◌, ◌≢◌, ℕ, Some};
 ghost use Rattle.mtn_commands.specs.Drafts.{Replies, may_conflict};
 ghost use Rattle.mtn_step.specs.Step.{Steps};
-ghost use Rattle.mtn_commands.specs.Reads.{Asks};
-ghost use Rattle.mtn_model.specs.State.{State};
-ghost use Rattle.mtn_model.specs.Table.{Contents};
-ghost use Rattle.mtn_history.specs.Stands.{IsDraft};
 
 use crate::ask::{ask, graph};
 use crate::cert::cert;
@@ -22,7 +18,7 @@ use crate::merge::{merge, told};
 use crate::merge_heads::merge_heads;
 use crate::packets::packets;
 use crate::put_file::put_file;
-use crate::put_revision::{commit, put_revision};
+use crate::put_revision::commit;
 use crate::show_conflicts::show_conflicts;
 use mtn_frame::Reply;
 use mtn_history::{Draft, HistoryError};
@@ -30,7 +26,7 @@ use mtn_ports::{Ident, Keeper};
 use mtn_step::Call;
 use std::alloc::Global;
 
-/// What a command other than `read`, `generate` and `check` does over a draft, and replies: its line of the step. One arm a command.
+/// What a command other than `put_revision`, `read`, `generate` and `check` does over a draft, and replies: its line of the step. One arm a command.
 pub fn on_draft<I: Ident, K: Keeper>(
     alloc: Global,
     call: &Call,
@@ -40,16 +36,14 @@ pub fn on_draft<I: Ident, K: Keeper>(
 ) -> Result<Reply, HistoryError>
     requires other { call.now ≢ Call.Read }
     requires unchecked { call.now ≢ Call.Check }
+    requires unput { call.now ≢ Call.PutRevision }
     requires ungenerated { (count : ℕ) → call.now ≢ Call.Generate count }
     ensures same_reference { draft.new.keeper.ghost_name ≡ draft.old.keeper.ghost_name }
     ensures replies { Replies (I.meaning ident.now) K.contents K.leaves K.faults draft.old.keeper.now draft.new.keeper.now draft.old.pending draft.new.pending
         (may_conflict (Some call.now)) (Steps (I.meaning ident.now) call.now payload.now) result }
-    ensures few_reads { (c : Contents) (s : State) (n : ℕ) → K.contents draft.new.keeper.now ≡ Some c → IsDraft (I.meaning ident.now) c draft.old.pending s →
-        Asks (I.meaning ident.now) call.now payload.now s n → K.reads draft.new.keeper.now ≤ K.reads draft.old.keeper.now + n }
 {
     match call {
         Call::PutFile => told(put_file(alloc, ident, payload, draft)),
-        Call::PutRevision => told(put_revision(alloc, ident, payload, draft)),
         Call::GetFile { id } => told(get_file(alloc, ident, *id, payload, draft)),
         Call::GetRevision { id } => told(get_revision(alloc, ident, *id, payload, draft)),
         Call::GetManifestOf { id } => told(get_manifest_of(ident, *id, payload, draft)),
@@ -88,6 +82,7 @@ pub fn on_draft<I: Ident, K: Keeper>(
             alloc, ident, branch, author, date, *key, *resolves, payload, draft,
         ),
         Call::Packets { id, have } => told(packets(alloc, ident, *id, have, payload, draft)),
+        Call::PutRevision => unreachable!(),
         Call::Read => unreachable!(),
         Call::Generate { .. } => unreachable!(),
         Call::Check => unreachable!(),

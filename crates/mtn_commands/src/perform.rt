@@ -9,7 +9,9 @@ ghost use Rattle.mtn_history.specs.Stands.{IsDraft};
 
 use crate::error::{CommandError, whole};
 use crate::generate::generate;
+use crate::merge::told;
 use crate::on_draft::on_draft;
+use crate::put_revision::put_revision;
 use crate::read::read;
 use mtn_frame::Reply;
 use mtn_history::Draft;
@@ -37,6 +39,7 @@ pub fn perform<R: Threads + Sync, I: Ident, K: Keeper>(
         Asks (I.meaning ident.now) call.now payload.now s n → K.reads draft.new.keeper.now ≤ K.reads draft.old.keeper.now + n }
 {
     match call {
+        Call::PutRevision => whole(told(put_revision(alloc, ident, payload, draft))),
         Call::Read => read(rt, alloc, ident, payload, draft),
         Call::Generate { count } => generate(alloc, ident, *count, payload, draft),
         _ => whole(on_draft(alloc, call, ident, payload, draft)),

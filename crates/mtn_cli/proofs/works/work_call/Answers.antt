@@ -2,8 +2,8 @@ use Rattle.mtn_history.specs.Memory.{Knows}
 use Rattle.mtn_cli.proofs.CheckLemmas.{remembering}
 use Rattle.mtn_cli.proofs.works.work_call.Goals as goal
 
-pub work_on-requires-clause-unchecked : goal.work_on-requires-clause-unchecked
-work_on-requires-clause-unchecked g c = λ κs alive. c.in_default.not-Check
+pub work_shown-requires-clause-unchecked : goal.work_shown-requires-clause-unchecked
+work_shown-requires-clause-unchecked g c = λ κs alive. c.in_default.not-Check
 
 pub returns-in-Check : goal.returns-in-Check
 returns-in-Check g c =

@@ -1,13 +1,9 @@
 -- Each command by its own clause.
-use Rattle.std.proofs.Common.{sym, ◌∙◌}
 use Rattle.mtn_commands.proofs.ReplyLemmas.{replies_as}
 use Rattle.mtn_commands.proofs.on_draft.on_draft.Goals as goal
 
 pub returns-in-PutFile-clause-replies : goal.returns-in-PutFile-clause-replies
 returns-in-PutFile-clause-replies g c = rw c.in-PutFile.is (replies_as _ _ _ _ _ _ _ _ _ _ c.put_file.result c.told.result c.told.ensures c.put_file.ensures.drafts)
-
-pub returns-in-PutRevision-clause-replies : goal.returns-in-PutRevision-clause-replies
-returns-in-PutRevision-clause-replies g c = rw c.in-PutRevision.is (replies_as _ _ _ _ _ _ _ _ _ _ c.put_revision.result c.told-in-PutRevision.result c.told-in-PutRevision.ensures c.put_revision.ensures.drafts)
 
 pub returns-in-GetFile-clause-replies : goal.returns-in-GetFile-clause-replies
 returns-in-GetFile-clause-replies g c = rw c.in-GetFile.is (replies_as _ _ _ _ _ _ _ _ _ _ c.get_file.result c.told-in-GetFile.result c.told-in-GetFile.ensures c.get_file.ensures.drafts)
@@ -63,71 +59,14 @@ returns-in-MergeHeads-clause-replies g c = rw c.in-MergeHeads.is c.merge_heads.e
 pub returns-in-Packets-clause-replies : goal.returns-in-Packets-clause-replies
 returns-in-Packets-clause-replies g c = rw c.in-Packets.is (replies_as _ _ _ _ _ _ _ _ _ _ c.packets.result c.told-in-Packets.result c.told-in-Packets.ensures c.packets.ensures.drafts)
 
+pub unreachable-requires-in-Read : goal.unreachable-requires-in-Read
+unreachable-requires-in-Read g c = c.requires.other c.in-Read.is
+
 pub unreachable-requires : goal.unreachable-requires
-unreachable-requires g c = c.requires.other c.in-Read.is
+unreachable-requires g c = c.requires.unput c.in-PutRevision.is
 
 pub unreachable-requires-in-Generate : goal.unreachable-requires-in-Generate
 unreachable-requires-in-Generate g c = c.requires.ungenerated c.in-Generate.count c.in-Generate.is
 
 pub unreachable-requires-in-Check : goal.unreachable-requires-in-Check
 unreachable-requires-in-Check g c = c.requires.unchecked c.in-Check.is
-
-pub returns-in-PutFile-clause-few_reads : goal.returns-in-PutFile-clause-few_reads
-returns-in-PutFile-clause-few_reads g c = λ x s n told draft asks. absurd (let both = sym asks.0 ∙ c.in-PutFile.is in cc)
-
-pub returns-in-GetFile-clause-few_reads : goal.returns-in-GetFile-clause-few_reads
-returns-in-GetFile-clause-few_reads g c = λ x s n told draft asks. absurd (let both = sym asks.0 ∙ c.in-GetFile.is in cc)
-
-pub returns-in-GetRevision-clause-few_reads : goal.returns-in-GetRevision-clause-few_reads
-returns-in-GetRevision-clause-few_reads g c = λ x s n told draft asks. absurd (let both = sym asks.0 ∙ c.in-GetRevision.is in cc)
-
-pub returns-in-GetManifestOf-clause-few_reads : goal.returns-in-GetManifestOf-clause-few_reads
-returns-in-GetManifestOf-clause-few_reads g c = λ x s n told draft asks. absurd (let both = sym asks.0 ∙ c.in-GetManifestOf.is in cc)
-
-pub returns-in-GetRoster-clause-few_reads : goal.returns-in-GetRoster-clause-few_reads
-returns-in-GetRoster-clause-few_reads g c = λ x s n told draft asks. absurd (let both = sym asks.0 ∙ c.in-GetRoster.is in cc)
-
-pub returns-in-GetContentChanged-clause-few_reads : goal.returns-in-GetContentChanged-clause-few_reads
-returns-in-GetContentChanged-clause-few_reads g c = λ x s n told draft asks. absurd (let both = sym asks.0 ∙ c.in-GetContentChanged.is in cc)
-
-pub returns-in-GetCorrespondingPath-clause-few_reads : goal.returns-in-GetCorrespondingPath-clause-few_reads
-returns-in-GetCorrespondingPath-clause-few_reads g c = λ x s n told draft asks. absurd (let both = sym asks.0 ∙ c.in-GetCorrespondingPath.is in cc)
-
-pub returns-in-Ask-clause-few_reads : goal.returns-in-Ask-clause-few_reads
-returns-in-Ask-clause-few_reads g c = λ x s n told draft asks. absurd (let both = sym asks.0 ∙ c.in-Ask.is in cc)
-
-pub returns-in-Graph-clause-few_reads : goal.returns-in-Graph-clause-few_reads
-returns-in-Graph-clause-few_reads g c = λ x s n told draft asks. absurd (let both = sym asks.0 ∙ c.in-Graph.is in cc)
-
-pub returns-in-Merge-clause-few_reads : goal.returns-in-Merge-clause-few_reads
-returns-in-Merge-clause-few_reads g c = λ x s n told draft asks. absurd (let both = sym asks.0 ∙ c.in-Merge.is in cc)
-
-pub returns-in-ShowConflicts-clause-few_reads : goal.returns-in-ShowConflicts-clause-few_reads
-returns-in-ShowConflicts-clause-few_reads g c = λ x s n told draft asks. absurd (let both = sym asks.0 ∙ c.in-ShowConflicts.is in cc)
-
-pub returns-in-Cert-clause-few_reads : goal.returns-in-Cert-clause-few_reads
-returns-in-Cert-clause-few_reads g c = λ x s n told draft asks. absurd (let both = sym asks.0 ∙ c.in-Cert.is in cc)
-
-pub returns-in-Certs-clause-few_reads : goal.returns-in-Certs-clause-few_reads
-returns-in-Certs-clause-few_reads g c = λ x s n told draft asks. absurd (let both = sym asks.0 ∙ c.in-Certs.is in cc)
-
-pub returns-in-Key-clause-few_reads : goal.returns-in-Key-clause-few_reads
-returns-in-Key-clause-few_reads g c = λ x s n told draft asks. absurd (let both = sym asks.0 ∙ c.in-Key.is in cc)
-
-pub returns-in-Heads-clause-few_reads : goal.returns-in-Heads-clause-few_reads
-returns-in-Heads-clause-few_reads g c = λ x s n told draft asks. absurd (let both = sym asks.0 ∙ c.in-Heads.is in cc)
-
-pub returns-in-Branches-clause-few_reads : goal.returns-in-Branches-clause-few_reads
-returns-in-Branches-clause-few_reads g c = λ x s n told draft asks. absurd (let both = sym asks.0 ∙ c.in-Branches.is in cc)
-
-pub returns-in-Commit-clause-few_reads : goal.returns-in-Commit-clause-few_reads
-returns-in-Commit-clause-few_reads g c = λ x s n told draft asks. absurd (let both = sym asks.0 ∙ c.in-Commit.is in cc)
-
-pub returns-in-MergeHeads-clause-few_reads : goal.returns-in-MergeHeads-clause-few_reads
-returns-in-MergeHeads-clause-few_reads g c = λ x s n told draft asks. absurd (let both = sym asks.0 ∙ c.in-MergeHeads.is in cc)
-
-pub returns-in-Packets-clause-few_reads : goal.returns-in-Packets-clause-few_reads
-returns-in-Packets-clause-few_reads g c = λ x s n told draft asks. absurd (let both = sym asks.0 ∙ c.in-Packets.is in cc)
-
-pub returns-in-PutRevision-clause-few_reads : goal.returns-in-PutRevision-clause-few_reads
-returns-in-PutRevision-clause-few_reads g c = λ x s n told draft asks. c.put_revision.ensures.reads x s n told draft asks.1.0 asks.1.1

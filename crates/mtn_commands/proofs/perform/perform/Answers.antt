@@ -1,12 +1,12 @@
 use Rattle.std.proofs.Common.{sym, ◌∙◌}
-use Rattle.mtn_commands.proofs.ReplyLemmas.{performs_as}
+use Rattle.mtn_commands.proofs.ReplyLemmas.{performs_as, replies_as}
 use Rattle.mtn_commands.proofs.perform.perform.Goals as goal
 
 pub on_draft-requires-clause-other : goal.on_draft-requires-clause-other
 on_draft-requires-clause-other g c = λ κs alive. c.in_default.not-Read
 
 pub returns-in_default-clause-performs : goal.returns-in_default-clause-performs
-returns-in_default-clause-performs g c = performs_as _ _ _ _ _ _ _ _ _ _ _ c.on_draft.result c.whole.result c.whole.ensures c.on_draft.ensures.replies
+returns-in_default-clause-performs g c = performs_as _ _ _ _ _ _ _ _ _ _ _ c.on_draft.result c.whole-in_default.result c.whole-in_default.ensures c.on_draft.ensures.replies
 
 pub returns-in-Generate-clause-performs : goal.returns-in-Generate-clause-performs
 returns-in-Generate-clause-performs g c = rw c.in-Generate.is c.generate.ensures.performs
@@ -19,3 +19,15 @@ returns-in-Read-clause-few_reads g c = λ x s n told draft asks. absurd (let bot
 
 pub returns-in-Generate-clause-few_reads : goal.returns-in-Generate-clause-few_reads
 returns-in-Generate-clause-few_reads g c = λ x s n told draft asks. absurd (let both = sym asks.0 ∙ c.in-Generate.is in cc)
+
+pub on_draft-requires-clause-unput : goal.on_draft-requires-clause-unput
+on_draft-requires-clause-unput g c = λ κs alive. c.in_default.not-PutRevision
+
+pub returns-in-PutRevision-clause-performs : goal.returns-in-PutRevision-clause-performs
+returns-in-PutRevision-clause-performs g c = rw c.in-PutRevision.is (performs_as _ _ _ _ _ _ _ _ _ _ _ c.told.result c.whole.result c.whole.ensures (replies_as _ _ _ _ _ _ _ _ _ _ c.put_revision.result c.told.result c.told.ensures c.put_revision.ensures.drafts))
+
+pub returns-in-PutRevision-clause-few_reads : goal.returns-in-PutRevision-clause-few_reads
+returns-in-PutRevision-clause-few_reads g c = λ x s n told draft asks. c.put_revision.ensures.reads x s n told draft asks.1.0 asks.1.1
+
+pub returns-in_default-clause-few_reads : goal.returns-in_default-clause-few_reads
+returns-in_default-clause-few_reads g c = λ x s n told draft asks. absurd (c.in_default.not-PutRevision asks.0)

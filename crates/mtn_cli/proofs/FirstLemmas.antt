@@ -1,0 +1,94 @@
+-- A damage that a command met is shown as the store's own, or as its first.
+use Rattle.std.proofs.Common.{◌≡◌, ◌⊎◌, inl, inr, ℕ, Bool, true, false, List, Option, Some, None, Result, Ok, Err, refl, sym, ◌∙◌, subst, arith}
+use Rattle.std.specs.Prelude.{IfSome, length}
+use Rattle.mtn_check_laws.specs.FirstDamage.{IsFirstDamage}
+use Rattle.mtn_commands.specs.declared.error.CommandError.TheVariants.{Store}
+use Rattle.mtn_frame.specs.Works.{HasReason, Works}
+use Rattle.mtn_frame.specs.declared.works.Worked.{Worked}
+use Rattle.mtn_frame.specs.declared.works.WorkError.{WorkError}
+use Rattle.mtn_frame.specs.declared.works.WorkError.TheVariants as work
+use Rattle.mtn_history.specs.Damage.{IsDamage, IsShown}
+use Rattle.mtn_history.specs.Errors.{IfDamage}
+use Rattle.mtn_history.specs.Stands.{Stands}
+use Rattle.mtn_history.specs.declared.errors.Damage.{Damage}
+use Rattle.mtn_history.specs.declared.errors.StoreError.{StoreError}
+use Rattle.mtn_history.specs.declared.errors.StoreError.TheVariants.{Failed, Damaged, NoMemory}
+use Rattle.mtn_reading.specs.Unfit.{IsUnfit}
+use Rattle.mtn_model.specs.Outcome.{Outcome}
+use Rattle.mtn_model.specs.State.{State}
+use Rattle.mtn_model.specs.Table.{Contents}
+use Rattle.mtn_ports.proofs.KeptLemmas.{stays_trans}
+use Rattle.mtn_ports.specs.Causes.{Rose}
+use Rattle.mtn_ports.specs.Kept.{IfTold, Same, Stays}
+use Rattle.mtn_cli.specs.Store.{IsFirstLine, IsFirstShown, IsLine, IsTold, MeetsDamage, ShowsDamage}
+use Rattle.mtn_cli.specs.Texts.{damage_line}
+
+at_told : (o : Option Contents) (P : Contents → Type 0) (c : Contents) → o ≡ Some c → IfSome o P → P c
+at_told o P c now fact = subst (λ x. IfSome x P) now fact
+
+told_by : (o : Option Contents) (P : Contents → Type 0) → ((c : Contents) → o ≡ Some c → P c) → IfSome o P
+told_by None P each = tt
+told_by (Some c) P each = each c refl
+
+-- an error of a check over records that stand for no state
+pub first_found : (f : List ℕ → List ℕ) (told : Option Contents) (before now : ℕ) (e : StoreError) (out : WorkError) → IsTold (Store e) out →
+    IfSome told (λ c. IfDamage e (λ d. IsFirstDamage f c d × IsShown c d)) → (e ≡ Failed → Rose before now) → IsFirstShown f told before now out
+first_found f told before now Failed out is damaged failed = subst (IsFirstShown f told before now) (sym is) (failed refl)
+first_found f told before now NoMemory out is damaged failed = subst (IsFirstShown f told before now) (sym is) tt
+first_found f told before now (Damaged d) out (inr is) damaged failed = subst (IsFirstShown f told before now) (sym is) tt
+first_found f told before now (Damaged d) out (inl is) damaged failed = subst (IsFirstShown f told before now) (sym is)
+    ((d, refl), told_by told _ (λ c at. let found = at_told told (λ x. IsFirstDamage f x d × IsShown x d) c at damaged in (d, found.0, found.1, refl)))
+
+-- a check of such records finds a damage
+pub none_sound : (f : List ℕ → List ℕ) (old new : Option Contents) (before now count : ℕ) (line : List ℕ) → IsLine line → Same old new → IfSome old (λ c. (s : State) → Stands f c s → ⊥) →
+    IfSome new (λ c. (s : State) × Stands f c s × (count ≡ length s.log)) → IsFirstShown f new before now (work.Damaged line)
+none_sound f old new before now count line shows same none clean = (shows, told_by new _ (λ c at.
+    let found = at_told new _ c at clean in absurd (at_told old (λ x. (s : State) → Stands f x s → ⊥) c (same c at) none found.0 found.1)))
+
+module _ (f : List ℕ → List ℕ) {M : Type 0} (Knows : M → Contents → Type 0) {K : Type 0} (contents : K → Option Contents) (leaves : K → Contents → Type 0) (faults asked : K → ℕ) (m : M)
+    (spelled merges reading checking : Bool) (Outcomes : State → Outcome → Type 0) (Bounded : State → ℕ → Type 0) where
+  abbrev Met : K → K → Result Worked WorkError → Type 0
+  Met old new r = Works (Stands f) (MeetsDamage f (reading ≡ true)) (IsFirstLine f) IsLine Knows contents leaves faults asked old new m spelled merges checking Outcomes Bounded r
+
+  abbrev Shown : K → K → Result Worked WorkError → Type 0
+  Shown old new r = Works (Stands f) (ShowsDamage f (reading ≡ true) (checking ≡ true)) (IsFirstLine f) IsLine Knows contents leaves faults asked old new m spelled merges checking Outcomes Bounded r
+
+  -- over told records that a command found damaged there is no state
+  pub none_stand : (old new : K) (line : List ℕ) → Met old new (Err (work.Damaged line)) → IfSome (contents new) (λ c. (s : State) → Stands f c s → ⊥)
+  none_stand old new line met = told_by (contents new) _ (λ c at. (met.reason.1 c at).no_state)
+
+  -- no damage was met, or the command reads no packets: as it is
+  pub as_met : (old new : K) (r : Result Worked WorkError) → ((line : List ℕ) → r ≡ Err (work.Damaged line) → reading ≡ false) → Met old new r → Shown old new r
+  as_met old new (Ok worked) own met = record { stays = met.stays; done = met.done; knows = met.knows; reason = met.reason; few_reads = met.few_reads; vouches = met.vouches }
+  as_met old new (Err work.Usage) own met = record { stays = met.stays; done = met.done; knows = met.knows; reason = met.reason; few_reads = met.few_reads; vouches = met.vouches }
+  as_met old new (Err (work.Refused refusal)) own met = record { stays = met.stays; done = met.done; knows = met.knows; reason = met.reason; few_reads = met.few_reads; vouches = met.vouches }
+  as_met old new (Err work.Failed) own met = record { stays = met.stays; done = met.done; knows = met.knows; reason = met.reason; few_reads = met.few_reads; vouches = met.vouches }
+  as_met old new (Err work.NoMemory) own met = record { stays = met.stays; done = met.done; knows = met.knows; reason = met.reason; few_reads = met.few_reads; vouches = met.vouches }
+  as_met old new (Err (work.Damaged line)) own met = record {
+    stays = met.stays;
+    done = met.done;
+    knows = met.knows;
+    reason = (met.reason.0, λ c at. let d = met.reason.1 c at in record { damage = d.damage; cause = cause_of c d.damage d.cause; is_shown = d.is_shown; no_state = d.no_state; is = d.is }, met.reason.2);
+    few_reads = met.few_reads;
+    vouches = met.vouches;
+  }
+    where
+      cause_of : (c : Contents) (d : Damage) → IsDamage c d ⊎ ((reading ≡ true) × IsUnfit f c d) → IsDamage c d ⊎ (((reading ≡ true) ⊎ (checking ≡ true)) × IsFirstDamage f c d)
+      cause_of c d (inl damage) = inl damage
+      cause_of c d (inr unfit) = absurd (let never = own line refl in let reads = unfit.0 in cc)
+
+  -- the first damage is shown in place of one that was met
+  pub as_first : (old mid new : K) (line : List ℕ) (out : WorkError) → reading ≡ true → checking ≡ false → Met old mid (Err (work.Damaged line)) → Stays contents leaves faults mid new → IsFirstShown f (contents new) (faults mid) (faults new) out → Shown old new (Err out)
+  as_first old mid new line out reads off met stays shown = record {
+    stays = stays_trans contents leaves faults old mid new met.stays stays;
+    done = λ c s now stands. absurd (met.done c s (stays.same c now) stands);
+    knows = λ c now. met.knows c (stays.same c now);
+    reason = why out shown;
+    few_reads = λ c s n now stands bounded. absurd (met.done c s (stays.same c now) stands);
+    vouches = λ c now on. absurd (let e = off in cc);
+  }
+    where
+      why : (o : WorkError) → IsFirstShown f (contents new) (faults mid) (faults new) o → HasReason spelled merges (faults old) (faults new) IsLine (λ l. IfTold (contents new) (λ c. ShowsDamage f (reading ≡ true) (checking ≡ true) c l)) (Err o)
+      why (work.Damaged l) is = (met.reason.0, λ c now. let found = at_told (contents new) _ c now is.1 in record { damage = found.0; cause = inr (inl reads, found.1); is_shown = found.2; no_state = λ s stands. met.done c s (stays.same c now) stands; is = found.3 }, is.0)
+      why work.Failed is = (met.reason.0, let earlier = met.stays.later in omega (arith, earlier, is))
+      why work.NoMemory is = tt
