@@ -1,0 +1,5 @@
+pub mod OldOrder
+pub mod Bare
+pub mod Named
+pub mod Putting
+pub mod One

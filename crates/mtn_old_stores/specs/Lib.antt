@@ -1,0 +1,3 @@
+pub mod Older
+pub mod Migrating
+pub mod Laws
