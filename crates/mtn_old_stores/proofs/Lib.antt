@@ -3,3 +3,5 @@ pub mod Bare
 pub mod Named
 pub mod Putting
 pub mod One
+pub mod ReadLemmas
+pub mod WalkLemmas

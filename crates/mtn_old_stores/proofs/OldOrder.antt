@@ -15,6 +15,7 @@ use Rattle.mtn_certs.specs.Certificates.{IsIdBytes, is_field, is_field_byte}
 use Rattle.mtn_records.specs.Apart.{field_apart, id_apart, pair_apart}
 use Rattle.mtn_records.specs.Fields.{AreApart, IsField, IsPair, IsTwenty, field_text, id_text, pair_text}
 use Rattle.mtn_old_stores.specs.Older.{IsLawfulOldCertificate, OldCertificate, old_cmp, old_key}
+use Rattle.mtn_old_stores.specs.Reading.{AreParts, parts_of, parts_text}
 
 pub old_total : IsTotalOrder old_cmp
 old_total =
@@ -47,21 +48,9 @@ exact_olds a b h =
 
 -- ---- the key of a record
 
-abbrev Parts : Type 0
-Parts = Id × (List ℕ × (List ℕ × (List ℕ × List ℕ)))
-
-abbrev parts_text : Parts → List ℕ
-parts_text = pair_text id_text (pair_text field_text (pair_text field_text (pair_text field_text field_text)))
-
-abbrev AreParts : Parts → Type 0
-AreParts = IsPair IsTwenty (IsPair IsField (IsPair IsField (IsPair IsField IsField)))
-
-parts_apart : AreApart parts_text AreParts
+pub parts_apart : AreApart parts_text AreParts
 parts_apart =
     pair_apart id_text IsTwenty _ _ id_apart (pair_apart field_text IsField _ _ field_apart (pair_apart field_text IsField _ _ field_apart (pair_apart field_text IsField field_text IsField field_apart field_apart)))
-
-abbrev parts_of : OldCertificate → Parts
-parts_of c = (c.revision, (c.name, (c.key, (c.value, c.signature))))
 
 second_of : (a b c : Bool) → (a && b && c) ≡ true → b ≡ true
 second_of true true c e = refl
@@ -77,7 +66,7 @@ within n le = omega (arith, le)
 short_field : (text : List ℕ) → is_field text ≡ true → length text < 2 ^ 32
 short_field text field = few (length text) (second_of (not (length text == 0)) (nat_le (length text) 255) (list_all is_field_byte text) field)
 
-are_parts : (c : OldCertificate) → IsLawfulOldCertificate c → IsIdBytes c.revision.0 → AreParts (parts_of c)
+pub are_parts : (c : OldCertificate) → IsLawfulOldCertificate c → IsIdBytes c.revision.0 → AreParts (parts_of c)
 are_parts c lawful revision =
     (revision.twenty, (short_field c.name lawful.name, (short_field c.key lawful.key, (within (length c.value) lawful.value, within (length c.signature) lawful.signature))))
 

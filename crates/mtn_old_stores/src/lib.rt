@@ -9,7 +9,16 @@
 //! over an older store, stand for its migrated state.
 #![tactic(auto)]
 
+mod cert;
+mod damaged;
+mod form;
+mod walk;
+
 ghost use Rattle.mtn_old_stores.specs.Laws.{StandForOne, StandOneWay, MigratesLawfully, MigratesRecords, StayApart};
+
+pub use cert::{OLD_CERTS, OldCert, read_old_cert};
+pub use form::is_older;
+pub use walk::old_certs;
 
 /// Contents stand for one older state at most, and where they do, for no state of the present form.
 pub fn one_state()
