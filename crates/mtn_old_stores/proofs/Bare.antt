@@ -100,15 +100,20 @@ pub held_old : (f : List ℕ → List ℕ) (c : Contents) (s : OldState) → Sta
 held_old f c s stands =
     ap (λ (m : Table). get m version_key) stands.base.meta ∙ get_inserted (insert empty count_key (to_be_bytes w64 (length s.log))) version_key old_version version_key
 
-versions_differ : (o : Option (List ℕ)) → o ≡ Some old_version → o ≡ Some version → ⊥
+pub versions_differ : (o : Option (List ℕ)) → o ≡ Some old_version → o ≡ Some version → ⊥
 versions_differ o old new = let same : 49 ≡ 50 = ap first_byte (sym old ∙ new) in absurd (omega (arith, same))
   where
     first_byte : Option (List ℕ) → ℕ
     first_byte (Some (b ∷ bytes)) = b
     first_byte _ = 0
 
-clash : (o : Option (List ℕ)) (body : List ℕ) → o ≡ Some body → o ≡ None → ⊥
+pub clash : (o : Option (List ℕ)) (body : List ℕ) → o ≡ Some body → o ≡ None → ⊥
 clash o body there none = cc
+
+pub count_held : (f : List ℕ → List ℕ) (c : Contents) (s : OldState) → StandsOld f c s → body_at c 1 count_key ≡ Some (to_be_bytes w64 (length s.log))
+count_held f c s stands =
+    ap (λ (m : Table). get m count_key) stands.base.meta ∙ get_inserted (insert empty count_key (to_be_bytes w64 (length s.log))) version_key old_version count_key
+    ∙ get_inserted empty count_key (to_be_bytes w64 (length s.log)) count_key
 
 pub one_way : (f : List ℕ → List ℕ) (c : Contents) (s : OldState) (t : State) → StandsOld f c s → Stands f c t → ⊥
 one_way f c s t old (inl new) = clash (body_at c 1 version_key) old_version (held_old f c s old) (none_held c t version_key new)

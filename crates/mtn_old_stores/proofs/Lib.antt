@@ -5,3 +5,5 @@ pub mod Putting
 pub mod One
 pub mod ReadLemmas
 pub mod WalkLemmas
+pub mod Held
+pub mod FormLemmas

@@ -10,10 +10,9 @@ use Rattle.std.proofs.lemmas.Bool.Decides.{nat_tests}
 use Rattle.std.proofs.lemmas.List.{append-nil}
 use Rattle.mtn_base.proofs.IdOrder.{by_id_total}
 use Rattle.mtn_base.proofs.Orders.{bytes_total, exact_bytes}
-use Rattle.mtn_base.specs.declared.id.Id.{Id}
 use Rattle.mtn_certs.specs.Certificates.{IsIdBytes, is_field, is_field_byte}
 use Rattle.mtn_records.specs.Apart.{field_apart, id_apart, pair_apart}
-use Rattle.mtn_records.specs.Fields.{AreApart, IsField, IsPair, IsTwenty, field_text, id_text, pair_text}
+use Rattle.mtn_records.specs.Fields.{AreApart, IsField, IsTwenty, field_text, id_text}
 use Rattle.mtn_old_stores.specs.Older.{IsLawfulOldCertificate, OldCertificate, old_cmp, old_key}
 use Rattle.mtn_old_stores.specs.Reading.{AreParts, parts_of, parts_text}
 

@@ -1,21 +1,10 @@
 -- Reading an older certificate back from the key of its record.
-use Rattle.std.specs.Prelude.{IfSome, is_some}
-use Rattle.std.proofs.Common.{◌≡◌, ℕ, Bool, true, List, [], ◌++◌, Option, Some, None, refl, sym, ap, ◌∙◌, subst}
+use Rattle.std.proofs.Common.{◌≡◌, ℕ, List, [], Option, Some, None, sym, ◌∙◌, subst}
 use Rattle.std.proofs.lemmas.List.{append-nil}
-use Rattle.mtn_history.specs.Errors.{IfDamage}
-use Rattle.mtn_history.specs.Meta.{count_key}
-use Rattle.mtn_history.specs.declared.errors.StoreError.{StoreError}
-use Rattle.mtn_history.specs.declared.errors.StoreError.TheVariants.{Damaged, Failed, NoMemory}
-use Rattle.mtn_model.specs.Table.{Contents, body_at}
-use Rattle.mtn_ports.specs.Kept.{IsBody, Same}
 use Rattle.mtn_records.specs.Fields.{Begins, BeginsWithNone}
 use Rattle.mtn_old_stores.specs.Older.{IsLawfulOldCertificate, IsOldKey, OldCertificate, old_key}
-use Rattle.mtn_old_stores.specs.Reading.{AreParts, Finds, FormDamage, IsOldCertOf, IsPartsOf, NeitherDamage, Parts, from_parts, parts_of, parts_text}
+use Rattle.mtn_old_stores.specs.Reading.{AreParts, Finds, IsOldCertOf, IsPartsOf, Parts, from_parts, parts_of, parts_text}
 use Rattle.mtn_old_stores.proofs.OldOrder.{are_parts, parts_apart}
-
--- the whole key was read
-pub read_whole : (key : List ℕ) (parts : Parts) (rest : List ℕ) → Begins parts_text AreParts key parts rest → rest ≡ [] → IsPartsOf key (Some parts)
-read_whole key parts rest begins none = (begins.formed, begins.whole ∙ ap (λ r. parts_text parts ++ r) none ∙ append-nil (parts_text parts))
 
 -- the key goes on
 pub read_more : (key : List ℕ) (parts : Parts) (rest : List ℕ) → Begins parts_text AreParts key parts rest → (rest ≡ [] → ⊥) → IsPartsOf key None
@@ -40,16 +29,3 @@ pub cert_found : (key : List ℕ) (parts : Parts) (r : Option OldCertificate) �
 cert_found key parts (Some cert) is fact =
     subst (IsOldKey key) (sym fact.0) (record { whole = is.1; lawful = subst IsLawfulOldCertificate fact.0 fact.1; revision = fact.2 })
 cert_found key parts None is never = λ cert at. never (subst (λ (p : Parts). IsLawfulOldCertificate (from_parts p)) (sym (same_parts key parts is cert at)) at.lawful)
-
--- ---- the version
-
-count_there : (mid : Option Contents) (c : Contents) (found : Bool) (out : List ℕ) → mid ≡ Some c → IfSome mid (λ d. IsBody (body_at d 1 count_key) found out) → found ≡ true → is_some (body_at c 1 count_key) ≡ true
-count_there mid c found out at finds there =
-    ap is_some (subst (λ t. IsBody (body_at c 1 count_key) t out) there (subst (λ o. IfSome o (λ d. IsBody (body_at d 1 count_key) found out)) at finds))
-
-pub form_damage : (mid new : Option Contents) (found : Bool) (out : List ℕ) (e : StoreError) → Same mid new → IfSome mid (λ d. IsBody (body_at d 1 count_key) found out) → found ≡ true →
-    IfSome new (λ c. IfDamage e (NeitherDamage c)) → IfSome new (λ c. IfDamage e (FormDamage c))
-form_damage mid None found out e same finds there damage = tt
-form_damage mid (Some c) found out Failed same finds there damage = tt
-form_damage mid (Some c) found out NoMemory same finds there damage = tt
-form_damage mid (Some c) found out (Damaged d) same finds there damage = (count_there mid c found out (same c refl) finds there, damage)

@@ -1,54 +1,25 @@
 -- The certificates of an older store, record by record.
 use Rattle.std.specs.Prelude.{Contains, IfErr, IfSome, IsSome, is_some}
-use Rattle.std.proofs.Common.{◌≡◌, ◌↔◌, ◌⊎◌, inl, inr, ℕ, Bool, true, false, List, [], ◌∷◌, ◌++◌, Option, Some, None, Result, Ok, Err, refl, sym, ap, ◌∙◌, subst}
+use Rattle.std.proofs.Common.{◌≡◌, ◌↔◌, inl, inr, ℕ, true, false, List, [], ◌∷◌, ◌++◌, Option, Some, None, Result, Ok, Err, refl, sym, ap, ◌∙◌, subst}
 use Rattle.mtn_history.specs.Errors.{IfDamage}
 use Rattle.mtn_history.specs.declared.errors.Damage.{Damage}
 use Rattle.mtn_history.specs.declared.errors.Damage.TheVariants.{Bad, Missing}
 use Rattle.mtn_history.specs.declared.errors.StoreError.{StoreError}
 use Rattle.mtn_history.specs.declared.errors.StoreError.TheVariants.{Damaged, Failed, NoMemory}
 use Rattle.mtn_model.specs.Table.{Contents, body_at}
-use Rattle.mtn_ports.specs.Kept.{IsAbove, IsBodyIf, IsNext, Same}
-use Rattle.mtn_put_certs.proofs.HeldLemmas.{above_none, told_if}
-use Rattle.mtn_put_certs.proofs.Walking.{AreUpTo, at_end, none_yet, one_more}
-use Rattle.mtn_old_stores.specs.Older.{HoldsOld, IsOldKey, OldCertificate, OldState, StandsOld, old_key}
+use Rattle.mtn_ports.specs.Kept.{Same}
+use Rattle.mtn_put_certs.proofs.Walking.{AreUpTo, at_end, one_more}
+use Rattle.mtn_old_stores.specs.Older.{HoldsOld, OldCertificate, OldState, StandsOld, old_key}
 use Rattle.mtn_old_stores.specs.Reading.{AreAllOld, IsNextOld, IsOldRecorded, OldCertDamage}
 use Rattle.mtn_old_stores.proofs.OldOrder.{one_old_key}
 
--- ---- one step
-
 never : (o : Option (List ℕ)) → o ≡ None → IsSome o → ⊥
 never o none some = let there : is_some o ≡ true = some in let not_there : is_some o ≡ false = ap is_some none in let both : true ≡ false = sym there ∙ not_there in cc
-
--- the key of a record that was found is its certificate's
-recorded : (c : Contents) (key body : List ℕ) (x : OldCertificate) → IsOldKey key x → body_at c 6 key ≡ Some body → IsOldRecorded c x
-recorded c key body x is found = record {
-  key = record { whole = refl; lawful = is.lawful; revision = is.revision };
-  there = subst (λ k. IsSome (body_at c 6 k)) is.whole (ap is_some found);
-}
-
-pub next_found : (told : Option Contents) (last shown key body tested seen : List ℕ) (found : Bool) (x : OldCertificate) → found ≡ true → shown ≡ last → tested ≡ key → IsOldKey tested x → seen ≡ key →
-    IfSome told (λ c. IsNext c 6 shown found key) → IfSome told (λ c. IsBodyIf c 6 found key body) → IfSome told (λ c. IsNextOld c last seen (Some x))
-next_found None last shown key body tested seen found x there shows tests is sees next own = tt
-next_found (Some c) last shown key body tested seen found x there shows tests is sees next own =
-    let at : body_at c 6 key ≡ Some body = subst (λ t. IsBodyIf c 6 t key body) there own in
-    let follows : IsNext c 6 last true key = subst (λ l. IsNext c 6 l true key) shows (subst (λ t. IsNext c 6 shown t key) there next) in
-    let whole : IsOldKey key x = subst (λ k. IsOldKey k x) tests is in
-    subst (λ k. IsNextOld c last k (Some x)) (sym sees) (recorded c key body x whole at, whole.whole, follows.1)
-
-pub next_damaged : (told : Option Contents) (shown key body tested seen : List ℕ) (found : Bool) (e : StoreError) → found ≡ true → tested ≡ key → seen ≡ body → IfSome told (λ c. IsBodyIf c 6 found key body) →
-    ((c : Contents) → body_at c 6 tested ≡ Some seen → IfDamage e (OldCertDamage c)) → IfSome told (λ c. IfDamage e (OldCertDamage c))
-next_damaged None shown key body tested seen found e there tests sees own damage = tt
-next_damaged (Some c) shown key body tested seen found e there tests sees own damage =
-    damage c (ap (body_at c 6) tests ∙ subst (λ t. IsBodyIf c 6 t key body) there own ∙ ap Some (sym sees))
 
 -- ---- what was read so far
 
 abbrev pub AreRead : Contents → List ℕ → List OldCertificate → Type 0
 AreRead c last certs = AreUpTo (IsOldRecorded c) old_key last certs
-
-pub none_read : (told : Option Contents) (last : List ℕ) (certs : List OldCertificate) → last ≡ [] → certs ≡ [] → IfSome told (λ c. AreRead c last certs)
-none_read told last certs first none = told_if told (λ c. AreRead c last certs)
-    (λ c at. subst (AreRead c last) (sym none) (subst (λ l. AreRead c l []) (sym first) (none_yet (IsOldRecorded c) old_key [] (λ x own. above_none x.revision.0 _ _))))
 
 cert_more : (c : Contents) (last key : List ℕ) (certs : List OldCertificate) (x : OldCertificate) → IsNextOld c last key (Some x) → AreRead c last certs → AreRead c key (certs ++ x ∷ [])
 cert_more c last key certs x next so_far =

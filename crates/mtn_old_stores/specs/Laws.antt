@@ -1,16 +1,17 @@
 -- What is said of older stores.
-use Rattle.std.specs.Prelude.{◌≡◌, ℕ, List, Some}
+use Rattle.std.specs.Prelude.{◌≡◌, ◌↔◌, ℕ, List, Some}
 use Rattle.std.specs.FinMap.{keys}
 use Rattle.mtn_base.specs.declared.id.Id.{Id}
+use Rattle.mtn_certs.specs.Certificates.{Certificate}
 use Rattle.mtn_certs.specs.declared.cert.KeyName.{KeyName}
 use Rattle.mtn_history.specs.Stands.{Stands, StandsFor}
 use Rattle.mtn_key_tables.specs.KeyTables.{IsKeyTable}
-use Rattle.mtn_model.specs.State.{State}
+use Rattle.mtn_model.specs.State.{Holds, State}
 use Rattle.mtn_model.specs.Table.{Contents}
 use Rattle.mtn_ports.specs.Kept.{with_all}
 use Rattle.mtn_replay.specs.Lawful.{IsLawful}
 use Rattle.mtn_old_stores.specs.Older.{IsOldLawful, OldCertificate, OldState, StandsOld}
-use Rattle.mtn_old_stores.specs.Migrating.{IsTableOfIds, id_named, made_by, migrated, migrating_puts}
+use Rattle.mtn_old_stores.specs.Migrating.{IsTableOfIds, IsUnder, id_named, made_by, migrated, migrating_puts}
 
 -- contents are those of one older state at most
 abbrev pub StandForOne : Type 0
@@ -32,3 +33,7 @@ MigratesRecords = (f : List ℕ → List ℕ) (table : List KeyName) (c : Conten
 -- certificates that differ stay apart under ids
 abbrev pub StayApart : Type 0
 StayApart = (table : List KeyName) (a b : OldCertificate) (i j : Id) → IsKeyTable table → id_named table a.key ≡ Some i → id_named table b.key ≡ Some j → made_by i a ≡ made_by j b → a ≡ b
+
+-- a migrated state holds the certificates of the older one under the ids of their keys, and no others
+abbrev pub HoldsMigrated : Type 0
+HoldsMigrated = (table : List KeyName) (s : OldState) (x : Certificate) → Holds (migrated table s).certs x ↔ IsUnder table s.certs x

@@ -55,6 +55,13 @@ with_keys s (k ∷ table) = with_keys (with_key s k.id k.name) table
 abbrev pub migrated : List KeyName → OldState → State
 migrated table s = with_keys (with_certs (bare s) (under_ids table (keys s.certs))) table
 
+-- the certificate is one of the older set, under the id that the table gives its key
+pub record IsUnder (table : List KeyName) (certs : OldCertificates) (x : Certificate) : Type 0 where
+  pub of : OldCertificate
+  pub held : HoldsOld certs of
+  pub given : id_named table of.key ≡ Some x.key
+  pub same : x ≡ made_by x.key of
+
 -- the table gives an id to every key that made a certificate
 abbrev pub AreNamed : List KeyName → OldCertificates → Type 0
 AreNamed table certs = (c : OldCertificate) → HoldsOld certs c → IsSome (id_named table c.key)

@@ -1,4 +1,3 @@
-use Rattle.std.proofs.Common.{refl}
 use Rattle.mtn_ports.proofs.KeptLemmas.{stays_trans}
 use Rattle.mtn_old_stores.proofs.WalkLemmas.{all_read, one_more_cert}
 use Rattle.mtn_old_stores.proofs.walk.all_old.Goals as goal
