@@ -18,17 +18,17 @@ use Rattle.mtn_old_stores.specs.Migrating.{IsUnder, and_made_by, bare, id_named,
 use Rattle.mtn_old_stores.proofs.OldOrder.{exact_olds}
 use Rattle.mtn_old_stores.proofs.Putting.{keys_held}
 
-abbrev has : List OldCertificate → OldCertificate → Bool
+abbrev pub has : List OldCertificate → OldCertificate → Bool
 has certs c = list_any (eq_by_cmp old_cmp c) certs
 
 -- a certificate of the list, under the id of its key
-record IsOf (table : List KeyName) (certs : List OldCertificate) (x : Certificate) : Type 0 where
-  of : OldCertificate
-  among : has certs of ≡ true
-  given : id_named table of.key ≡ Some x.key
-  same : x ≡ made_by x.key of
+pub record IsOf (table : List KeyName) (certs : List OldCertificate) (x : Certificate) : Type 0 where
+  pub of : OldCertificate
+  pub among : has certs of ≡ true
+  pub given : id_named table of.key ≡ Some x.key
+  pub same : x ≡ made_by x.key of
 
-second : (a b : Bool) → b ≡ true → (a || b) ≡ true
+pub second : (a b : Bool) → b ≡ true → (a || b) ≡ true
 second true b e = refl
 second false b e = e
 
@@ -51,7 +51,7 @@ one_of table c certs x own rest (Some id) is s held =
       same = e ∙ ap (λ i. made_by i c) key;
     }
 
-none_other : (table : List KeyName) → ((c : OldCertificate) → eq_by_cmp old_cmp c c ≡ true) → (certs : List OldCertificate) (x : Certificate) (s : State) → Holds (with_certs s (under_ids table certs)).certs x → Holds s.certs x ⊎ IsOf table certs x
+pub none_other : (table : List KeyName) → ((c : OldCertificate) → eq_by_cmp old_cmp c c ≡ true) → (certs : List OldCertificate) (x : Certificate) (s : State) → Holds (with_certs s (under_ids table certs)).certs x → Holds s.certs x ⊎ IsOf table certs x
 none_other table own [] x s held = inl held
 none_other table own (c ∷ certs) x s held = one_of table c certs x (own c) (none_other table own certs x) (id_named table c.key) refl s held
 
@@ -72,12 +72,12 @@ here c others x (Some id) given same s =
     let is : x ≡ made_by id c = same ∙ ap (λ i. made_by i c) (sym key) in
     stay others x (with_cert s (made_by id c)) (subst (Holds (with_cert s (made_by id c)).certs) (sym is) (new_held s.certs (made_by id c)))
 
-tied : (r : Ordering) → is_eq r ≡ true → r ≡ Equal
+pub tied : (r : Ordering) → is_eq r ≡ true → r ≡ Equal
 tied Less e = absurd cc
 tied Equal e = refl
 tied Greater e = absurd cc
 
-all_these : (table : List KeyName) (certs : List OldCertificate) (c : OldCertificate) (x : Certificate) → has certs c ≡ true → id_named table c.key ≡ Some x.key → x ≡ made_by x.key c → (s : State) → Holds (with_certs s (under_ids table certs)).certs x
+pub all_these : (table : List KeyName) (certs : List OldCertificate) (c : OldCertificate) (x : Certificate) → has certs c ≡ true → id_named table c.key ≡ Some x.key → x ≡ made_by x.key c → (s : State) → Holds (with_certs s (under_ids table certs)).certs x
 all_these table [] c x among given same s = absurd cc
 all_these table (d ∷ certs) c x among given same s =
     by (all_these table certs c x) (eq_by_cmp old_cmp c d) refl among
@@ -95,7 +95,7 @@ keys_beside : (table : List KeyName) (s : State) → (with_keys s table).certs �
 keys_beside [] s = refl
 keys_beside (k ∷ table) s = keys_beside table (with_key s k.id k.name)
 
-among_keys : (certs : OldCertificates) (c : OldCertificate) → HoldsOld certs c → has (keys certs) c ≡ true
+pub among_keys : (certs : OldCertificates) (c : OldCertificate) → HoldsOld certs c → has (keys certs) c ≡ true
 among_keys certs c held = sym (contains_key-keys certs c) ∙ ap is_some held
 
 pub holds_migrated : ((c : OldCertificate) → eq_by_cmp old_cmp c c ≡ true) → (table : List KeyName) (s : OldState) (x : Certificate) → Holds (migrated table s).certs x ↔ IsUnder table s.certs x

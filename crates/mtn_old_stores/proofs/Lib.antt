@@ -7,3 +7,4 @@ pub mod ReadLemmas
 pub mod WalkLemmas
 pub mod Held
 pub mod FormLemmas
+pub mod AnyOrder

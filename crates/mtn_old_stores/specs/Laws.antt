@@ -1,6 +1,5 @@
 -- What is said of older stores.
-use Rattle.std.specs.Prelude.{◌≡◌, ◌↔◌, ℕ, List, Some}
-use Rattle.std.specs.FinMap.{keys}
+use Rattle.std.specs.Prelude.{◌≡◌, ◌↔◌, ℕ, List, Some, Contains}
 use Rattle.mtn_base.specs.declared.id.Id.{Id}
 use Rattle.mtn_certs.specs.Certificates.{Certificate}
 use Rattle.mtn_certs.specs.declared.cert.KeyName.{KeyName}
@@ -10,7 +9,7 @@ use Rattle.mtn_model.specs.State.{Holds, State}
 use Rattle.mtn_model.specs.Table.{Contents}
 use Rattle.mtn_ports.specs.Kept.{with_all}
 use Rattle.mtn_replay.specs.Lawful.{IsLawful}
-use Rattle.mtn_old_stores.specs.Older.{IsOldLawful, OldCertificate, OldState, StandsOld}
+use Rattle.mtn_old_stores.specs.Older.{HoldsOld, IsOldLawful, OldCertificate, OldState, StandsOld}
 use Rattle.mtn_old_stores.specs.Migrating.{IsTableOfIds, IsUnder, id_named, made_by, migrated, migrating_puts}
 
 -- contents are those of one older state at most
@@ -25,10 +24,10 @@ StandOneWay = (f : List ℕ → List ℕ) (c : Contents) (s : OldState) (t : Sta
 abbrev pub MigratesLawfully : Type 0
 MigratesLawfully = (f : List ℕ → List ℕ) (table : List KeyName) (s : OldState) → IsTableOfIds table → IsOldLawful f s → IsLawful f (migrated table s)
 
--- the records that are put make an older store stand for its migrated state
+-- the records that are put, for the certificates of an older store in any order, make it stand for its migrated state
 abbrev pub MigratesRecords : Type 0
-MigratesRecords = (f : List ℕ → List ℕ) (table : List KeyName) (c : Contents) (s : OldState) → IsTableOfIds table → StandsOld f c s →
-    StandsFor f (with_all c (migrating_puts table (keys s.certs))) (migrated table s)
+MigratesRecords = (f : List ℕ → List ℕ) (table : List KeyName) (c : Contents) (s : OldState) (certs : List OldCertificate) → IsTableOfIds table → StandsOld f c s → ((x : OldCertificate) → Contains certs x ↔ HoldsOld s.certs x) →
+    StandsFor f (with_all c (migrating_puts table certs)) (migrated table s)
 
 -- certificates that differ stay apart under ids
 abbrev pub StayApart : Type 0

@@ -38,7 +38,7 @@ pub fn lawful()
     ensures apart { StayApart }
 {}
 
-/// The records that are put stand for the migrated state.
+/// The records that are put stand for the migrated state, in whatever order the certificates are taken.
 pub fn records()
     ensures { MigratesRecords }
 {}
