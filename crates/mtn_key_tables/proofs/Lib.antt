@@ -1,0 +1,2 @@
+pub mod Texting
+pub mod Fresh

@@ -1,0 +1,2 @@
+pub mod KeyTables
+pub mod Reading

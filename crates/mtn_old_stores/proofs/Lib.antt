@@ -1,0 +1,10 @@
+pub mod OldOrder
+pub mod Bare
+pub mod Named
+pub mod Putting
+pub mod One
+pub mod ReadLemmas
+pub mod WalkLemmas
+pub mod Held
+pub mod FormLemmas
+pub mod AnyOrder

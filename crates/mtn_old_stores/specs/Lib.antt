@@ -1,0 +1,4 @@
+pub mod Older
+pub mod Migrating
+pub mod Laws
+pub mod Reading
