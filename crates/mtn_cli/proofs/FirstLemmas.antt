@@ -42,8 +42,11 @@ first_found f told before now (Damaged d) out (inl is) damaged failed = subst (I
 -- a check of such records finds a damage
 pub none_sound : (f : List ℕ → List ℕ) (old new : Option Contents) (before now count : ℕ) (line : List ℕ) → IsLine line → Same old new → IfSome old (λ c. (s : State) → Stands f c s → ⊥) →
     IfSome new (λ c. (s : State) × Stands f c s × (count ≡ length s.log)) → IsFirstShown f new before now (work.Damaged line)
-none_sound f old new before now count line shows same none clean = (shows, told_by new _ (λ c at.
-    let found = at_told new _ c at clean in absurd (at_told old (λ x. (s : State) → Stands f x s → ⊥) c (same c at) none found.0 found.1)))
+none_sound f old new before now count line shows same none clean = (
+  shows,
+  told_by new _ (λ c at.
+      let found = at_told new _ c at clean in absurd (at_told old (λ x. (s : State) → Stands f x s → ⊥) c (same c at) none found.0 found.1)),
+)
 
 module _ (f : List ℕ → List ℕ) {M : Type 0} (Knows : M → Contents → Type 0) {K : Type 0} (contents : K → Option Contents) (leaves : K → Contents → Type 0) (faults asked : K → ℕ) (m : M)
     (spelled merges reading checking : Bool) (Outcomes : State → Outcome → Type 0) (Bounded : State → ℕ → Type 0) where
@@ -52,6 +55,14 @@ module _ (f : List ℕ → List ℕ) {M : Type 0} (Knows : M → Contents → Ty
 
   abbrev Shown : K → K → Result Worked WorkError → Type 0
   Shown old new r = Works (Stands f) (ShowsDamage f (reading ≡ true) (checking ≡ true)) (IsFirstLine f) IsLine Knows contents leaves faults asked old new m spelled merges checking Outcomes Bounded r
+
+  -- what was met, by its damage
+  pub damaged_so : (old new : K) (r : Result Worked WorkError) (e : WorkError) (line : List ℕ) → r ≡ Err e → e ≡ work.Damaged line → Met old new r → Met old new (Err (work.Damaged line))
+  damaged_so old new r e line is damage met = subst (λ x. Met old new (Err x)) damage (subst (Met old new) is met)
+
+  -- its line shows a damage
+  pub shows_line : (old new : K) (line : List ℕ) → Met old new (Err (work.Damaged line)) → IsLine line
+  shows_line old new line met = met.reason.2
 
   -- over told records that a command found damaged there is no state
   pub none_stand : (old new : K) (line : List ℕ) → Met old new (Err (work.Damaged line)) → IfSome (contents new) (λ c. (s : State) → Stands f c s → ⊥)
@@ -77,6 +88,10 @@ module _ (f : List ℕ → List ℕ) {M : Type 0} (Knows : M → Contents → Ty
       cause_of c d (inl damage) = inl damage
       cause_of c d (inr unfit) = absurd (let never = own line refl in let reads = unfit.0 in cc)
 
+  -- the same, by what it is
+  pub as_given : (old new : K) (r q : Result Worked WorkError) → r ≡ q → ((line : List ℕ) → q ≡ Err (work.Damaged line) → reading ≡ false) → Met old new r → Shown old new q
+  as_given old new r q is own met = as_met old new q own (subst (Met old new) is met)
+
   -- the first damage is shown in place of one that was met
   pub as_first : (old mid new : K) (line : List ℕ) (out : WorkError) → reading ≡ true → checking ≡ false → Met old mid (Err (work.Damaged line)) → Stays contents leaves faults mid new → IsFirstShown f (contents new) (faults mid) (faults new) out → Shown old new (Err out)
   as_first old mid new line out reads off met stays shown = record {
@@ -92,3 +107,5 @@ module _ (f : List ℕ → List ℕ) {M : Type 0} (Knows : M → Contents → Ty
       why (work.Damaged l) is = (met.reason.0, λ c now. let found = at_told (contents new) _ c now is.1 in record { damage = found.0; cause = inr (inl reads, found.1); is_shown = found.2; no_state = λ s stands. met.done c s (stays.same c now) stands; is = found.3 }, is.0)
       why work.Failed is = (met.reason.0, let earlier = met.stays.later in omega (arith, earlier, is))
       why work.NoMemory is = tt
+      why work.Usage is = absurd is
+      why (work.Refused refusal) is = absurd is

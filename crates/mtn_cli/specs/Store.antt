@@ -18,13 +18,11 @@ use Rattle.mtn_history.specs.Damage.{IsDamage, IsShown}
 use Rattle.mtn_history.specs.Files.{MakesIds}
 use Rattle.mtn_history.specs.Stands.{Stands}
 use Rattle.mtn_put_revision.specs.Reads.{IsBoundOf}
-use Rattle.mtn_step.specs.declared.call.Call.{Call}
-use Rattle.mtn_step.specs.declared.call.Call.TheVariants.{PutRevision}
 use Rattle.mtn_commands.specs.Drafts.{may_conflict, reads_packets}
 use Rattle.mtn_history.specs.declared.errors.Damage.{Damage}
 use Rattle.mtn_reading.specs.Unfit.{IsUnfit}
 use Rattle.mtn_step.specs.declared.call.Call.{Call as Step_call}
-use Rattle.mtn_step.specs.declared.call.Call.TheVariants.{Check}
+use Rattle.mtn_step.specs.declared.call.Call.TheVariants.{Check, PutRevision}
 use Rattle.mtn_commands.specs.declared.error.CommandError.{CommandError}
 use Rattle.mtn_commands.specs.declared.error.CommandError.TheVariants.{Refused, Store}
 use Rattle.mtn_history.specs.declared.errors.StoreError.TheVariants.{Failed, Damaged, NoMemory}
@@ -66,7 +64,7 @@ script_checking (Bare job) = job_checking job
 script_checking (Framed jobs) = list_any job_checking jobs
 
 -- how many records a command asks for at most, from the draft that it opens on: it is said of the one that puts a revision
-abbrev pub bounds_of : (List ℕ → List ℕ) → Option Call → List ℕ → State → ℕ → Type 0
+abbrev pub bounds_of : (List ℕ → List ℕ) → Option Step_call → List ℕ → State → ℕ → Type 0
 bounds_of f call payload s n = (call ≡ Some PutRevision) × MakesIds f × IsBoundOf 40 f s payload n
 
 abbrev pub bounds : (List ℕ → List ℕ) → Bounds

@@ -103,8 +103,12 @@ fn work_shown<R: Threads + Sync, I: Ident, K: Keeper>(
         return worked;
     }
     match worked {
+        Ok(done) => Ok(done),
         Err(WorkError::Damaged { line }) => Err(first_shown(rt, alloc, ident, line, keeper)),
-        other => other,
+        Err(WorkError::Refused { refusal }) => Err(WorkError::Refused { refusal }),
+        Err(WorkError::Usage) => Err(WorkError::Usage),
+        Err(WorkError::Failed) => Err(WorkError::Failed),
+        Err(WorkError::NoMemory) => Err(WorkError::NoMemory),
     }
 }
 
