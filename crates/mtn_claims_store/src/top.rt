@@ -1,10 +1,10 @@
 //! The top call.
 ghost use Rattle.std.specs.Prelude.{◌≡◌, IfOk};
-ghost use Rattle.mtn_cli.specs.Run.{ChecksAreSound, ChecksStore, HeadsMergesAreDecided, MergesAreDecided, OrderFree, Outcomes, ReadsPackets, Scripts, StaysLawful, is_read};
+ghost use Rattle.mtn_cli.specs.Run.{AtMost, ChecksAreSound, ChecksStore, HeadsMergesAreDecided, MergesAreDecided, OrderFree, Outcomes, ReadsPackets, Scripts, StaysLawful, is_read};
 ghost use Rattle.mtn_cli.specs.Step.{Step};
 ghost use Rattle.mtn_cli.specs.Store.{IsFirstLine, IsLine, ShowsDamage, is_checking, is_merging, is_spelled};
 ghost use Rattle.mtn_words.specs.Words.{Reads, command_of};
-ghost use Rattle.mtn_frame.specs.Frame.{Completes, HasCauses, LeavesRecords, Meets, Survives, TellsDamage, Vouches, Writes};
+ghost use Rattle.mtn_frame.specs.Frame.{AsksFew, Completes, HasCauses, LeavesRecords, Meets, Survives, TellsDamage, Vouches, Writes};
 ghost use Rattle.mtn_frame.specs.Script.{is_session as session_words};
 ghost use Rattle.mtn_frame.specs.Top.{ComesTo, in_grammar, is_merge, is_vouch};
 ghost use Rattle.mtn_history.specs.Stands.{Stands};
@@ -55,6 +55,11 @@ pub fn run<R: Threads + Sync, I: Ident, S: Source, O: Sink, K: Keeper>(
     ensures checks { ChecksAreSound (I.meaning ident.now) words.now
         (record { contents = K.contents keeper.old; left = S.left source.old; written = O.written sink.old })
         (record { contents = K.contents keeper.new; left = S.left source.new; written = O.written sink.new }) result }
+    ensures few_reads { AsksFew (Stands (I.meaning ident.now)) (AtMost (I.meaning ident.now) words.now) (session_words words.now) (is_read words.now)
+        (record { contents = K.contents keeper.old; left = S.left source.old; written = O.written sink.old })
+        (record { contents = K.contents keeper.new; left = S.left source.new; written = O.written sink.new })
+        (record { keeper = K.faults keeper.old; source = S.faults source.old; sink = O.faults sink.old; reads = K.reads keeper.old })
+        (record { keeper = K.faults keeper.new; source = S.faults source.new; sink = O.faults sink.new; reads = K.reads keeper.new }) }
     ensures order_free { OrderFree (I.meaning ident.now) words.now }
     ensures merges { MergesAreDecided (I.meaning ident.now) words.now
         (record { contents = K.contents keeper.old; left = S.left source.old; written = O.written sink.old })
