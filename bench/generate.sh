@@ -1,8 +1,8 @@
 #!/bin/bash
 # What a generated history costs. `generate 2000`, with its 500 merges, over a store in memory and into a new file, each as a multiple
 # of `git fast-import` of the same history in the same run. Then 4,000 revisions: the same 2,000 and the next 2,000 behind them by the
-# commands one by one, in a session over a store in memory, as a multiple of a session of `generate 2000` alone. The best of five
-# counts. Given a path, that program is measured.
+# commands one by one, in a session over a store in memory, as a multiple of a session of `generate 2000` alone; and all 4,000 by their commands, as
+# a multiple of the first 2,000 by theirs. The best of five counts. Given a path, that program is measured.
 program=$(realpath -m "${1:-$(dirname "${BASH_SOURCE[0]}")/../target/mtn}")
 cd "$(dirname "${BASH_SOURCE[0]}")/.." || exit 1
 [ "$#" -gt 0 ] || ./mtn --version >/dev/null || exit 1
@@ -48,8 +48,13 @@ memory, git = best([mtn, '-', *words], told=summary), fast_import(stream)
 file = best([mtn, store, *words], told=summary, fresh=store)
 print(f'generate 2000 over memory: {memory:.3f} s, git fast-import {git:.3f} s: {memory / git:.2f} times (at most 8)')
 print(f'generate 2000 into a new file: {file:.3f} s, {file / git:.2f} times (at most 16)')
+def session(*parts):
+    return best([mtn, '-', 'stdio'], b''.join(parts))
+
 first = request(*words)
-session = best([mtn, '-', 'stdio'], first)
-longer = best([mtn, '-', 'stdio'], first + b''.join(request(*asked, *([payload] if asked[0].startswith('put') else [])) for asked, payload in history.commands[begun:]))
-print(f'4,000 revisions, the second half by their commands: {longer:.3f} s, a session of generate 2000 {session:.3f} s: {longer / session:.2f} times (at most 2.2)')
+one_by_one = [request(*asked, *([payload] if asked[0].startswith('put') else [])) for asked, payload in history.commands]
+alone, behind = session(first), session(first, *one_by_one[begun:])
+half, whole = session(*one_by_one[:begun]), session(*one_by_one)
+print(f'4,000 revisions, the second half by their commands: {behind:.3f} s, a session of generate 2000 {alone:.3f} s: {behind / alone:.2f} times (at most 2.2)')
+print(f'4,000 revisions by their commands: {whole:.3f} s, 2,000 by theirs {half:.3f} s: {whole / half:.2f} times')
 PYTHON

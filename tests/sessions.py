@@ -255,6 +255,21 @@ def many(folder):
     row('ten thousand requests', data, 0, want, store)
 
 
+def little_kept():
+    """A session that answers a thousand MiB holds no more than one that answers ten."""
+    body = bytes(1 << 20)
+    held = []
+    for count in (10, 1000):
+        with tempfile.TemporaryFile() as given:
+            given.write(request('put_file', body) + request('get_file', sha(body)) * count)
+            given.seek(0)
+            process = subprocess.Popen(MTN + ['-', 'stdio'], stdin=given, stdout=subprocess.DEVNULL)
+            _, status, used = os.wait4(process.pid, 0)
+            held.append(used.ru_maxrss)
+        verdict('it answers %d times: %d' % (count, status), status == 0)
+    verdict('what was answered is not held: %r KiB' % held, held[1] < held[0] + 8192)
+
+
 def damaged(folder):
     store = os.path.join(folder, 'damaged.mtn')
     row('a store is made', request('put_file', 'abc'), 0, answers((0, ABC + b'\n')), store)
@@ -277,6 +292,7 @@ def main():
         too_long()
         killed(folder)
         many(folder)
+        little_kept()
         damaged(folder)
     print('%d passed, %d failed' % (passed, failed))
     return 1 if failed else 0
