@@ -4,12 +4,15 @@ out here over the whole graph: which revisions set a value, and which of these a
 looks at the marks of a parent, as the program does. Revisions are merged by the program too, in both orders of its words and
 with random resolutions: its conflicts, its refusals and its texts are those of the model in merges.py. Each history is then
 accepted in two more orders, with random certificates in a random order: every command but those that answer in the order of the
-log answers alike over all three, before and behind one more revision; heads and branches are those of the whole graph. Last, its
-packets are those of the model of packet_rows.py, and a second store that reads them leaf by leaf answers alike. Takes a first seed
+log answers alike over all three, before and behind one more revision; heads and branches are those of the whole graph. Then its
+packets are those of the model of packet_rows.py, and a second store that reads them leaf by leaf answers alike. Last, `check` finds
+every one of its stores whole. Takes a first seed
 and how many histories (1 and 3 where not given); ends with 'N passed, M failed'."""
 import base64
+import contextlib
 import os
 import random
+import sqlite3
 import sys
 import tempfile
 
@@ -528,6 +531,20 @@ class History:
                 verdict('leaf %d of history %d is read: %r' % (at, number, ended), not refused and ended == (0, line.encode(), b''))
         verdict('all of history %d is read' % number, set(reads.log) == set(self.ids))
 
+    def check(self, folder, number):
+        """Every store of this history is whole, to `check` and to sqlite3; so is one in memory that reads its packets."""
+        stores = [self.store] + [Store(folder, name % number) for name in ('sends%d', 'reads%d')]
+        stores += [type('Other', (Store,), {'__init__': lambda self, path=os.path.join(folder, 'order%d-%d' % (number, at)): setattr(self, 'path', path)})() for at in range(3)]
+        for store in stores:
+            with contextlib.closing(sqlite3.connect(store.path)) as records:
+                log, = records.execute('SELECT count(*) FROM kept WHERE kind = 4').fetchone()
+                whole = records.execute('PRAGMA integrity_check').fetchall()
+            ended = store.ask('check')
+            verdict('%s is whole: %r' % (store.path, ended), ended == (0, b'ok %d\n' % log, b'') and whole == [('ok',)] and log >= len(self.ids))
+        sent = b''.join(self.store.ask('packets', at)[1] for at in self.ids)
+        read = sessions.session('-', sessions.request('read', sent) + sessions.request('check'))
+        verdict('history %d is whole in memory: %r' % (number, read), read[0] == 0 and read[1].endswith(sessions.framed(1, 0, b'ok %d\n' % len(self.ids))))
+
 
 def main():
     seed, count = (int(word) for word in (sys.argv[1:] + ['1', '3'][len(sys.argv) - 1:])[:2])
@@ -540,6 +557,7 @@ def main():
             verdict('history %d has merges' % number, any(len(parents) == 2 for parents in history.parents.values()))
             history.compare_orders(folder, number)
             history.compare_packets(folder, number)
+            history.check(folder, number)
     print('%d passed, %d failed' % (revisions.passed, revisions.failed))
     return 1 if revisions.failed else 0
 
