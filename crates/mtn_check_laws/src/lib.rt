@@ -4,8 +4,8 @@
 //! the log is an induction over its fronts (`specs/Fronts.antt`): the records below a position stand for the first revisions, and
 //! those of the position lead to one revision more.
 //!
-//! The code of the check, which is to come, relies on this: contents without damage stand for the state that they spell, contents
-//! that stand have no damage, and there is one first damage at most. No command cites these laws yet.
+//! The code of the check (`mtn_check_log`, `mtn_check`) relies on this: contents without damage stand for the state that they spell,
+//! contents that stand have no damage, and there is one first damage at most.
 #![tactic(auto)]
 
 mod laws;
