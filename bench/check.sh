@@ -3,12 +3,8 @@
 # --full` over the same history in the same run; how much longer twice the revisions take; what it takes on all processors, as a part of
 # what it takes on one; its peak of memory over both. The best of three counts. Given a path, that program is measured. Without fossil
 # (Debian's package) its line is left out.
-program=$(realpath -m "${1:-$(dirname "${BASH_SOURCE[0]}")/../target/mtn}")
-cd "$(dirname "${BASH_SOURCE[0]}")/.." || exit 1
-[ "$#" -gt 0 ] || ./mtn --version >/dev/null || exit 1
-work=$(mktemp -d)
-trap 'rm -rf "$work"' EXIT
-PYTHONDONTWRITEBYTECODE=1 PYTHONPATH="bench:tests" python3 - "$program" "$work" <<'PYTHON'
+source "$(dirname "${BASH_SOURCE[0]}")/program.sh" || exit 1
+measured <<'PYTHON'
 import os, shutil, subprocess, sys, time
 from history import history
 from sessions import request

@@ -3,12 +3,8 @@
 # of `git fast-import` of the same history in the same run. Then 4,000 revisions: the same 2,000 and the next 2,000 behind them by the
 # commands one by one, in a session over a store in memory, as a multiple of a session of `generate 2000` alone; and all 4,000 by their commands, as
 # a multiple of the first 2,000 by theirs. The best of five counts. Given a path, that program is measured.
-program=$(realpath -m "${1:-$(dirname "${BASH_SOURCE[0]}")/../target/mtn}")
-cd "$(dirname "${BASH_SOURCE[0]}")/.." || exit 1
-[ "$#" -gt 0 ] || ./mtn --version >/dev/null || exit 1
-work=$(mktemp -d)
-trap 'rm -rf "$work"' EXIT
-PYTHONDONTWRITEBYTECODE=1 PYTHONPATH="bench:tests" python3 - "$program" "$work" <<'PYTHON'
+source "$(dirname "${BASH_SOURCE[0]}")/program.sh" || exit 1
+measured <<'PYTHON'
 import os, subprocess, sys, tempfile, time
 from generated import Generated
 from sessions import request

@@ -6,12 +6,8 @@
 # them, with nothing kept by either. What the whole `read`, whose input is read in four pieces too, takes on all processors, as a
 # part of what it takes on one. `packets` of 2,000 revisions, as a multiple of `git fast-export` of the same history: as a
 # request in a session over a store in memory, and as a command of its own over a file with its opening. The best of five counts. Given a path, that program is measured.
-program=$(realpath -m "${1:-$(dirname "${BASH_SOURCE[0]}")/../target/mtn}")
-cd "$(dirname "${BASH_SOURCE[0]}")/.." || exit 1
-[ "$#" -gt 0 ] || ./mtn --version >/dev/null || exit 1
-work=$(mktemp -d)
-trap 'rm -rf "$work"' EXIT
-PYTHONDONTWRITEBYTECODE=1 PYTHONPATH="bench:tests" python3 - "$program" "$work" <<'PYTHON'
+source "$(dirname "${BASH_SOURCE[0]}")/program.sh" || exit 1
+measured <<'PYTHON'
 import base64, glob, os, random, subprocess, sys, time
 from history import history
 from packet_rows import fdata

@@ -14,7 +14,7 @@ import generated
 import packet_rows
 from generated import generated as history
 from measure import CASES
-from packet_rows import Lines, answering, asking, escaped, fdata
+from packet_rows import Lines, answering, asking, escaped, record
 from revisions import add_dir, add_file, patch, rename, revision, set_attr, sha
 
 KEY, OTHER = '1' * 40, '2' * 40
@@ -95,11 +95,6 @@ def generations():
     fails_at_each_call(lines, [], (['generate', '4'], None), history(4).summary())
     lines.ends()
     return lines
-
-
-def record(table, key, body=b''):
-    spelled = lambda bytes: ''.join('\\x%02x' % byte for byte in bytes)
-    return 'record %d %s %s' % (table, spelled(key), spelled(body))
 
 
 def checks():

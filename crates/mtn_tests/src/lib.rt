@@ -5,8 +5,14 @@
 #[cfg(test)]
 mod counting;
 #[cfg(test)]
+mod gate;
+#[cfg(test)]
+mod jobs;
+#[cfg(test)]
 mod keeper;
 #[cfg(test)]
 mod meeting;
 #[cfg(test)]
 mod threads;
+#[cfg(test)]
+mod verdicts;

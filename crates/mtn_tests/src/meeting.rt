@@ -1,50 +1,13 @@
 // That the pieces of one call run at the same time. No clause says so: a call that does one piece after the other
 // meets them all.
+use crate::gate::{Meeting, MeetingGate};
 use mtn_base::Text;
-use mtn_pieces::{Gate, Sha1Many};
+use mtn_pieces::Sha1Many;
 use mtn_ports::{Ident, Sha1One};
 use std::alloc::Global;
-use std::sync::atomic::{AtomicU64, Ordering};
+use std::sync::atomic::Ordering;
 use std::test::Fail;
 use std::thread::Threads;
-
-// How often a piece looks for another, so that pieces that cannot meet give up.
-const TURNS: u64 = 100_000_000;
-
-// A bit for each piece that has come, and one for each that has seen another.
-#[derive(Drop)]
-struct Meeting {
-    come: AtomicU64,
-    met: AtomicU64,
-}
-
-impl Meeting {
-    fn new() -> Meeting {
-        Meeting {
-            come: AtomicU64::new(0),
-            met: AtomicU64::new(0),
-        }
-    }
-}
-
-// A gate where a piece waits for another.
-#[derive(Drop)]
-struct MeetingGate<'a> {
-    meeting: &'a Meeting,
-}
-
-impl Gate for MeetingGate<'_> {
-    fn pass(&self, piece: usize) {
-        let own = 1_u64 << (piece % 64);
-        self.meeting.come.fetch_or(own, Ordering::SeqCst);
-        for _ in 0..TURNS {
-            if self.meeting.come.load(Ordering::SeqCst) != own {
-                self.meeting.met.fetch_or(own, Ordering::SeqCst);
-                return;
-            }
-        }
-    }
-}
 
 fn two_texts(alloc: Global) -> Option<Vec<Text>> {
     let mut texts = Vec::new(alloc);
