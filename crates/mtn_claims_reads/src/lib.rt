@@ -5,7 +5,6 @@
 #![tactic(auto)]
 
 ghost use Rattle.std.specs.Prelude.{◌≡◌, ◌≤◌, ◌+◌, IfSome, Some, ℕ};
-ghost use Rattle.mtn_history.specs.Files.{MakesIds};
 ghost use Rattle.mtn_history.specs.Stands.{IsDraft, IsFounded};
 ghost use Rattle.mtn_model.specs.State.{State};
 ghost use Rattle.mtn_model.specs.Table.{Contents};
@@ -26,7 +25,7 @@ pub fn asks<I: Ident, K: Keeper>(
     draft: &mut Draft<'_, K>,
     text: &[u8],
 ) -> Result<Id, HistoryError>
-    ensures reads { (c : Contents) (s : State) (n : ℕ) → K.contents draft.new.keeper.now ≡ Some c → IsDraft (I.meaning ident.now) c draft.old.pending s → MakesIds (I.meaning ident.now) →
+    ensures reads { (c : Contents) (s : State) (n : ℕ) → K.contents draft.new.keeper.now ≡ Some c → IsDraft (I.meaning ident.now) c draft.old.pending s →
         IsBoundOf 38 (I.meaning ident.now) s text.now n → K.reads draft.new.keeper.now ≤ K.reads draft.old.keeper.now + n }
 {
     put_revision(alloc, ident, draft, text)
@@ -44,7 +43,7 @@ pub fn asks_as<I: Ident, K: Keeper>(
     requires id { id.0 ≡ I.meaning ident.now text.now }
     requires planned { (s : State) → (d : IsFounded (I.meaning ident.now) (K.contents draft.old.keeper.now) draft.old.pending s) →
         IfSome tree (λ t. IsPlanned (I.meaning ident.now) s.files d.stands.history text.now t) }
-    ensures reads { (c : Contents) (s : State) (n : ℕ) → K.contents draft.new.keeper.now ≡ Some c → IsDraft (I.meaning ident.now) c draft.old.pending s → MakesIds (I.meaning ident.now) →
+    ensures reads { (c : Contents) (s : State) (n : ℕ) → K.contents draft.new.keeper.now ≡ Some c → IsDraft (I.meaning ident.now) c draft.old.pending s →
         IsBoundOf 38 (I.meaning ident.now) s text.now n → K.reads draft.new.keeper.now ≤ K.reads draft.old.keeper.now + n }
 {
     put_revision_as(alloc, ident, draft, id, text, tree)

@@ -1,6 +1,7 @@
 // SHA-1 in pieces.
 ghost use Rattle.std.specs.Prelude.{◌≡◌, IfOk, map, max, min};
 ghost use Rattle.mtn_base.specs.Hex.{id_of};
+ghost use Rattle.mtn_ports.specs.Ids.{sha1_makes_ids};
 ghost use Rattle.sha1.specs.Sha1.{sha1};
 
 use crate::hashing::ids_in_runs;
@@ -58,6 +59,8 @@ impl<G: Gate> Sha1Many<G> {
 
 impl Ident for Sha1Many<FreeGate> {
     ghost meaning = { λ _. sha1 };
+
+    ghost makes_ids = { λ _. sha1_makes_ids };
 
     fn pass(&self, piece: usize) {
         self.pass_gate(piece);

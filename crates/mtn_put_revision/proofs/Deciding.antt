@@ -1,5 +1,5 @@
 -- What a text comes to, and what damages are found on the way.
-use Rattle.std.specs.Prelude.{find, option_map, slice_get, IfSome, IfErr, OnOk, MatchBool, nat_le}
+use Rattle.std.specs.Prelude.{find, option_map, slice_get, IfSome, IfErr, OnOk, nat_le}
 use Rattle.std.proofs.Common.{◌≡◌, ◌≤◌, ◌<◌, ℕ, zero, suc, Bool, true, false, cond, List, [], ◌∷◌, ◌++◌, length, Option, Some, None, Result, Ok, Err, refl, sym, ap, ◌∙◌, subst, ◌⊎◌, inl, inr, arith}
 use Rattle.std.proofs.lemmas.Bool.Decides.{nat_tests}
 use Rattle.mtn_base.specs.Hex.{id_of}
@@ -14,13 +14,13 @@ use Rattle.mtn_replay.specs.Lawful.{IsHistory, Spells}
 use Rattle.mtn_replay.specs.Making.{place_of, log_full, unknown_parent, refusal_of}
 use Rattle.mtn_replay.proofs.Places.{inside, place_has, place_within, within}
 use Rattle.mtn_model.specs.State.{Logged, State}
-use Rattle.mtn_model.specs.Table.{Table, Contents, body_at}
+use Rattle.mtn_model.specs.Table.{Table, Contents}
 use Rattle.mtn_ports.specs.Kept.{with_all}
 use Rattle.std.specs.Cmp.Lexicographic.{bytes_decides}
 use Rattle.std.proofs.lemmas.Slice.Eq.{bytes_eq-Decides}
 use Rattle.mtn_history.specs.Damage.{IsDamage}
 use Rattle.mtn_history.specs.Errors.{IfStoreDamage}
-use Rattle.mtn_history.specs.Meta.{IsMetaOf, Counted, count_key}
+use Rattle.mtn_history.specs.Meta.{IsMetaOf, Counted}
 use Rattle.mtn_history.specs.Logs.{IsHeldAt}
 use Rattle.mtn_history.specs.Rosters.{IsRosterHeld}
 use Rattle.mtn_history.specs.Stands.{IsDraft, IsFounded}
@@ -197,7 +197,7 @@ module _ (f : List ℕ → List ℕ) (told : Option Contents) (c : Contents) (p 
   )
 
 -- what was found is damage
-below_counted : (c : Contents) (b : Bool) (n r : ℕ) → MatchBool b ((body_at c 1 count_key ≡ None) × (n ≡ 0)) (Counted c n) → r < n → Counted c n
+below_counted : (c : Contents) (b : Bool) (n r : ℕ) → IsMetaOf c (record { count = n; is_new = b }) → r < n → Counted c n
 below_counted c true n r is lt = absurd (omega (arith, lt, is.1))
 below_counted c false n r is lt = is
 

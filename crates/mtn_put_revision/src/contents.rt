@@ -9,7 +9,7 @@ ghost use Rattle.mtn_ports.specs.Kept.{Stays};
 ghost use Rattle.mtn_history.specs.Errors.{IfDamage};
 ghost use Rattle.mtn_history.specs.Stands.{IsFounded};
 ghost use Rattle.mtn_put_revision.specs.Finding.{unknown_in, first_unknown};
-ghost use Rattle.mtn_history.specs.Files.{MakesIds};
+ghost use Rattle.mtn_ports.specs.Ident.{MakesIds};
 ghost use Rattle.mtn_put_revision.specs.Reads.{LooksFew, brought};
 
 use mtn_base::Id;

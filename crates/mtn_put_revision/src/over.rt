@@ -13,7 +13,7 @@ ghost use Rattle.mtn_history.specs.Stands.{IsFounded};
 ghost use Rattle.mtn_put_revision.specs.Finding.{IsFound, IsRefusal, made_refusal_of};
 ghost use Rattle.mtn_put_revision.specs.Keeping.{Accepts, AreParents, IsFirstRebuilt, IsNew, IsPlanned, AreOn};
 ghost use Rattle.mtn_put_revision.specs.Writing.{AllAscend, NoneMakes};
-ghost use Rattle.mtn_history.specs.Files.{MakesIds};
+ghost use Rattle.mtn_ports.specs.Ident.{MakesIds};
 ghost use Rattle.mtn_history_laws.specs.History.{parents_at};
 ghost use Rattle.mtn_put_revision.specs.Reads.{IsWindow};
 

@@ -12,7 +12,7 @@ ghost use Rattle.mtn_ports.specs.Kept.{Stays, with_all};
 ghost use Rattle.mtn_history.specs.Errors.{IfStoreDamage};
 ghost use Rattle.mtn_history.specs.Stands.{IsFounded};
 ghost use Rattle.mtn_put_revision.specs.Finding.{IsFound, IsRefusal, made_refusal_of};
-ghost use Rattle.mtn_history.specs.Files.{MakesIds};
+ghost use Rattle.mtn_ports.specs.Ident.{MakesIds};
 
 use crate::contents::unknown_content;
 use crate::unfit::unfit;

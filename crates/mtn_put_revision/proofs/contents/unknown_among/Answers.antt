@@ -10,7 +10,7 @@ use Rattle.mtn_put_revision.proofs.Grounds.{back_plain, moved}
 use Rattle.mtn_put_revision.proofs.Looking.{at_item, first_here, first_past}
 use Rattle.std.proofs.lemmas.Result.{err_from_is_err_and}
 use Rattle.mtn_changes.specs.declared.change.Change.{Change}
-use Rattle.mtn_history.specs.Files.{MakesIds}
+use Rattle.mtn_ports.specs.Ident.{MakesIds}
 use Rattle.mtn_put_revision.specs.Reads.{LooksFew, brought}
 use Rattle.mtn_put_revision.proofs.Counting.{brought_more, brought_within, looks_last, looks_on}
 use Rattle.std.specs.Prelude.{Result}

@@ -1,7 +1,7 @@
 use Rattle.std.proofs.Common.{◌≡◌, ◌≤◌, ◌+◌, List, ℕ, None, length, take}
 use Rattle.mtn_model.specs.State.{State}
 use Rattle.mtn_ports.specs.Kept.{Stays}
-use Rattle.mtn_history.specs.Files.{MakesIds}
+use Rattle.mtn_ports.specs.Ident.{MakesIds}
 use Rattle.mtn_history.specs.Stands.{IsFounded}
 use Rattle.mtn_put_revision.specs.Finding.{first_unknown}
 use Rattle.mtn_put_revision.specs.Reads.{brought}

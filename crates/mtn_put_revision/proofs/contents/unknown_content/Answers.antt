@@ -13,7 +13,7 @@ use Rattle.std.specs.Prelude.{Result}
 use Rattle.std.proofs.lemmas.List.{take_all}
 use Rattle.std.proofs.lemmas.Result.{err_from_is_err_and}
 use Rattle.mtn_base.specs.declared.id.Id.{Id}
-use Rattle.mtn_history.specs.Files.{MakesIds}
+use Rattle.mtn_ports.specs.Ident.{MakesIds}
 use Rattle.mtn_history.specs.declared.errors.StoreError.{StoreError}
 use Rattle.mtn_replay.specs.Making.{new_contents}
 use Rattle.mtn_put_revision.specs.Reads.{LooksFew, brought}

@@ -2,7 +2,7 @@ use Rattle.std.proofs.Common.{◌≡◌, ◌≤◌, ◌+◌, List, ℕ, None, le
 use Rattle.mtn_model.specs.State.{State}
 use Rattle.mtn_replay.specs.Making.{new_contents}
 use Rattle.mtn_ports.specs.Kept.{Stays}
-use Rattle.mtn_history.specs.Files.{MakesIds}
+use Rattle.mtn_ports.specs.Ident.{MakesIds}
 use Rattle.mtn_history.specs.Stands.{IsFounded}
 use Rattle.mtn_put_revision.proofs.Looking.{unknown_of_edges}
 use Rattle.mtn_put_revision.proofs.contents.unknown_content.Given as goal

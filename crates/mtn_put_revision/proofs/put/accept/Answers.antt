@@ -14,7 +14,7 @@ use Rattle.mtn_put_revision.specs.Keeping.{Accepts, AreOn, IsNew}
 use Rattle.mtn_put_revision.proofs.Deciding.{accepted_new, err_refused, has_room, refused_made, refused_parents}
 use Rattle.mtn_put_revision.proofs.Grounds.{moved}
 use Rattle.mtn_put_revision.proofs.Planning.{planned_on}
-use Rattle.mtn_history.specs.Files.{MakesIds}
+use Rattle.mtn_ports.specs.Ident.{MakesIds}
 use Rattle.mtn_history_laws.specs.History.{parents_at}
 use Rattle.mtn_put_revision.specs.Reads.{IsWindow}
 use Rattle.mtn_put_revision.proofs.Counting.{two_edges}

@@ -27,8 +27,9 @@ pub accept-requires-clause-bounded : goal.accept-requires-clause-bounded
 accept-requires-clause-bounded g c κs alive = text_bounds c.args.text.now c.in-Ok.read c.in-Ok.ensures.ok c.requires.short
 
 pub returns-clause-reads : goal.returns-clause-reads
-returns-clause-reads g c = λ x s n tells draft ids bound.
+returns-clause-reads g c = λ x s n tells draft bound.
     let f = g.I.Ident.meaning c.args.ident.now in
+    let ids = (g.met.I.Ident g.world.𝓛 g.world.𝓜 g.world.𝓡 ((λ s x. x), (λ x. x), (λ x. x), λ x. x)).makes_ids c.args.ident.now in
     let d = founded f (g.K.Keeper.contents c.accept.new.draft.keeper.now) x c.args.draft.now.pending s tells draft in
     let spells : Spells c.args.text.now c.in-Ok.read = record { reads = c.in-Ok.ensures.ok; stanzas = c.in-Ok.ensures.stanzas } in
     c.accept.ensures.reads f s d ids n bound.least (bound.known d.stands.history c.in-Ok.read d.stands.spelled spells)

@@ -48,9 +48,9 @@ returns-clause-accepts g c = λ x s tells draft.
     (other_under s c.args.id c.args.text.now c.in_ok-same.field-0 c.in-Some.same (c.in_ok-same.ensures.held (g.I.Ident.meaning c.args.ident.now) x s tells draft) c.in-Some.is c.if-same.false) c.collided.ensures
 
 pub returns-in_default-clause-reads : goal.returns-in_default-clause-reads
-returns-in_default-clause-reads g c = λ x s n tells draft ids bound.
+returns-in_default-clause-reads g c = λ x s n tells draft bound.
     let f = g.I.Ident.meaning c.args.ident.now in
     let least = bound.least in
     let first = c.in_ok-same.ensures.reads in
-    let then = c.put_new.ensures.reads x s (n - 1) tells (subst (λ (q : Pending). IsDraft f x q s) (sym c.in_ok-same.ensures.pending) draft) ids (bound_behind 1 37 f s c.args.text.now n bound) in
+    let then = c.put_new.ensures.reads x s (n - 1) tells (subst (λ (q : Pending). IsDraft f x q s) (sym c.in_ok-same.ensures.pending) draft) (bound_behind 1 37 f s c.args.text.now n bound) in
     omega (arith, first, then, least)
