@@ -31,7 +31,7 @@ use Rattle.mtn_history.specs.Damage.{IsBad, IsDamage}
 use Rattle.mtn_history.specs.Errors.{IfDamage, IfStoreDamage}
 use Rattle.mtn_history.specs.Logs.{IsHeldAt, IsLogged, IsLogOf, IsReadTo, UnloggedAt}
 use Rattle.mtn_history.specs.Marked.{AreHeld, IsCounted}
-use Rattle.mtn_history.specs.Meta.{Counted, IsMetaOf, count_key}
+use Rattle.mtn_history.specs.Meta.{Counted, HasOldVersion, IsMetaOf, count_key, version_key}
 use Rattle.mtn_history.specs.Places.{IsFoundAt, IsPlaced, UnplacedBelow}
 use Rattle.mtn_history.specs.Rosters.{IsChainDown, IsRebuilt, IsRosterHeld, IsRosterThere, Rebuilds, UnmadeBelow}
 use Rattle.mtn_records.specs.declared.record.RosterRecord.{RosterRecord}
@@ -212,8 +212,11 @@ draft_counts f c p s draft = by p.is_new p.count (with_all c p.batch) draft.coun
     eight : (n : ℕ) → length (to_be_bytes w64 n) ≡ 8
     eight n = refl
 
+    not_older : (x : Contents) → IsNew x s → HasOldVersion x → ⊥
+    not_older x new old = let none = none_held x s version_key new in cc
+
     by : (b : Bool) (n : ℕ) (x : Contents) → n ≡ length s.log → MatchBool b (IsNew x s) (StandsFor f x s) → IsMetaOf x (record { count = n; is_new = b })
-    by true n x long new = (none_held x s count_key new, long ∙ ap (λ (t : State). length t.log) new.state)
+    by true n x long new = (none_held x s count_key new, long ∙ ap (λ (t : State). length t.log) new.state, not_older x new)
     by false n x long stands = record {
       body = to_be_bytes w64 (length s.log);
       held = held_count f x s stands;

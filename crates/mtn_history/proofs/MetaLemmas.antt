@@ -1,5 +1,5 @@
 -- What the records of table 1 say of a state.
-use Rattle.std.proofs.Common.{◌≡◌, ◌≤◌, ◌^◌, ◌<◌, inl, inr, ℕ, Bool, true, false, List, [], ◌∷◌, length, Option, Some, None, refl, sym, ap, ◌∙◌, subst, ◌⊎◌, ⊎_elim, arith}
+use Rattle.std.proofs.Common.{◌≡◌, ◌≤◌, ◌^◌, ◌<◌, inl, inr, ℕ, Bool, true, false, List, [], ◌∷◌, length, get_or, Option, Some, None, Err, refl, sym, ap, ◌∙◌, subst, ◌⊎◌, ⊎_elim, arith}
 use Rattle.std.specs.Prelude.{MatchBool, IfSome, is_some}
 use Rattle.std.specs.Int.{w64, to_be_bytes, from_be_bytes}
 use Rattle.std.specs.FinMap.{get, get-empty, insert, empty}
@@ -11,15 +11,17 @@ use Rattle.mtn_model.specs.State.{State}
 use Rattle.mtn_replay.specs.Lawful.{IsLawful}
 use Rattle.mtn_replay.proofs.Histories.{history_is_grown, log_is_short}
 use Rattle.mtn_ports.specs.declared.batch.Put.{Put}
-use Rattle.mtn_ports.specs.Kept.{with_all, Adds, Same, MayLeave, IsBody}
+use Rattle.mtn_ports.specs.Kept.{with_all, Adds, Same, MayLeave}
 use Rattle.mtn_history.specs.declared.errors.Damage.{Damage}
 use Rattle.mtn_history.specs.declared.errors.Damage.TheVariants.{Bad, Missing}
+use Rattle.mtn_history.specs.declared.errors.HistoryError.{HistoryError}
+use Rattle.mtn_history.specs.declared.errors.HistoryError.TheVariants.{Refused, Store}
 use Rattle.mtn_history.specs.declared.errors.StoreError.{StoreError}
 use Rattle.mtn_history.specs.declared.errors.StoreError.TheVariants.{Failed, Damaged, NoMemory}
 use Rattle.mtn_history.specs.Errors.{IfDamage}
 use Rattle.mtn_history.specs.declared.meta.Meta.{Meta}
 use Rattle.mtn_history.specs.declared.pending.Pending.{Pending}
-use Rattle.mtn_history.specs.Meta.{meta_of, count_key, version_key, version, Counted, IsMetaOf, VersionDamage, MetaDamage}
+use Rattle.mtn_history.specs.Meta.{meta_of, count_key, version_key, version, Counted, HasOldVersion, IsMetaOf, IsUnopened, MetaDamage, old_version}
 use Rattle.mtn_history.specs.Damage.{IsDamage, IsShown, UnfitDamage}
 use Rattle.mtn_history.specs.Logs.{LogDamage, IsHeldAt}
 use Rattle.mtn_history.specs.Places.{PlaceDamage, UnplacedBelow}
@@ -29,7 +31,7 @@ use Rattle.mtn_history.specs.Texts.{TextDamage}
 use Rattle.mtn_history.proofs.RosterLemmas.{never_unmade, shown_roster}
 use Rattle.mtn_history.proofs.LogLemmas.{never_wrong, shown_log}
 use Rattle.mtn_history.proofs.TextLemmas.{text_found}
-use Rattle.mtn_history.specs.Stands.{StandsFor, Stands, IsNew, IsDraft, WasTold, Finishes, FinishLeaves}
+use Rattle.mtn_history.specs.Stands.{StandsFor, Stands, IsNew, IsDraft, Opens, WasTold, Finishes, FinishLeaves}
 use Rattle.mtn_history.proofs.CertRecords.{no_cert_damage, no_key_damage, shown_cert, shown_key}
 use Rattle.mtn_history.proofs.FileLemmas.{draft_stands}
 use Rattle.mtn_replay.proofs.FileLemmas.{get_inserted, empty_lawful}
@@ -69,7 +71,7 @@ count_told n f c s meta stands =
     meta.number ∙ ap (from_be_bytes w64) body ∙ told_back (length s.log) (log_is_short f s.files s.log stands.base.history stands.base.spelled)
 
 pub opened_by : (b : Bool) (n : ℕ) (f : List ℕ → List ℕ) (c : Contents) (s : State) →
-    MatchBool b ((body_at c 1 count_key ≡ None) × (n ≡ 0)) (Counted c n) → Stands f c s → (n ≡ length s.log) × MatchBool b (IsNew c s) (StandsFor f c s)
+    IsMetaOf c (record { count = n; is_new = b }) → Stands f c s → (n ≡ length s.log) × MatchBool b (IsNew c s) (StandsFor f c s)
 opened_by true n f c s meta (inl new) = (meta.1 ∙ ap (λ (x : State). length x.log) (sym new.state), new)
 opened_by true n f c s meta (inr stands) = absurd (clash (body_at c 1 count_key) (to_be_bytes w64 (length s.log)) (held_count f c s stands) meta.0)
 opened_by false n f c s meta (inl new) = absurd (clash (body_at c 1 count_key) meta.body meta.held (none_held c s count_key new))
@@ -202,37 +204,21 @@ shown_unfit c r (Missing table key) (inr w) = ap (λ t. body_at c t key) w.0 ∙
 pub shown : (c : Contents) (d : Damage) → IsDamage c d → IsShown c d
 shown c d damage = ⊎_elim (shown_meta c d) (⊎_elim (shown_text c d) (⊎_elim (λ l. shown_log c l.wrong.place d l.wrong.wrong) (⊎_elim (λ l. shown_roster c l.wrong.place d l.wrong.wrong) (⊎_elim (λ p. shown_place c p.meta.count d p.wrong) (⊎_elim (λ (u : UnfitDamage c d). shown_unfit c u.place d u.held) (⊎_elim (shown_key c d) (shown_cert c d))))))) damage
 
--- what was found wrong in table 1 is damage
-pub meta_damage : (told : Option Contents) (e : StoreError) → IfSome told (λ c. IfDamage e (MetaDamage c)) → IfSome told (λ c. IfDamage e (IsDamage c))
-meta_damage None e h = tt
-meta_damage (Some c) Failed h = tt
-meta_damage (Some c) NoMemory h = tt
-meta_damage (Some c) (Damaged d) h = inl h
+-- records that stand for a state are not of the older form, and what was found wrong in table 1 is damage
+pub opens : (f : List ℕ → List ℕ) (told : Option Contents) (e : HistoryError) → IfSome told (λ c. IsUnopened c e) → (c : Contents) (s : State) → told ≡ Some c → Stands f c s → Opens f c s (Err e)
+opens f told e shows c s at stands = by_error e (subst (λ o. IfSome o (λ d. IsUnopened d e)) at shows)
+  where
+    older : Stands f c s → HasOldVersion c → ⊥
+    older (inl new) old = let none = none_held c s version_key new in cc
+    older (inr st) old = let same : 49 ≡ 50 = ap (λ (l : List ℕ). get_or l 0 0) (one_body (body_at c 1 version_key) old_version version old (held_version f c s st)) in omega (arith, same)
+
+    by_error : (e : HistoryError) → IsUnopened c e → Opens f c s (Err e)
+    by_error (Refused cause) is = older stands is.1
+    by_error (Store (Damaged d)) is = no_meta_damage f c s d stands is.0
+    by_error (Store Failed) is = tt
+    by_error (Store NoMemory) is = tt
 
 -- what records stand for is lawful
 pub lawful_of : (f : List ℕ → List ℕ) (c : Contents) (s : State) → Stands f c s → IsLawful f s
 lawful_of f c s (inl new) = subst (IsLawful f) (sym new.state) (empty_lawful f)
 lawful_of f c s (inr stands) = stands.lawful
-
--- `count` was found, and nothing changed since
-count_found : (mid : Option Contents) (c : Contents) (found : Bool) (out : List ℕ) → mid ≡ Some c → IfSome mid (λ d. IsBody (body_at d 1 count_key) found out) → found ≡ true → body_at c 1 count_key ≡ Some out
-count_found mid c found out at finds there = subst (λ t. IsBody (body_at c 1 count_key) t out) there (subst (λ o. IfSome o (λ d. IsBody (body_at d 1 count_key) found out)) at finds)
-
-pub counted : (mid new : Option Contents) (found : Bool) (out body : List ℕ) (n : ℕ) → Same mid new → IfSome mid (λ d. IsBody (body_at d 1 count_key) found out) → found ≡ true → body ≡ out →
-    (length body ≡ 8) × (n ≡ from_be_bytes w64 body) → IfSome new (λ c. body_at c 1 version_key ≡ Some version) → IfSome new (λ c. Counted c n)
-counted mid None found out body n same finds there is spells versioned = tt
-counted mid (Some c) found out body n same finds there is spells versioned = record {
-  body = body;
-  held = count_found mid c found out (same c refl) finds there ∙ ap Some (sym is);
-  eight = spells.0;
-  number = spells.1;
-  version = versioned;
-}
-
-pub version_damage : (mid new : Option Contents) (found : Bool) (out : List ℕ) (e : StoreError) → Same mid new → IfSome mid (λ d. IsBody (body_at d 1 count_key) found out) → found ≡ true →
-    IfSome new (λ c. IfDamage e (VersionDamage c)) → IfSome new (λ c. IfDamage e (MetaDamage c))
-version_damage mid None found out e same finds there damage = tt
-version_damage mid (Some c) found out Failed same finds there damage = tt
-version_damage mid (Some c) found out NoMemory same finds there damage = tt
-version_damage mid (Some c) found out (Damaged d) same finds there damage =
-    (ap is_some (count_found mid c found out (same c refl) finds there), inl damage)

@@ -14,7 +14,7 @@ use Rattle.mtn_model.specs.Table.{Contents, body_at}
 use Rattle.mtn_ports.specs.Kept.{IsAbove, IsAboveIf, IsBody, IsNext, Same, over, with_all}
 use Rattle.mtn_ports.proofs.KeptLemmas.{body_at-over, newest}
 use Rattle.mtn_history.specs.Asking.{HasTwenty, IsJustBelow}
-use Rattle.mtn_history.specs.Files.{MakesIds}
+use Rattle.mtn_ports.specs.Ident.{MakesIds}
 use Rattle.mtn_history.specs.Stands.{IsFounded}
 use Rattle.mtn_history.specs.declared.errors.StoreError.{StoreError}
 use Rattle.mtn_history.specs.declared.pending.Pending.{Pending}

@@ -41,7 +41,7 @@ forgotten None p k none empty = tt
 forgotten (Some c) p k none empty = nothing_known k none empty (with_all c p.batch) p.count
 
 -- table 1 tells one number
-one_count : (c : Contents) (a b : Bool) (m n : ℕ) → MatchBool a ((body_at c 1 count_key ≡ None) × (m ≡ 0)) (Counted c m) → MatchBool b ((body_at c 1 count_key ≡ None) × (n ≡ 0)) (Counted c n) → m ≡ n
+one_count : (c : Contents) (a b : Bool) (m n : ℕ) → IsMetaOf c (record { count = m; is_new = a }) → IsMetaOf c (record { count = n; is_new = b }) → m ≡ n
 one_count c true true m n x y = x.1 ∙ sym y.1
 one_count c true false m n x y = absurd (let none = x.0 in let there = y.held in cc)
 one_count c false true m n x y = absurd (let none = y.0 in let there = x.held in cc)

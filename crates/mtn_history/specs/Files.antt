@@ -4,7 +4,6 @@ use Rattle.std.specs.FinMap.{get}
 use Rattle.mtn_model.specs.Table.{Contents, body_at}
 use Rattle.mtn_model.specs.State.{State}
 use Rattle.mtn_base.specs.declared.id.Id.{Id}
-use Rattle.mtn_certs.specs.Certificates.{IsIdBytes}
 use Rattle.mtn_base.specs.declared.refusal.Cause.TheVariants.{UnknownFile}
 use Rattle.mtn_history.specs.declared.pending.Pending.{Pending}
 use Rattle.mtn_history.specs.declared.errors.HistoryError.{HistoryError}
@@ -12,10 +11,6 @@ use Rattle.mtn_history.specs.declared.errors.HistoryError.TheVariants.{Refused, 
 use Rattle.mtn_history.specs.Errors.{IfDamage}
 use Rattle.mtn_history.specs.Stands.{IsDraft}
 use Rattle.mtn_replay.specs.Files.{file_refusal, with_file}
-
--- what the ident makes of a text is an id
-abbrev pub MakesIds : (List ℕ → List ℕ) → Type 0
-MakesIds f = (text : List ℕ) → IsIdBytes (f text)
 
 -- the answer to `put_file_as`, and what is pending then
 abbrev pub KeepsFile : (List ℕ → List ℕ) → Contents → State → List ℕ → Result (Unit {0}) HistoryError → Pending → Type 0

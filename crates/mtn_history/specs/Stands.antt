@@ -1,6 +1,7 @@
 -- What records stand for: the tables of a store, each with its field. The layout is our choice.
 use Rattle.std.specs.Prelude.{◌≡◌, ◌≢◌, ◌⊎◌, ℕ, List, length, MatchBool, Option, Some, Result, Ok, Err}
-use Rattle.mtn_history.specs.declared.errors.StoreError.{StoreError}
+use Rattle.mtn_history.specs.declared.errors.HistoryError.{HistoryError}
+use Rattle.mtn_history.specs.declared.errors.HistoryError.TheVariants.{Refused, Store}
 use Rattle.mtn_history.specs.Errors.{IfDamage}
 use Rattle.mtn_model.specs.Table.{Contents, Table, nothing, no_table}
 use Rattle.mtn_model.specs.State.{Logged, State, empty_state}
@@ -72,9 +73,10 @@ pub record IsFounded (f : List ℕ → List ℕ) (told : Option Contents) (p : P
   pub stands : HoldsLog f version (based p records) s.files s.log
 
 -- a draft begins at the state that the records stand for, and finds no damage
-abbrev pub Opens : (List ℕ → List ℕ) → Contents → State → Result Pending StoreError → Type 0
+abbrev pub Opens : (List ℕ → List ℕ) → Contents → State → Result Pending HistoryError → Type 0
 Opens f c s (Ok p) = IsDraft f c p s
-Opens f c s (Err e) = IfDamage e (λ _. ⊥)
+Opens f c s (Err (Refused cause)) = ⊥
+Opens f c s (Err (Store e)) = IfDamage e (λ _. ⊥)
 
 abbrev pub WasTold : Option Contents → Option Contents → Type 0
 WasTold old new = IfTold new (λ _. (c : Contents) × (old ≡ Some c))

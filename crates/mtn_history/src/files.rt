@@ -6,7 +6,8 @@ ghost use Rattle.mtn_ports.specs.Causes.{Rose};
 ghost use Rattle.mtn_ports.specs.Kept.{Stays, with_all};
 ghost use Rattle.mtn_history.specs.Asking.{OnlyAsks};
 ghost use Rattle.mtn_history.specs.Errors.{IfDamage, IfStoreDamage};
-ghost use Rattle.mtn_history.specs.Files.{AcceptsFile, FindsFile, IsFileHeld, KeepsFile, MakesIds};
+ghost use Rattle.mtn_history.specs.Files.{AcceptsFile, FindsFile, IsFileHeld, KeepsFile};
+ghost use Rattle.mtn_ports.specs.Ident.{MakesIds};
 ghost use Rattle.mtn_history.specs.Stands.{IsDraft, IsFounded};
 
 use crate::{Draft, FILES, HistoryError, StoreError};

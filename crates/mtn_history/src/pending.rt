@@ -4,14 +4,14 @@ ghost use Rattle.mtn_ports.specs.Causes.{Rose};
 ghost use Rattle.mtn_ports.specs.Kept.{Stays};
 ghost use Rattle.mtn_history.specs.Errors.{IfDamage};
 ghost use Rattle.mtn_history.specs.Memory.{Knows};
-ghost use Rattle.mtn_history.specs.Meta.{IsMetaOf, MetaDamage};
+ghost use Rattle.mtn_history.specs.Meta.{IsMetaOf, IsUnopened};
 ghost use Rattle.mtn_history.specs.Records.{meta_puts, record_puts};
 ghost use Rattle.mtn_records.specs.Fields.{number_text};
 
 use crate::memory::Memory;
 use crate::meta::{Meta, read_meta};
 use crate::texts::POSITION;
-use crate::{LOG, META, ROSTERS, StoreError, TEXTS};
+use crate::{HistoryError, LOG, META, ROSTERS, StoreError, TEXTS};
 use mtn_base::{Bytes, Id, List, NoMemory};
 use mtn_ports::{Batch, Keeper};
 use std::alloc::Global;
@@ -35,20 +35,20 @@ impl Pending {
     ghost use Rattle.mtn_history.specs.Stands.{Stands, Opens, WasTold, Finishes, FinishLeaves};
 
     /// The first half of beginning a draft: reads of table 1 what the keeper stands for, with nothing
-    /// pending. A keeper without `count` is an empty store. It asks the keeper for two records at most, and for none where
-    /// these are remembered. A damage is one of table 1.
+    /// pending. A keeper without `count` is an empty store. A store of the older form is refused with OldStore, and no other. It
+    /// asks the keeper for two records at most, and for none where these are remembered. A damage is one of table 1.
     pub fn open<K: Keeper>(
         alloc: Global,
         memory: &Memory,
         keeper: &mut K,
-    ) -> Result<Pending, StoreError>
+    ) -> Result<Pending, HistoryError>
         requires knows { IfSome (K.contents keeper.old) (Knows memory.now) }
         ensures stays { Stays K.contents K.leaves K.faults keeper.old keeper.new }
         ensures stands { (f : Seq ℕ → Seq ℕ) (c : Contents) (s : State) → K.contents keeper.new ≡ Some c → Stands f c s → Opens f c s result }
         ensures bare { IfOk result (λ p. p.batch ≡ []) }
         ensures counted { IfSome (K.contents keeper.new) (λ c. IfOk result (λ p. IsMetaOf c (record { count = p.count; is_new = p.is_new }))) }
-        ensures failed { result ≡ Err StoreError.Failed → Rose (K.faults keeper.old) (K.faults keeper.new) }
-        ensures damaged { IfSome (K.contents keeper.new) (λ c. IfErr result (λ e. IfDamage e (MetaDamage c))) }
+        ensures unopened { IfSome (K.contents keeper.new) (λ c. IfErr result (IsUnopened c)) }
+        ensures failed { result ≡ Err (HistoryError.Store StoreError.Failed) → Rose (K.faults keeper.old) (K.faults keeper.new) }
         ensures reads { K.reads keeper.new ≤ K.reads keeper.old + 2 }
         ensures remembered { IsSome memory.now.meta → K.reads keeper.new ≡ K.reads keeper.old }
     {
@@ -189,12 +189,12 @@ fn put_all(
 }
 
 // What table 1 says: remembered, or read.
-fn meta_of<K: Keeper>(alloc: Global, memory: &Memory, keeper: &mut K) -> Result<Meta, StoreError>
+fn meta_of<K: Keeper>(alloc: Global, memory: &Memory, keeper: &mut K) -> Result<Meta, HistoryError>
     requires knows { IfSome (K.contents keeper.old) (Knows memory.now) }
     ensures stays { Stays K.contents K.leaves K.faults keeper.old keeper.new }
     ensures meta { IfSome (K.contents keeper.new) (λ c. IfOk result (IsMetaOf c)) }
-    ensures failed { result ≡ Err StoreError.Failed → Rose (K.faults keeper.old) (K.faults keeper.new) }
-    ensures damaged { IfSome (K.contents keeper.new) (λ c. IfErr result (λ e. IfDamage e (MetaDamage c))) }
+    ensures unopened { IfSome (K.contents keeper.new) (λ c. IfErr result (IsUnopened c)) }
+    ensures failed { result ≡ Err (HistoryError.Store StoreError.Failed) → Rose (K.faults keeper.old) (K.faults keeper.new) }
     ensures reads { K.reads keeper.new ≤ K.reads keeper.old + 2 }
     ensures remembered { IsSome memory.now.meta → K.reads keeper.new ≡ K.reads keeper.old }
 {
