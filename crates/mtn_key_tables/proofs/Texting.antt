@@ -25,7 +25,7 @@ none_last : {X : Type 0} (f : X → Bool) (xs : List X) (x : X) → list_any f (
 none_last f [] x h = (either_false (f x) false h).0
 none_last f (y ∷ xs) x h = none_last f xs x (either_false (f y) (list_any f (xs ++ x ∷ [])) h).1
 
-more : (before keys : List KeyName) (k : KeyName) → AreKeyNames before keys → IsKeyName k → is_repeat (before ++ keys) k ≡ false → AreKeyNames before (keys ++ k ∷ [])
+pub more : (before keys : List KeyName) (k : KeyName) → AreKeyNames before keys → IsKeyName k → is_repeat (before ++ keys) k ≡ false → AreKeyNames before (keys ++ k ∷ [])
 more before [] k h is fresh = (is, subst (λ l. is_repeat l k ≡ false) (append-nil before) fresh, tt)
 more before (q ∷ keys) k h is fresh = (h.0, h.1, more (before ++ q ∷ []) keys k h.2 is (subst (λ l. is_repeat l k ≡ false) (sym (append_assoc before (q ∷ []) keys)) fresh))
 

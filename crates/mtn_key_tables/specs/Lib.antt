@@ -1,2 +1,3 @@
 pub mod KeyTables
+pub mod Given
 pub mod Reading

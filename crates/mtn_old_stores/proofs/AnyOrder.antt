@@ -30,7 +30,7 @@ here : (before rest : List OldCertificate) (x : OldCertificate) → has (before 
 here [] rest x = ap (λ b. b || has rest x) (own x)
 here (y ∷ before) rest x = second (eq_by_cmp old_cmp x y) (has (before ++ x ∷ rest) x) (here before rest x)
 
-has_it : (certs : List OldCertificate) (x : OldCertificate) → Contains certs x → has certs x ≡ true
+pub has_it : (certs : List OldCertificate) (x : OldCertificate) → Contains certs x → has certs x ≡ true
 has_it certs x c = let s = contains_split certs x c in ap (λ l. has l x) s.is ∙ here s.before s.rest x
 
 split_of : (certs : List OldCertificate) (x : OldCertificate) → has certs x ≡ true → Split certs x
@@ -41,7 +41,7 @@ split_of (y ∷ certs) x e = by (split_of certs x) (eq_by_cmp old_cmp x y) refl 
     by rest true is h = record { before = []; rest = certs; is = ap (λ z. z ∷ certs) (sym (exact_olds x y (tied (old_cmp x y) is))) }
     by rest false is h = let s = rest h in record { before = y ∷ s.before; rest = s.rest; is = ap (λ l. y ∷ l) s.is }
 
-in_it : (certs : List OldCertificate) (x : OldCertificate) → has certs x ≡ true → Contains certs x
+pub in_it : (certs : List OldCertificate) (x : OldCertificate) → has certs x ≡ true → Contains certs x
 in_it certs x e = split_contains certs x (split_of certs x e)
 
 -- ---- the state

@@ -8,3 +8,5 @@ pub mod WalkLemmas
 pub mod Held
 pub mod FormLemmas
 pub mod AnyOrder
+pub mod Counting
+pub mod Migration

@@ -1,14 +1,15 @@
 -- The certificates of an older store, record by record.
 use Rattle.std.specs.Prelude.{Contains, IfErr, IfSome, IsSome, is_some}
-use Rattle.std.proofs.Common.{◌≡◌, ◌↔◌, inl, inr, ℕ, true, false, List, [], ◌∷◌, ◌++◌, Option, Some, None, Result, Ok, Err, refl, sym, ap, ◌∙◌, subst}
+use Rattle.std.proofs.Common.{◌≡◌, ◌↔◌, inl, inr, ℕ, ◌<◌, true, false, List, [], ◌∷◌, ◌++◌, length, length-append, arith, Option, Some, None, Result, Ok, Err, refl, sym, ap, ◌∙◌, subst}
 use Rattle.mtn_history.specs.Errors.{IfDamage}
 use Rattle.mtn_history.specs.declared.errors.Damage.{Damage}
 use Rattle.mtn_history.specs.declared.errors.Damage.TheVariants.{Bad, Missing}
 use Rattle.mtn_history.specs.declared.errors.StoreError.{StoreError}
 use Rattle.mtn_history.specs.declared.errors.StoreError.TheVariants.{Damaged, Failed, NoMemory}
 use Rattle.mtn_model.specs.Table.{Contents, body_at}
-use Rattle.mtn_ports.specs.Kept.{Same}
-use Rattle.mtn_put_certs.proofs.Walking.{AreUpTo, at_end, one_more}
+use Rattle.mtn_ports.specs.Kept.{IsAbove, Same}
+use Rattle.mtn_records.specs.Fields.{field_text}
+use Rattle.mtn_put_certs.proofs.Walking.{AreUpTo, at_end, none_yet, one_more}
 use Rattle.mtn_old_stores.specs.Older.{HoldsOld, OldCertificate, OldState, StandsOld, old_key}
 use Rattle.mtn_old_stores.specs.Reading.{AreAllOld, IsNextOld, IsOldRecorded, OldCertDamage}
 use Rattle.mtn_old_stores.proofs.OldOrder.{one_old_key}
@@ -20,6 +21,22 @@ never o none some = let there : is_some o ≡ true = some in let not_there : is_
 
 abbrev pub AreRead : Contents → List ℕ → List OldCertificate → Type 0
 AreRead c last certs = AreUpTo (IsOldRecorded c) old_key last certs
+
+-- the keys are not empty
+not_empty : (k : List ℕ) → 0 < length k → IsAbove [] k
+not_empty [] some = absurd (omega (arith, some))
+not_empty (b ∷ k) some = refl
+
+long_key : (c : Contents) (x : OldCertificate) → IsOldRecorded c x → IsAbove [] (old_key x)
+long_key c x own =
+    let others : List ℕ = field_text x.name ++ (field_text x.key ++ (field_text x.value ++ field_text x.signature)) in
+    let long = length-append x.revision.0 others in
+    let twenty = own.key.revision.twenty in
+    not_empty (old_key x) (omega (arith, long, twenty))
+
+pub none_read : (told : Option Contents) (last : List ℕ) (certs : List OldCertificate) → last ≡ [] → certs ≡ [] → IfSome told (λ c. AreRead c last certs)
+none_read None last certs first none = tt
+none_read (Some c) last certs first none = subst (λ l. AreRead c l certs) (sym first) (subst (AreRead c []) (sym none) (none_yet (IsOldRecorded c) old_key [] (long_key c)))
 
 cert_more : (c : Contents) (last key : List ℕ) (certs : List OldCertificate) (x : OldCertificate) → IsNextOld c last key (Some x) → AreRead c last certs → AreRead c key (certs ++ x ∷ [])
 cert_more c last key certs x next so_far =

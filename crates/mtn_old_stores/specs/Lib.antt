@@ -1,4 +1,5 @@
 pub mod Older
 pub mod Migrating
 pub mod Laws
+pub mod Stores
 pub mod Reading

@@ -61,6 +61,11 @@ abbrev pub IsNextOld : Contents → List ℕ → List ℕ → Option OldCertific
 IsNextOld c last key None = (other : List ℕ) → IsAbove last other → body_at c 6 other ≡ None
 IsNextOld c last key (Some x) = IsOldRecorded c x × (key ≡ old_key x) × ((other : List ℕ) → IsAbove last other → IsAbove other key → body_at c 6 other ≡ None)
 
+-- a certificate that was found breaks no rule, and has its key above the last one
+abbrev pub IsFurther : List ℕ → List ℕ → Option OldCertificate → Type 0
+IsFurther last key None = Unit {0}
+IsFurther last key (Some x) = IsAbove last key × (key ≡ old_key x) × IsLawfulOldCertificate x
+
 -- ---- private, for the proofs of the calls: the parts of a certificate, as its record's key has them
 
 abbrev pub Parts : Type 0

@@ -3,9 +3,9 @@ use Rattle.std.specs.FinMap.{get}
 use Rattle.std.proofs.Common.{◌≡◌, ℕ, List, false, refl, sym, ap, ◌∙◌, subst}
 use Rattle.mtn_base.specs.declared.refusal.Cause.TheVariants.{UnknownFile, UnknownRevision}
 use Rattle.mtn_model.specs.Outcome.{Outcome}
-use Rattle.mtn_step.specs.Step.{found, id_line, unless, PutsRevision, Steps}
+use Rattle.mtn_step.specs.Step.{found, id_line, not_migrated, refused, unless, PutsRevision, Steps}
 use Rattle.mtn_step.specs.declared.call.Call.{Call}
-use Rattle.mtn_step.specs.declared.call.Call.TheVariants.{PutFile, PutRevision, GetFile, GetRevision, GetManifestOf, GetRoster, GetContentChanged, GetCorrespondingPath, Ask, Graph, Merge, ShowConflicts, Cert, Certs, Key, Heads, Branches, Commit, MergeHeads, Packets, Read, Generate, Check}
+use Rattle.mtn_step.specs.declared.call.Call.TheVariants.{PutFile, PutRevision, GetFile, GetRevision, GetManifestOf, GetRoster, GetContentChanged, GetCorrespondingPath, Ask, Graph, Merge, ShowConflicts, Cert, Certs, Key, Heads, Branches, Commit, MergeHeads, Packets, Read, Generate, Check, Migrate}
 use Rattle.mtn_step_laws.proofs.Outcomes.{one_of_step}
 use Rattle.mtn_replay.specs.Files.{file_refusal, with_file}
 use Rattle.mtn_replay.specs.Texts.{text_under}
@@ -15,7 +15,7 @@ use Rattle.mtn_answers.specs.Views.{corresponding_at, manifest_at, IsContentChan
 use Rattle.mtn_step.specs.Certifying.{merge_said, signature_of}
 use Rattle.mtn_order.specs.Free.{in_log_order, IsOrderFree, IsSameOutcome, KeepsIds}
 use Rattle.mtn_order.proofs.Certs.{branches_there, certified_there, commits_free, heads_free, listed_there, merges_heads_free, named_there}
-use Rattle.mtn_order.proofs.Framing.{asked_free, graphed_free, is_outcome, same_found, same_unless, viewed_free}
+use Rattle.mtn_order.proofs.Framing.{asked_free, graphed_free, is_outcome, same_found, same_refused, same_unless, viewed_free}
 use Rattle.mtn_order.proofs.Generating.{checks_free, generates_free}
 use Rattle.mtn_order.proofs.Importing.{reading_free}
 use Rattle.mtn_order.proofs.Plans.{merge_free, shows_free}
@@ -64,6 +64,9 @@ step_free f (Packets id have) payload free ids s t o same does = absurd (let e =
 step_free f Read payload free ids s t o same does = reading_free f payload s t o same does
 step_free f (Generate n) payload free ids s t o same does = generates_free f n s t o same does
 step_free f Check payload free ids s t o same does = checks_free f s t o same does
+step_free f Migrate payload free ids s t o same does =
+    let cause = not_migrated does.0 in
+    (refused cause t, (does.0, does.1, refl), is_outcome f o (refused cause s) (refused cause t) does.2 (same_refused f s t same cause))
 
 -- so any two outcomes are the same
 pub steps_same : (f : List ℕ → List ℕ) (call : Call) (payload : List ℕ) → in_log_order call ≡ false → KeepsIds f call → (s t : State) (o p : Outcome) → IsSameUpToOrder f s t → Steps f call payload s o → Steps f call payload t p → IsSameOutcome f o p

@@ -1,5 +1,5 @@
 -- What a command does to a state, and what it answers.
-use Rattle.std.specs.Prelude.{◌≡◌, List, [], ◌∷◌, ◌++◌, length, codes, decimal, Option, Some, None, Ok, Err, ℕ, Bool, true, false}
+use Rattle.std.specs.Prelude.{◌≡◌, List, [], ◌∷◌, ◌++◌, length, codes, decimal, Option, Some, None, Result, Ok, Err, ℕ, Bool, true, false}
 use Rattle.std.specs.FinMap.{get}
 use Rattle.std.specs.List.{flat_map}
 use Rattle.hex.specs.Hex.{encode_lower}
@@ -12,10 +12,11 @@ use Rattle.mtn_base.specs.Refusals.{refusal_text}
 use Rattle.mtn_base.specs.Hex.{id_of}
 use Rattle.mtn_base.specs.declared.id.Id.{Id}
 use Rattle.mtn_base.specs.declared.refusal.Cause.{Cause}
-use Rattle.mtn_base.specs.declared.refusal.Cause.TheVariants.{BadField, NoBranch, OneHead, UnknownFile, UnknownRevision}
+use Rattle.mtn_base.specs.declared.refusal.Cause.TheVariants.{BadField, NoBranch, NotOld, OneHead, UnknownFile, UnknownRevision}
 use Rattle.mtn_base.specs.declared.refusal.Field.TheVariants.{Signature}
 use Rattle.mtn_basic_io.specs.Spelling.{spelling}
 use Rattle.mtn_certs.specs.Certificates.{Certificate, certificate}
+use Rattle.mtn_certs.specs.declared.cert.KeyName.{KeyName}
 use Rattle.mtn_base.specs.declared.refusal.Refusal.{Refusal}
 use Rattle.mtn_changeset_laws.specs.Changes.{or_else}
 use Rattle.mtn_conflicts.specs.ConflictText.{conflict_stanzas}
@@ -26,6 +27,7 @@ use Rattle.mtn_generated.specs.Numbered.{summary_text}
 use Rattle.mtn_history_laws.specs.History.{Revision}
 use Rattle.mtn_exports.specs.Exports.{IsExported}
 use Rattle.mtn_imports.specs.Imports.{Kept, ReadsInput, kept_text}
+use Rattle.mtn_key_tables.specs.Given.{IsTableOf}
 use Rattle.mtn_model.specs.Outcome.{Outcome}
 use Rattle.mtn_model.specs.State.{State}
 use Rattle.mtn_model.specs.declared.status.Status.TheVariants as status
@@ -37,7 +39,7 @@ use Rattle.mtn_replay.specs.Files.{file_refusal, with_file}
 use Rattle.mtn_replay.specs.Lawful.{IsHistory}
 use Rattle.mtn_replay.specs.Texts.{text_under}
 use Rattle.mtn_step.specs.declared.call.Call.{Call}
-use Rattle.mtn_step.specs.declared.call.Call.TheVariants.{PutFile, PutRevision, GetFile, GetRevision, GetManifestOf, GetRoster, GetContentChanged, GetCorrespondingPath, Ask, Graph, Merge, ShowConflicts, Cert, Certs, Key, Heads, Branches, Commit, MergeHeads, Packets, Read, Generate, Check}
+use Rattle.mtn_step.specs.declared.call.Call.TheVariants.{PutFile, PutRevision, GetFile, GetRevision, GetManifestOf, GetRoster, GetContentChanged, GetCorrespondingPath, Ask, Graph, Merge, ShowConflicts, Cert, Certs, Key, Heads, Branches, Commit, MergeHeads, Packets, Read, Generate, Check, Migrate}
 use Rattle.mtn_step.specs.declared.call.Said.{Said}
 use Rattle.mtn_step.specs.Certifying.{AreBranches, AreCertsOf, AreHeads, certs_text, held_refusal, key_refusal, merge_said, said_certs, said_refusal, signature_of, value_lines, with_certs}
 
@@ -176,6 +178,11 @@ Generated n s (Err (Conflicting left right conflicts)) o = o ≡ conflicted s (c
 abbrev pub sound_text : State → List ℕ
 sound_text s = codes "ok " ++ decimal (length s.log) ++ 10 ∷ []
 
+-- why a state, which is of the present form, is not migrated: the first fault of the key table, and else that it is not old
+abbrev pub not_migrated : Result (List KeyName) Cause → Cause
+not_migrated (Err cause) = cause
+not_migrated (Ok table) = NotOld
+
 -- The outcome of a command over a state, one line a command; f is what the ident makes of a text.
 abbrev pub Steps : (List ℕ → List ℕ) → Call → List ℕ → State → Outcome → Type 0
 Steps f PutFile payload s o = o ≡ unless (file_refusal f s payload) s (with_file f s payload) (id_line (f payload))
@@ -202,6 +209,7 @@ Steps f (Packets id have) payload s o = OfHistory f s (λ h. Viewed (IsExported 
 Steps f Read payload s o = ReadsPackets f payload s o
 Steps f (Generate n) payload s o = (answer : Answer) × Generates f n s answer × Generated n s answer o
 Steps f Check payload s o = o ≡ done s (sound_text s)
+Steps f Migrate payload s o = (given : Result (List KeyName) Cause) × IsTableOf payload given × (o ≡ refused (not_migrated given) s)
 
 -- whether a command takes a payload, one line a command
 abbrev pub takes_payload : Call → Bool
@@ -228,3 +236,4 @@ takes_payload (Packets id have) = false
 takes_payload Read = true
 takes_payload (Generate n) = false
 takes_payload Check = false
+takes_payload Migrate = true

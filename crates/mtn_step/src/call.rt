@@ -117,6 +117,9 @@ pub enum Call {
     },
     /// `check`: reads the whole store, and answers how many revisions it has.
     Check,
+    /// `migrate`: turns a store of the older form into the present one by the payload, a key table, and answers how many keys
+    /// and certificates there are.
+    Migrate,
 }
 
 impl Call {
@@ -142,6 +145,7 @@ impl Call {
             Call::Packets { .. } => false,
             Call::Read => true,
             Call::Generate { .. } | Call::Check => false,
+            Call::Migrate => true,
         }
     }
 }

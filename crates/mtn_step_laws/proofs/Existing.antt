@@ -19,10 +19,11 @@ use Rattle.mtn_plans.specs.declared.outcome.Outcome.TheVariants.{Conflicted, Mer
 use Rattle.mtn_answers.specs.Queries.{IsProperlyAbove}
 use Rattle.mtn_answers.proofs.Deciding.{tell_properly}
 use Rattle.mtn_step.specs.Certifying.{AreHeads, merge_said}
+use Rattle.mtn_key_table_laws.proofs.Given.{some_table}
 use Rattle.mtn_step.specs.Step.{Asked, Commits, Ended, Ending, HeadsMerged, Listed, OfHistory, PutsRevision, Shown, Steps, Viewed, told}
 use Rattle.mtn_step.specs.declared.call.Said.{Said}
 use Rattle.mtn_step.specs.declared.call.Call.{Call}
-use Rattle.mtn_step.specs.declared.call.Call.TheVariants.{PutFile, PutRevision, GetFile, GetRevision, GetManifestOf, GetRoster, GetContentChanged, GetCorrespondingPath, Ask, Graph, Merge, ShowConflicts, Cert, Certs, Key, Heads, Branches, Commit, MergeHeads, Packets, Read, Generate, Check}
+use Rattle.mtn_step.specs.declared.call.Call.TheVariants.{PutFile, PutRevision, GetFile, GetRevision, GetManifestOf, GetRoster, GetContentChanged, GetCorrespondingPath, Ask, Graph, Merge, ShowConflicts, Cert, Certs, Key, Heads, Branches, Commit, MergeHeads, Packets, Read, Generate, Check, Migrate}
 use Rattle.mtn_step_laws.proofs.Generating.{some_generated}
 use Rattle.mtn_step_laws.proofs.SomeGeneration.{some_of}
 use Rattle.mtn_step_laws.proofs.CertLists.{some_branches, some_certs, some_heads}
@@ -112,3 +113,4 @@ module _ (f : List ℕ → List ℕ) (s : State) (lawful : IsLawful f s) where
   some_of_step Read payload = some_reading f s payload lawful
   some_of_step (Generate n) payload = let answer = some_of f n s lawful in let o = some_generated n s answer.0 in (o.0, (answer.0, answer.1, o.1))
   some_of_step Check payload = (_, refl)
+  some_of_step Migrate payload = let given = some_table payload in (_, (given.0, given.1, refl))

@@ -3,7 +3,7 @@ use Rattle.std.proofs.Common.{◌≡◌, ℕ, zero, suc, List, [], ◌∷◌, Op
 use Rattle.mtn_base.specs.Hex.{id_of}
 use Rattle.mtn_base.specs.declared.refusal.Cause.{Cause}
 use Rattle.mtn_generated.specs.Growing.{Adds, AddsWork, Answer, Carries, Generates, Grown, Grows, MergesTips, Onward, PutsEdge, PutsText, Unless, files_refusal, grown, grown_or, store_refusal, with_files}
-use Rattle.mtn_generated.specs.Numbered.{Tips, Work, edge_of, edge_text, files_of, no_tips, tips_after, work_at}
+use Rattle.mtn_generated.specs.Numbered.{Tips, Work, edge_fault, edge_of, edge_text, files_of, no_tips, tips_after, work_at}
 use Rattle.mtn_generated.specs.Numbered.Work.{Begins, Joins, Patches, Renames, Sets}
 use Rattle.mtn_model.specs.State.{State}
 use Rattle.mtn_plans.specs.Plans.{Plan}
@@ -26,6 +26,11 @@ unrefused : (refusal : Option Cause) (g after : Grown) → Ok g ≡ grown_or ref
 unrefused None g after e = (refl, let same : g ≡ after = cc in ap (λ (x : Grown). x.state) (sym same))
 unrefused (Some cause) g after e = absurd cc
 
+-- what is not stopped was not refused
+pub went_on : (refusal : Option Cause) (Is : Answer → Type 0) (g : Grown) → Unless refusal Is (Ok g) → (refusal ≡ None) × Is (Ok g)
+went_on None Is g is = (refl, is)
+went_on (Some cause) Is g is = absurd cc
+
 module _ (f : List ℕ → List ℕ) (work : Work) (tips : Tips) (s : State) (g : Grown) where
   put_text : (text : List ℕ) → PutsText f work tips s text (Ok g) → IsPut f s g
   put_text text is =
@@ -33,7 +38,9 @@ module _ (f : List ℕ → List ℕ) (work : Work) (tips : Tips) (s : State) (g 
       record { text = text; refusal = is.refusal; decides = subst (Decides f s text is.refusal) fine.1 is.decides; none = fine.0 }
 
   put_edge : (i : ℕ) → PutsEdge f work tips s i (Ok g) → IsPut f s g
-  put_edge i is = put_text (edge_text f is.history (edge_of f i work tips)) is.puts
+  put_edge i is =
+      let e = edge_of f i work tips in
+      put_text (edge_text f is.history e) (went_on (edge_fault is.history e) (PutsText f work tips s (edge_text f is.history e)) g is.puts).1
 
   put_carried : (plan : Plan) → Carries f work tips s plan (Ok g) → IsPut f s g
   put_carried (Err cause) is = absurd cc
@@ -50,11 +57,6 @@ module _ (f : List ℕ → List ℕ) where
   put_work i tips s Patches g is = put_edge f Patches tips s g i is
   put_work i tips s Sets g is = put_edge f Sets tips s g i is
   put_work i tips s Renames g is = put_edge f Renames tips s g i is
-
-  -- what is not stopped was not refused
-  pub went_on : (refusal : Option Cause) (Is : Answer → Type 0) (g : Grown) → Unless refusal Is (Ok g) → (refusal ≡ None) × Is (Ok g)
-  went_on None Is g is = (refl, is)
-  went_on (Some cause) Is g is = absurd cc
 
   -- a revision that was added: its files were put, and then its text
   pub record IsAdded (i : ℕ) (work : Work) (before after : Grown) : Type 0 where

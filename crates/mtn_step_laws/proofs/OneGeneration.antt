@@ -3,7 +3,7 @@ use Rattle.std.proofs.Common.{◌≡◌, ℕ, zero, suc, false, List, [], Option
 use Rattle.mtn_base.specs.Hex.{id_of}
 use Rattle.mtn_base.specs.declared.refusal.Cause.{Cause}
 use Rattle.mtn_generated.specs.Growing.{Adds, AddsWork, Answer, Carries, Generates, Grown, Grows, MergesTips, Onward, PutsEdge, PutsText, Unless, files_refusal, grown, grown_or, store_refusal, with_files}
-use Rattle.mtn_generated.specs.Numbered.{Tips, Work, edge_of, edge_text, files_of, tips_after, work_at}
+use Rattle.mtn_generated.specs.Numbered.{Tips, Work, edge_fault, edge_of, edge_text, files_of, tips_after, work_at}
 use Rattle.mtn_generated.specs.Numbered.Work.{Begins, Joins, Patches, Renames, Sets}
 use Rattle.mtn_model.specs.State.{State}
 use Rattle.mtn_plans.specs.Plans.{Merges, Plan}
@@ -11,6 +11,10 @@ use Rattle.mtn_plans.specs.declared.outcome.Outcome.TheVariants.{Conflicted, Mer
 use Rattle.mtn_replay.proofs.Histories.{one_history}
 use Rattle.mtn_step_laws.proofs.Decided.{one_decision}
 use Rattle.mtn_step_laws.proofs.OnePlan.{one_plan}
+
+one_unless : (refusal : Option Cause) (Is : Answer → Type 0) (a b : Answer) → ((x y : Answer) → Is x → Is y → x ≡ y) → Unless refusal Is a → Unless refusal Is b → a ≡ b
+one_unless None Is a b one is also = one a b is also
+one_unless (Some cause) Is a b one is also = is ∙ sym also
 
 module _ (f : List ℕ → List ℕ) (work : Work) (tips : Tips) (s : State) where
   one_text : (text : List ℕ) (a b : Answer) → PutsText f work tips s text a → PutsText f work tips s text b → a ≡ b
@@ -26,7 +30,9 @@ module _ (f : List ℕ → List ℕ) (work : Work) (tips : Tips) (s : State) whe
   one_edge : (i : ℕ) (a b : Answer) → PutsEdge f work tips s i a → PutsEdge f work tips s i b → a ≡ b
   one_edge i a b is also =
       let history = one_history f s.files s.log is.history also.history is.spelled also.spelled in
-      one_text (edge_text f is.history (edge_of f i work tips)) a b is.puts (subst (λ h. PutsText f work tips s (edge_text f h (edge_of f i work tips)) b) (sym history) also.puts)
+      let e = edge_of f i work tips in
+      one_unless (edge_fault is.history e) (PutsText f work tips s (edge_text f is.history e)) a b (one_text (edge_text f is.history e)) is.puts
+      (subst (λ h. Unless (edge_fault h e) (PutsText f work tips s (edge_text f h e)) b) (sym history) also.puts)
 
   one_carried : (plan : Plan) (a b : Answer) → Carries f work tips s plan a → Carries f work tips s plan b → a ≡ b
   one_carried (Err cause) a b is also = is ∙ sym also
@@ -47,10 +53,6 @@ module _ (f : List ℕ → List ℕ) where
   one_work i tips s Patches a b is also = one_edge f Patches tips s i a b is also
   one_work i tips s Sets a b is also = one_edge f Sets tips s i a b is also
   one_work i tips s Renames a b is also = one_edge f Renames tips s i a b is also
-
-  one_unless : (refusal : Option Cause) (Is : Answer → Type 0) (a b : Answer) → ((x y : Answer) → Is x → Is y → x ≡ y) → Unless refusal Is a → Unless refusal Is b → a ≡ b
-  one_unless None Is a b one is also = one a b is also
-  one_unless (Some cause) Is a b one is also = is ∙ sym also
 
   one_adding : (i : ℕ) (work : Work) (g : Grown) (a b : Answer) → Adds f i work g a → Adds f i work g b → a ≡ b
   one_adding i work g a b = one_unless (files_refusal f g.state (files_of i work)) (AddsWork f i g.tips (with_files f g.state (files_of i work)) work) a b

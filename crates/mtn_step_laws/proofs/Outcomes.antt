@@ -3,7 +3,7 @@ use Rattle.std.proofs.Common.{◌≡◌, ℕ, Bool, List, [], ◌∷◌, Option,
 use Rattle.mtn_model.specs.State.{State}
 use Rattle.mtn_replay.specs.Lawful.{IsLawful}
 use Rattle.mtn_step.specs.declared.call.Call.{Call}
-use Rattle.mtn_step.specs.declared.call.Call.TheVariants.{PutFile, PutRevision, GetFile, GetRevision, GetManifestOf, GetRoster, GetContentChanged, GetCorrespondingPath, Ask, Graph, Merge, ShowConflicts, Cert, Certs, Key, Heads, Branches, Commit, MergeHeads, Packets, Read, Generate, Check}
+use Rattle.mtn_step.specs.declared.call.Call.TheVariants.{PutFile, PutRevision, GetFile, GetRevision, GetManifestOf, GetRoster, GetContentChanged, GetCorrespondingPath, Ask, Graph, Merge, ShowConflicts, Cert, Certs, Key, Heads, Branches, Commit, MergeHeads, Packets, Read, Generate, Check, Migrate}
 use Rattle.mtn_history_laws.specs.History.{Revision}
 use Rattle.mtn_replay.proofs.Histories.{one_history}
 use Rattle.mtn_answers.specs.Views.{TextAnswer}
@@ -11,7 +11,7 @@ use Rattle.mtn_answers.specs.Views.{IsContentChanged, IsRoster, corresponding_at
 use Rattle.mtn_answers.proofs.Unique.{one_content, one_roster}
 use Rattle.mtn_model.specs.Outcome.{Outcome}
 use Rattle.mtn_step.specs.Certifying.{AreBranches, AreHeads, certs_text, merge_said, value_lines}
-use Rattle.mtn_step.specs.Step.{Asked, Commits, Ended, Ending, Graphed, HeadsMerged, Listed, OfHistory, Planned, PutsRevision, Shown, Steps, Viewed, done, id_lines, line_text, told}
+use Rattle.mtn_step.specs.Step.{Asked, Commits, Ended, Ending, Graphed, HeadsMerged, Listed, OfHistory, Planned, PutsRevision, Shown, Steps, Viewed, done, id_lines, line_text, not_migrated, refused, told}
 use Rattle.std.specs.List.{flat_map}
 use Rattle.mtn_base.specs.declared.id.Id.{Id}
 use Rattle.mtn_plans.specs.Plans.{Looks, Merges, Plan}
@@ -32,6 +32,7 @@ use Rattle.mtn_step.specs.declared.call.Said.{Said}
 use Rattle.mtn_step_laws.proofs.Decided.{one_commit, one_decided}
 use Rattle.mtn_exports.specs.Exports.{IsExported}
 use Rattle.mtn_exports.proofs.Sending.{one_export}
+use Rattle.mtn_key_table_laws.proofs.Given.{one_table}
 use Rattle.mtn_step_laws.proofs.Generating.{one_generated}
 use Rattle.mtn_step_laws.proofs.OneGeneration.{one_of}
 use Rattle.mtn_step_laws.proofs.OneImport.{one_reading}
@@ -148,3 +149,4 @@ one_of_step f s (Packets id have) payload o p lawful is also = one_viewed f s (�
 one_of_step f s Read payload o p lawful is also = one_reading f payload s o p is also
 one_of_step f s (Generate n) payload o p lawful is also = one_generated n s o p is.0 also.0 (one_of f n s is.0 also.0 is.1 also.1) is.2 also.2
 one_of_step f s Check payload o p lawful is also = is ∙ sym also
+one_of_step f s Migrate payload o p lawful is also = is.2 ∙ ap (λ given. refused (not_migrated given) s) (one_table payload is.0 also.0 is.1 also.1) ∙ sym also.2

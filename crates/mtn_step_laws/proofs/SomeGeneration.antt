@@ -3,7 +3,7 @@ use Rattle.std.proofs.Common.{◌≡◌, ℕ, zero, suc, false, List, [], Option
 use Rattle.mtn_base.specs.declared.refusal.Cause.{Cause}
 use Rattle.mtn_generated.specs.Growing.{Adds, AddsWork, Answer, Carries, Generates, Grown, Grows, MergesTips, Onward, PutsEdge, PutsText, Unless, files_refusal, store_refusal, with_files}
 use Rattle.mtn_generated.specs.Growing.Stop.{Refused}
-use Rattle.mtn_generated.specs.Numbered.{Tips, Work, edge_of, edge_text, files_of, work_at}
+use Rattle.mtn_generated.specs.Numbered.{Tips, Work, edge_fault, edge_of, edge_text, files_of, work_at}
 use Rattle.mtn_generated.specs.Numbered.Work.{Begins, Joins, Patches, Renames, Sets}
 use Rattle.mtn_model.specs.State.{State}
 use Rattle.mtn_plans.specs.Plans.{Plan}
@@ -14,13 +14,18 @@ use Rattle.mtn_step_laws.proofs.SomeDecision.{some_decision}
 use Rattle.mtn_step_laws.proofs.SomePlan.{some_plan}
 use Rattle.mtn_step_laws.proofs.LawfulGrowth.{lawful_files, lawful_growth}
 
+some_unless : (refusal : Option Cause) (Is : Answer → Type 0) → (refusal ≡ None → (answer : Answer) × Is answer) → (answer : Answer) × Unless refusal Is answer
+some_unless None Is some = some refl
+some_unless (Some cause) Is some = (Err (Refused cause), refl)
+
 module _ (f : List ℕ → List ℕ) (work : Work) (tips : Tips) (s : State) (lawful : IsLawful f s) where
   some_text : (text : List ℕ) → (answer : Answer) × PutsText f work tips s text answer
   some_text text = let d = some_decision f s lawful text in (_, record { refusal = d.0; after = d.1; decides = d.2; is = refl })
 
   some_edge : (i : ℕ) → (answer : Answer) × PutsEdge f work tips s i answer
   some_edge i =
-      let t = some_text (edge_text f lawful.history (edge_of f i work tips)) in
+      let e = edge_of f i work tips in
+      let t = some_unless (edge_fault lawful.history e) (PutsText f work tips s (edge_text f lawful.history e)) (λ fine. some_text (edge_text f lawful.history e)) in
       (t.0, record { history = lawful.history; spelled = lawful.log; puts = t.1 })
 
   some_carried : (plan : Plan) → (answer : Answer) × Carries f work tips s plan answer
@@ -41,10 +46,6 @@ module _ (f : List ℕ → List ℕ) where
   some_work i tips s Patches law = some_edge f Patches tips s law i
   some_work i tips s Sets law = some_edge f Sets tips s law i
   some_work i tips s Renames law = some_edge f Renames tips s law i
-
-  some_unless : (refusal : Option Cause) (Is : Answer → Type 0) → (refusal ≡ None → (answer : Answer) × Is answer) → (answer : Answer) × Unless refusal Is answer
-  some_unless None Is some = some refl
-  some_unless (Some cause) Is some = (Err (Refused cause), refl)
 
   some_adding : (i : ℕ) (work : Work) (g : Grown) → IsLawful f g.state → (answer : Answer) × Adds f i work g answer
   some_adding i work g law = some_unless (files_refusal f g.state (files_of i work)) (AddsWork f i g.tips (with_files f g.state (files_of i work)) work)

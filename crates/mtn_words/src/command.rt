@@ -89,6 +89,7 @@ fn call_named(alloc: Global, name: &str, words: &[Bytes]) -> Result<Call, WordsE
         "read" => no_words(words).map(|()| Call::Read),
         "generate" => one_count(alloc, words).map(|count| Call::Generate { count }),
         "check" => no_words(words).map(|()| Call::Check),
+        "migrate" => no_words(words).map(|()| Call::Migrate),
         _ => view_named(alloc, name, words),
     }
 }

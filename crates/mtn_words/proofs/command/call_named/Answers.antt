@@ -14,4 +14,5 @@ returns-in_default c =
       not_named name (codes "read") c.in_default.not-read,
       not_named name (codes "generate") c.in_default.not-generate,
       not_named name (codes "check") c.in_default.not-check,
+      not_named name (codes "migrate") c.in_default.not-migrate,
     ) c.view_named.ensures

@@ -1,0 +1,4 @@
+pub mod Decoding
+pub mod OneReading
+pub mod SomeReading
+pub mod Given

@@ -1,0 +1,5 @@
+use Rattle.mtn_key_table_laws.proofs.Given as laws
+use Rattle.mtn_key_table_laws.proofs.one_table.Goals as goal
+
+pub returns : goal.returns
+returns c = laws.one_table
