@@ -1,6 +1,7 @@
 //! A history that is generated.
 ghost use Rattle.std.specs.Prelude.{◌≡◌, [], Err, IfErr, IfSome, OnErr, Some};
-ghost use Rattle.mtn_generating.specs.Generating.{IfGenerateDamage, IsOrdered, Tells};
+ghost use Rattle.mtn_generating.specs.Generating.{Tells};
+ghost use Rattle.mtn_history.specs.Errors.{IfStoreDamage};
 ghost use Rattle.mtn_history.specs.Meta.{IsMetaOf};
 ghost use Rattle.mtn_history.specs.Stands.{IsDraft};
 ghost use Rattle.mtn_model.specs.State.{State};
@@ -10,7 +11,6 @@ ghost use Rattle.mtn_ports.specs.Kept.{Stays, with_all};
 ghost use Rattle.mtn_reading.specs.Unfit.{SpoilsReading};
 
 use mtn_base::Bytes;
-use mtn_generating::GenerateError;
 use mtn_history::{Draft, HistoryError, StoreError};
 use mtn_ports::{Ident, Keeper};
 use std::alloc::Global;
@@ -21,17 +21,16 @@ pub fn generate<I: Ident, K: Keeper>(
     ident: &I,
     count: u64,
     draft: &mut Draft<'_, K>,
-) -> Result<Bytes, GenerateError>
+) -> Result<Bytes, HistoryError>
     requires bare { draft.old.pending.batch ≡ [] }
     ensures same_reference { draft.new.keeper.ghost_name ≡ draft.old.keeper.ghost_name }
     ensures stays { Stays K.contents K.leaves K.faults draft.old.keeper.now draft.new.keeper.now }
     ensures generates { (c : Contents) (s : State) → K.contents draft.new.keeper.now ≡ Some c → IsDraft (I.meaning ident.now) c draft.old.pending s →
         Tells (I.meaning ident.now) c s count result draft.new.pending }
     ensures err { OnErr result (draft.new.pending ≡ draft.old.pending) }
-    ensures ordered { IfErr result IsOrdered }
     ensures damaged { IfSome (K.contents draft.new.keeper.now) (λ c. IsMetaOf (with_all c draft.old.pending.batch) (record { count = draft.old.pending.count; is_new = draft.old.pending.is_new }) →
-        IfErr result (λ e. IfGenerateDamage e (SpoilsReading (I.meaning ident.now) (with_all c draft.old.pending.batch)))) }
-    ensures failed { result ≡ Err (GenerateError.Failed (HistoryError.Store StoreError.Failed)) → Rose (K.faults draft.old.keeper.now) (K.faults draft.new.keeper.now) }
+        IfErr result (λ e. IfStoreDamage e (SpoilsReading (I.meaning ident.now) (with_all c draft.old.pending.batch)))) }
+    ensures failed { result ≡ Err (HistoryError.Store StoreError.Failed) → Rose (K.faults draft.old.keeper.now) (K.faults draft.new.keeper.now) }
 {
     mtn_generating::generate(alloc, ident, count, draft)
 }

@@ -14,7 +14,7 @@ use Rattle.mtn_plans.specs.declared.outcome.Outcome.TheVariants.{Conflicted, Mer
 use Rattle.mtn_replay.specs.Accepting.{Decides}
 use Rattle.mtn_replay.specs.Files.{file_refusal, with_file}
 use Rattle.mtn_replay.specs.Lawful.{IsHistory}
-use Rattle.mtn_generated.specs.Numbered.{Tips, Work, edge_of, edge_text, files_of, no_tips, tips_after, work_at}
+use Rattle.mtn_generated.specs.Numbered.{Tips, Work, edge_fault, edge_of, edge_text, files_of, no_tips, tips_after, work_at}
 use Rattle.mtn_generated.specs.Numbered.Work.{Begins, Joins, Patches, Renames, Sets}
 
 -- the state, and the tips, after some revisions
@@ -64,11 +64,11 @@ module _ (f : List ℕ → List ℕ) (work : Work) (tips : Tips) (s : State) whe
     pub decides : Decides f s text refusal after
     pub is : answer ≡ grown_or refusal (grown after (tips_after work (id_of (f text)) tips))
 
-  -- revision i, which has one edge
+  -- Revision i, which has one edge. Where its changes make no tree, no text can name one: that is the refusal
   pub record PutsEdge (i : ℕ) (answer : Answer) : Type 0 where
     pub history : List Revision
     pub spelled : IsHistory f s.files s.log history
-    pub puts : PutsText (edge_text f history (edge_of f i work tips)) answer
+    pub puts : Unless (edge_fault history (edge_of f i work tips)) (PutsText (edge_text f history (edge_of f i work tips))) answer
 
   -- the plan of a merge is carried out
   abbrev pub Carries : Plan → Answer → Type 0

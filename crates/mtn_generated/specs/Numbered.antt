@@ -3,14 +3,16 @@ use Rattle.std.specs.Prelude.{ℕ, zero, suc, ◌+◌, ◌-◌, ◌*◌, ◌/◌
 use Rattle.hex.specs.Hex.{encode_lower}
 use Rattle.mtn_base.specs.Hex.{id_of}
 use Rattle.mtn_base.specs.declared.id.Id.{Id}
+use Rattle.mtn_base.specs.declared.refusal.Cause.{Cause}
 use Rattle.mtn_basic_io.specs.Spelling.{spelling}
 use Rattle.mtn_changes.specs.RevisionText.{revision_stanzas}
 use Rattle.mtn_changes.specs.declared.change.Change.{Change}
 use Rattle.mtn_changes.specs.declared.change.Change.TheVariants.{Rename, AddDir, AddFile, Patch, Set}
 use Rattle.mtn_changes.specs.declared.change.Edge.{Edge}
+use Rattle.mtn_changeset_laws.specs.Changes.{or_else}
 use Rattle.mtn_history_laws.specs.History.{Revision}
 use Rattle.mtn_manifest.specs.Manifest.{manifest_of}
-use Rattle.mtn_replay.specs.Making.{edge_tree}
+use Rattle.mtn_replay.specs.Making.{bad_change, edge_tree, unknown_parent}
 
 -- what a revision does: it begins the history; it patches a file, on the left side; it sets an attribute of that file, on the
 -- right side; it joins the sides by a merge; it renames the directory of the files
@@ -96,6 +98,10 @@ parent_of _ tips = Some tips.left
 
 abbrev pub edge_of : (List ℕ → List ℕ) → ℕ → Work → Tips → Edge
 edge_of f i work tips = record { parent = parent_of work tips; changes = changes_of f i work }
+
+-- why an edge makes no tree, with the cause that its text is refused with: its parent is not held, or a change fails
+abbrev pub edge_fault : List Revision → Edge → Option Cause
+edge_fault h e = or_else (unknown_parent h (e ∷ [])) (bad_change h 1 (e ∷ []))
 
 -- The text of a revision with one edge, which names the manifest of the tree that it makes. A manifest does not say where a node
 -- was born, so that any id stands for the revision's

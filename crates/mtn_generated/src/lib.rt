@@ -6,16 +6,23 @@
 //! (`specs/Growing.antt`).
 //!
 //! The crates above rely on this: how many merges and files there are is a formula of the number of revisions; no two of the files
-//! are the same; a patch names the content that its file had; and the directory keeps its name until a revision renames it.
+//! are the same; a patch names the content that its file had; the directory keeps its name until a revision renames it; and a
+//! revision that makes no tree is refused with the cause that its text is refused with.
 #![tactic(auto)]
 
-ghost use Rattle.std.specs.Prelude.{◌≡◌, ◌≢◌, ℕ, ◌+◌, ◌-◌, ◌/◌, ◌<◌, ◌≤◌, ◌^◌, List, ◌++◌, length, codes, decimal, Err};
+ghost use Rattle.std.specs.Prelude.{◌≡◌, ◌≢◌, ℕ, ◌+◌, ◌-◌, ◌/◌, ◌<◌, ◌≤◌, ◌^◌, List, [], ◌∷◌, ◌++◌, length, codes, decimal, None, Some, Err};
+ghost use Rattle.mtn_base.specs.declared.id.Id.{Id};
+ghost use Rattle.mtn_base.specs.declared.refusal.Cause.{Cause};
 ghost use Rattle.mtn_base.specs.declared.refusal.Cause.TheVariants.{StoreNotEmpty};
+ghost use Rattle.mtn_changes.specs.declared.change.Edge.{Edge};
 ghost use Rattle.mtn_generated.specs.Growing.{Answer, Generates, Grows, Stop};
 ghost use Rattle.mtn_generated.specs.Growing.Stop.{Refused};
-ghost use Rattle.mtn_generated.specs.Numbered.{directory_at, file_at, file_text, files_to, merges_to, work_at};
+ghost use Rattle.mtn_generated.specs.Numbered.{directory_at, edge_fault, file_at, file_text, files_to, merges_to, work_at};
 ghost use Rattle.mtn_generated.specs.Numbered.Work.{Patches, Renames};
+ghost use Rattle.mtn_history_laws.specs.History.{Revision};
 ghost use Rattle.mtn_model.specs.State.{State};
+ghost use Rattle.mtn_model.specs.Table.{Table};
+ghost use Rattle.mtn_replay.specs.Making.{log_full, refusal_of};
 
 /// Every fourth revision is a merge. There are ten files at first, and one more every fourth revision from the second on.
 pub fn counts()
@@ -39,6 +46,12 @@ pub fn patches_follow()
 pub fn directories_stay()
     ensures kept { (i : ℕ) → 0 < i → work_at (i + 1) ≢ Renames → directory_at (i + 1) ≡ directory_at i }
     ensures renamed { (i : ℕ) → work_at i ≡ Renames → directory_at i ≡ codes "d" ++ decimal i }
+{}
+
+/// An edge that makes no tree is refused with the cause that a text with this edge alone is refused with, where the log has room.
+pub fn faults_are_refusals()
+    ensures { (f : List ℕ → List ℕ) (files : Table) (h : List Revision) (id manifest : Id) (e : Edge) (cause : Cause) → log_full h ≡ None → edge_fault h e ≡ Some cause →
+        refusal_of f files h id (record { manifest = manifest; edges = e ∷ [] }) ≡ Some cause }
 {}
 
 /// Where the log has a revision, their number is the refusal.

@@ -24,12 +24,12 @@ use Rattle.mtn_step_laws.proofs.LawfulGrowth.{IsAdded, next, went_on}
 onward : (a b c : Table) → Keeps a b → Keeps b c → Keeps a c
 onward a b c first then id bytes held = then id bytes (first id bytes held)
 
-equal_bytes : (held bytes : List ℕ) (cause : Cause) (t : Bool) → bytes_eq held bytes ≡ t → cond t None (Some cause) ≡ None → held ≡ bytes
+pub equal_bytes : (held bytes : List ℕ) (cause : Cause) (t : Bool) → bytes_eq held bytes ≡ t → cond t None (Some cause) ≡ None → held ≡ bytes
 equal_bytes held bytes cause true same e = (bytes_eq-Decides held bytes).0 same
 equal_bytes held bytes cause false same e = absurd cc
 
 module _ (f : List ℕ → List ℕ) where
-  no_collision : (s : State) (text : List ℕ) → file_refusal f s text ≡ None → collision (get s.files (f text)) (f text) text ≡ None
+  pub no_collision : (s : State) (text : List ℕ) → file_refusal f s text ≡ None → collision (get s.files (f text)) (f text) text ≡ None
   no_collision s text fine = by (nat_lt 67108864 (length text)) fine
     where
       by : (t : Bool) → cond t (Some (TextTooLong (length text))) (collision (get s.files (f text)) (f text) text) ≡ None → collision (get s.files (f text)) (f text) text ≡ None
@@ -49,13 +49,13 @@ module _ (f : List ℕ → List ℕ) where
   file_held : (s : State) (text : List ℕ) → get (with_file f s text).files (f text) ≡ Some text
   file_held s text = get_inserted s.files (f text) text (f text) ∙ ap (λ t. cond t (Some text) (get s.files (f text))) ((bytes_eq-Decides (f text) (f text)).1 refl)
 
-  files_keep : (texts : List (List ℕ)) (s : State) → files_refusal f s texts ≡ None → Keeps s.files (with_files f s texts).files
+  pub files_keep : (texts : List (List ℕ)) (s : State) → files_refusal f s texts ≡ None → Keeps s.files (with_files f s texts).files
   files_keep [] s fine = λ id bytes there. there
   files_keep (text ∷ rest) s fine =
       let none = both_none (file_refusal f s text) (files_refusal f (with_file f s text) rest) fine in
       onward s.files (with_file f s text).files (with_files f (with_file f s text) rest).files (file_keeps s text none.0) (files_keep rest (with_file f s text) none.1)
 
-  files_held : (texts : List (List ℕ)) (s : State) (text : List ℕ) → files_refusal f s texts ≡ None → Contains texts text → get (with_files f s texts).files (f text) ≡ Some text
+  pub files_held : (texts : List (List ℕ)) (s : State) (text : List ℕ) → files_refusal f s texts ≡ None → Contains texts text → get (with_files f s texts).files (f text) ≡ Some text
   files_held [] s text fine there = absurd (contains_nil there)
   files_held (first ∷ rest) s text fine there =
       let none = both_none (file_refusal f s first) (files_refusal f (with_file f s first) rest) fine in
@@ -91,7 +91,7 @@ module _ (f : List ℕ → List ℕ) where
       let t = next f s n g is in
       onward s.files t.before.state.files g.state.files (grown_keeps s n t.before t.grew) (added_keeps (suc n) (work_at (suc n)) t.before g t.added)
 
-  grown_held : (s : State) (n i : ℕ) (g : Grown) (text : List ℕ) → Grows f s n (Ok g) → 0 < i → i ≤ n → Contains (files_of i (work_at i)) text → get g.state.files (f text) ≡ Some text
+  pub grown_held : (s : State) (n i : ℕ) (g : Grown) (text : List ℕ) → Grows f s n (Ok g) → 0 < i → i ≤ n → Contains (files_of i (work_at i)) text → get g.state.files (f text) ≡ Some text
   grown_held s zero i g text is some most there = absurd (omega (arith, some, most))
   grown_held s (suc n) i g text is some most there =
       let t = next f s n g is in
@@ -102,7 +102,7 @@ module _ (f : List ℕ → List ℕ) where
       ]
 
   pub keeps_files : (n : ℕ) (s : State) (g : Grown) → Generates f n s (Ok g) → Keeps s.files g.state.files
-  keeps_files n s g is = grown_keeps s n g (went_on f (store_refusal s) (Grows f s n) g is).1
+  keeps_files n s g is = grown_keeps s n g (went_on (store_refusal s) (Grows f s n) g is).1
 
   pub holds_files : (n i : ℕ) (s : State) (g : Grown) (text : List ℕ) → Generates f n s (Ok g) → 0 < i → i ≤ n → Contains (files_of i (work_at i)) text → get g.state.files (f text) ≡ Some text
-  holds_files n i s g text is = grown_held s n i g text (went_on f (store_refusal s) (Grows f s n) g is).1
+  holds_files n i s g text is = grown_held s n i g text (went_on (store_refusal s) (Grows f s n) g is).1

@@ -2,3 +2,8 @@ pub mod KeptFiles
 pub mod Siblings
 pub mod Sides
 pub mod Readable
+pub mod Held
+pub mod Children
+pub mod Unresolved
+pub mod Steps
+pub mod Unconflicted

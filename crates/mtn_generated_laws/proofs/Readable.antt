@@ -107,25 +107,25 @@ module _ (f : List ℕ → List ℕ) where
   first_file j few = path_comps 1 j (omega arith) few
 
   -- the first revision's changes, with their digits
-  abbrev digit_path : ℕ → List (List ℕ)
+  abbrev pub digit_path : ℕ → List (List ℕ)
   digit_path j = (100 ∷ 49 ∷ []) ∷ (102 ∷ (48 + j) ∷ []) ∷ []
 
-  first_directory : directory_at 1 ≡ 100 ∷ 49 ∷ []
+  pub first_directory : directory_at 1 ≡ 100 ∷ 49 ∷ []
   first_directory = ap (λ (ds : List ℕ). 100 ∷ ds) (decimal_digit 1 (omega arith))
 
-  digits_at : (j : ℕ) → j < 10 → path_at 1 j ≡ digit_path j
+  pub digits_at : (j : ℕ) → j < 10 → path_at 1 j ≡ digit_path j
   digits_at j few = let name : codes "f" ++ decimal j ≡ 102 ∷ (48 + j) ∷ [] = ap (λ (ds : List ℕ). 102 ∷ ds) (decimal_digit j few) in λ i. first_directory i ∷ name i ∷ []
 
-  abbrev digit_file : ℕ → Change
+  abbrev pub digit_file : ℕ → Change
   digit_file j = AddFile (digit_path j) (content_of f j 0)
 
   file_is : (j : ℕ) → j < 10 → AddFile (path_at 1 j) (content_of f j 0) ≡ digit_file j
   file_is j few = ap (λ p. AddFile p (content_of f j 0)) (digits_at j few)
 
-  abbrev digit_changes : List Change
+  abbrev pub digit_changes : List Change
   digit_changes = AddDir [] ∷ AddDir ((100 ∷ 49 ∷ []) ∷ []) ∷ map digit_file ten
 
-  digits_same : changes_of f 1 Begins ≡ digit_changes
+  pub digits_same : changes_of f 1 Begins ≡ digit_changes
   digits_same = λ i. AddDir [] ∷ AddDir (first_directory i ∷ []) ∷ file_is 0 (omega arith) i ∷ file_is 1 (omega arith) i ∷ file_is 2 (omega arith) i ∷ file_is 3 (omega arith) i ∷ file_is 4 (omega arith) i
       ∷ file_is 5 (omega arith) i ∷ file_is 6 (omega arith) i ∷ file_is 7 (omega arith) i ∷ file_is 8 (omega arith) i ∷ file_is 9 (omega arith) i ∷ []
 
@@ -203,11 +203,15 @@ module _ (f : List ℕ → List ℕ) (makes : (text : List ℕ) → IsIdBytes (f
   parent_stanza None lines lawful rest = ((omega arith, ((record { symbol_lawful = refl; some_value = omega arith }, (tt, tt)), tt)), rest)
   parent_stanza (Some id) lines lawful rest = let l = lawful id refl in ((omega arith, ((record { symbol_lawful = refl; some_value = omega arith }, ((l.twenty, l.bytes), tt)), tt)), rest)
 
-  abbrev read_of : (h : List Revision) → Edge → Spelled
+  -- the revision that its text spells
+  abbrev pub read_of : (h : List Revision) → Edge → Spelled
   read_of h e = record { manifest = id_of (f (spelling (manifest_of (edge_tree h no_id e)))); edges = e ∷ [] }
 
+  pub first_spells : (h : List Revision) (tips : Tips) → Spells (edge_text f h (edge_of f 1 Begins tips)) (read_of h (edge_of f 1 Begins tips))
+  first_spells h tips = spelled h (edge_of f 1 Begins tips) (first_changes f) (parent_stanza None (map stanza_of (changes_of f 1 Begins)) (λ id e. absurd cc) first_stanzas)
+
   pub first_read : (h : List Revision) (tips : Tips) → IsReadAs f h (edge_of f 1 Begins tips)
-  first_read h tips = (read_of h (edge_of f 1 Begins tips), refl, spelled h (edge_of f 1 Begins tips) (first_changes f) (parent_stanza None (map stanza_of (changes_of f 1 Begins)) (λ id e. absurd cc) first_stanzas))
+  first_read h tips = (read_of h (edge_of f 1 Begins tips), refl, first_spells h tips)
 
   parent_lawful : (work : Work) (tips : Tips) → IsIdBytes tips.left.0 → IsIdBytes tips.right.0 → (id : Id) → parent_of work tips ≡ Some id → IsIdBytes id.0
   parent_lawful Begins tips left right id e = absurd cc
@@ -216,10 +220,10 @@ module _ (f : List ℕ → List ℕ) (makes : (text : List ℕ) → IsIdBytes (f
   parent_lawful Joins tips left right id e = subst (λ (x : Id). IsIdBytes x.0) (let same : tips.left ≡ id = cc in same) left
   parent_lawful Renames tips left right id e = subst (λ (x : Id). IsIdBytes x.0) (let same : tips.left ≡ id = cc in same) left
 
+  pub later_spells : (h : List Revision) (i : ℕ) (work : Work) (tips : Tips) → i < 2 ^ 64 → IsIdBytes tips.left.0 → IsIdBytes tips.right.0 → work ≢ Begins → work ≢ Joins →
+      Spells (edge_text f h (edge_of f i work tips)) (read_of h (edge_of f i work tips))
+  later_spells h i work tips small left right a b = spelled h (edge_of f i work tips) (later_changes f i work small a b)
+      (parent_stanza (parent_of work tips) (map stanza_of (changes_of f i work)) (parent_lawful work tips left right) (later_stanzas i work a))
+
   pub later_read : (h : List Revision) (i : ℕ) (work : Work) (tips : Tips) → i < 2 ^ 64 → IsIdBytes tips.left.0 → IsIdBytes tips.right.0 → work ≢ Begins → work ≢ Joins → IsReadAs f h (edge_of f i work tips)
-  later_read h i work tips small left right a b = (
-    read_of h (edge_of f i work tips),
-    refl,
-    spelled h (edge_of f i work tips) (later_changes f i work small a b)
-        (parent_stanza (parent_of work tips) (map stanza_of (changes_of f i work)) (parent_lawful work tips left right) (later_stanzas i work a)),
-  )
+  later_read h i work tips small left right a b = (read_of h (edge_of f i work tips), refl, later_spells h i work tips small left right a b)

@@ -2,10 +2,11 @@
 //!
 //! The crates above rely on this: generating comes to one thing, and over a lawful state to something; the state with all revisions
 //! is lawful, and has every file that was put for them. Two children of one revision of which one patches and the other sets an
-//! attribute do not conflict in a merge (`specs/Siblings.antt`), and a text with one edge is read as it was written.
+//! attribute do not conflict in a merge (`specs/Siblings.antt`), and the tips that a generated history merges are such children: none
+//! of its merges has conflicts. A text with one edge is read as it was written.
 #![tactic(auto)]
 
-ghost use Rattle.std.specs.Prelude.{◌≡◌, ◌≢◌, ◌^◌, ◌<◌, ◌≤◌, ℕ, List, [], ◌∷◌, None, Some, Ok, Contains};
+ghost use Rattle.std.specs.Prelude.{◌≡◌, ◌≢◌, ◌^◌, ◌<◌, ◌≤◌, ℕ, List, [], ◌∷◌, None, Some, Ok, Err, Contains};
 ghost use Rattle.std.specs.FinMap.{get};
 ghost use Rattle.mtn_base.specs.declared.id.Id.{Id};
 ghost use Rattle.mtn_certs.specs.Certificates.{IsIdBytes};
@@ -16,6 +17,7 @@ ghost use Rattle.mtn_conflicts.specs.declared.lists.Conflicts.{Conflicts};
 ghost use Rattle.mtn_decide.specs.Decisions.{IsInOrder, Merge};
 ghost use Rattle.mtn_decide.specs.Graph.{IsMergeOf};
 ghost use Rattle.mtn_generated.specs.Growing.{Answer, Generates, Grown};
+ghost use Rattle.mtn_generated.specs.Growing.Stop.{Conflicting};
 ghost use Rattle.mtn_generated.specs.Numbered.{Tips, Work, changes_of, edge_of, files_of, work_at};
 ghost use Rattle.mtn_generated.specs.Numbered.Work.{Begins, Joins};
 ghost use Rattle.mtn_generated_laws.specs.Reading.{IsReadAs};
@@ -58,6 +60,12 @@ pub fn patch_and_set_are_siblings()
     ensures { (h : List Revision) (parent left right : ℕ) (p q : List (List ℕ)) (from to x y : Id) (key value : List ℕ) → parents_at h left ≡ parent ∷ [] → parents_at h right ≡ parent ∷ [] →
         tree_at h left ≡ tree_after (tree_at h parent) (Patch p from to ∷ []) x → tree_at h right ≡ tree_after (tree_at h parent) (Set q key value ∷ []) y →
         AreSiblings h parent left right }
+{}
+
+/// No merge of a generated history has conflicts, where the ident makes ids.
+pub fn merges_never_conflict()
+    ensures { (f : List ℕ → List ℕ) (n : ℕ) (s : State) (left right : Id) (c : Conflicts) → ((text : List ℕ) → IsIdBytes (f text)) → n < 2 ^ 64 →
+        Generates f n s (Err (Conflicting left right c)) → ⊥ }
 {}
 
 /// The text of each revision with one edge is read as it was written, where the ident makes ids.

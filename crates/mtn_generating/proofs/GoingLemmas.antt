@@ -8,7 +8,7 @@ use Rattle.mtn_conflicts.specs.declared.lists.Conflicts.{Conflicts}
 use Rattle.mtn_base.specs.declared.refusal.Cause.{Cause}
 use Rattle.mtn_generated.specs.Growing.Stop.{Refused}
 use Rattle.mtn_generated.specs.Growing.{Adds, AddsWork, Answer, MergesTips, PutsEdge, PutsText, Unless, files_refusal, grown, with_files}
-use Rattle.mtn_generated.specs.Numbered.{Work as GeneratedWork, edge_of, edge_text, files_of, no_id, tips_after}
+use Rattle.mtn_generated.specs.Numbered.{Work as GeneratedWork, edge_fault, edge_of, edge_text, files_of, no_id, tips_after}
 use Rattle.mtn_generated.specs.Numbered.Work.{Begins as GeneratedBegins, Patches as GeneratedPatches, Sets as GeneratedSets, Joins as GeneratedJoins, Renames as GeneratedRenames}
 use Rattle.mtn_history.specs.Damage.{IsDamage}
 use Rattle.mtn_history.specs.Errors.{IfDamage, IfStoreDamage}
@@ -41,7 +41,7 @@ use Rattle.mtn_replay.specs.Making.{edge_tree}
 use Rattle.mtn_roster.specs.Tree.{Tree}
 use Rattle.mtn_reading.specs.Unfit.{IsAnswered, IsShownFor}
 use Rattle.mtn_reading.proofs.UnfitReading.{at_told, if_told, wider}
-use Rattle.mtn_generating.specs.Generating.{Ends, Goes, IfGenerateDamage, IsOrdered, IsUndamaged, PutsFiles, Reaches}
+use Rattle.mtn_generating.specs.Generating.{Ends, Goes, IfGenerateDamage, IsOrdered, IsTreeless, PutsFiles, Reaches}
 use Rattle.mtn_generating.specs.Numbered.{text_over, tips_of, work_of}
 use Rattle.mtn_generating.specs.Unfit.{IsAnsweredBy, IsShownWith}
 use Rattle.mtn_generating.specs.declared.error.GenerateError.{GenerateError}
@@ -75,10 +75,22 @@ ends_more Is More on (error.Conflicting left right conflicts) ends = on _ ends
 ends_more Is More on (error.Failed (history.Refused cause)) ends = on _ ends
 ends_more Is More on (error.Failed (history.Store e)) ends = ends
 
-pub ends_undamaged : (Is : Answer → Type 0) (e : GenerateError) → IsUndamaged e → Ends e Is
-ends_undamaged Is (error.Conflicting left right conflicts) sound = absurd sound
-ends_undamaged Is (error.Failed (history.Refused cause)) sound = absurd sound
-ends_undamaged Is (error.Failed (history.Store e)) sound = sound
+-- there was no tree
+pub ends_treeless : (Is : Answer → Type 0) (fault : Option Cause) (e : GenerateError) → ((cause : Cause) → fault ≡ Some cause → Is (Err (Refused cause))) → IsTreeless fault e → Ends e Is
+ends_treeless Is fault (error.Conflicting left right conflicts) refuses treeless = absurd treeless
+ends_treeless Is fault (error.Failed (history.Refused cause)) refuses treeless = refuses cause treeless
+ends_treeless Is fault (error.Failed (history.Store e)) refuses treeless = treeless
+
+-- ---- a refusal, or none
+
+unless_none : (o : Option Cause) (Is : Answer → Type 0) (answer : Answer) → o ≡ None → Is answer → Unless o Is answer
+unless_none o Is answer none is = subst (λ x. Unless x Is answer) (sym none) is
+
+unless_some : (o : Option Cause) (Is : Answer → Type 0) (cause : Cause) → o ≡ Some cause → Unless o Is (Err (Refused cause))
+unless_some o Is cause some =
+    let stop : Answer = Err (Refused cause) in
+    let is : stop ≡ Err (Refused cause) = refl in
+    subst (λ x. Unless x Is stop) (sym some) is
 
 -- no damage at all is one that is shown
 pub never_shown : (told : Option Contents) (e : HistoryError) → IfStoreDamage e (λ _. ⊥) → IfSome told (λ c. IfGenerateDamage (error.Failed e) (IsShownWith c))
@@ -102,10 +114,10 @@ never_damaged f told c p s (history.Refused cause) now draft damaged = tt
 never_damaged f told c p s (history.Store e) now draft damaged = never f c p s e draft (at_told told (λ k. IsCounted p k → IfDamage e (IsDamage (with_all k p.batch))) c now damaged (draft_counts f c p s draft))
 
 -- the error of a call that is no refusal
-pub undamaged : (e : StoreError) (answer : GenerateError) → IsAnsweredBy (history.Store e) answer → IfDamage e (λ _. ⊥) → IsUndamaged answer
-undamaged Failed answer is sound = subst IsUndamaged (sym is) tt
-undamaged NoMemory answer is sound = subst IsUndamaged (sym is) tt
-undamaged (Damaged d) answer is sound = absurd sound
+pub undamaged : (fault : Option Cause) (e : StoreError) (answer : GenerateError) → IsAnsweredBy (history.Store e) answer → IfDamage e (λ _. ⊥) → IsTreeless fault answer
+undamaged fault Failed answer is sound = subst (IsTreeless fault) (sym is) tt
+undamaged fault NoMemory answer is sound = subst (IsTreeless fault) (sym is) tt
+undamaged fault (Damaged d) answer is sound = absurd sound
 
 -- what is shown is shown for a damage of the draft's records
 wider_store : (P Q : Damage → Type 0) → ((d : Damage) → P d → Q d) → (e : HistoryError) → IfStoreDamage e P → IfStoreDamage e Q
@@ -203,34 +215,56 @@ module _ (f : List ℕ → List ℕ) {K : Type 0} (contents : K → Option Conte
     abbrev pub PutsOne : State → Answer → Type 0
     PutsOne s = PutsEdge f (work_of work) (tips_of tips) s i
 
+    abbrev the_edge : Edge
+    the_edge = edge_of f i (work_of work) (tips_of tips)
+
+    refuses_edge : (told : Option Contents) (p : Pending) (s : State) (d : IsFounded f told p s) (cause : Cause) → edge_fault d.stands.history the_edge ≡ Some cause → PutsOne s (Err (Refused cause))
+    refuses_edge told p s d cause fault = record {
+      history = d.stands.history;
+      spelled = d.stands.spelled;
+      puts = unless_some (edge_fault d.stands.history the_edge) (PutsText f (work_of work) (tips_of tips) s (edge_text f d.stands.history the_edge)) cause fault;
+    }
+
     -- its tree was not made
-    pub no_tree : (old new : K) (before after : Pending) (e : GenerateError) → Stays contents leaves faults old new →
-        ((g : List ℕ → List ℕ) (s : State) → (d : IsFounded g (contents new) before s) → IsUndamaged e) → IsOrdered e → IfSome (contents new) (λ c. IfGenerateDamage e (IsShownWith c)) →
+    pub no_tree : (old new : K) (before after : Pending) (edge : Edge) (e : GenerateError) → edge ≡ the_edge → Stays contents leaves faults old new →
+        ((g : List ℕ → List ℕ) (s : State) → (d : IsFounded g (contents new) before s) → IsTreeless (edge_fault d.stands.history edge) e) → IsOrdered e → IfSome (contents new) (λ c. IfGenerateDamage e (IsShownWith c)) →
         (e ≡ error.Failed (history.Store Failed) → Rose (faults old) (faults new)) → Goes f contents leaves faults old new before after PutsOne (Err e)
-    no_tree old new before after e stays sound ordered shown rose = record {
+    no_tree old new before after edge e named stays treeless ordered shown rose = record {
       stays = stays;
-      done = λ c s now draft. ends_undamaged (PutsOne s) e (sound f s (founded f (contents new) c before s now draft));
+      done = λ c s now draft.
+          let d = founded f (contents new) c before s now draft in
+          ends_treeless (PutsOne s) (edge_fault d.stands.history the_edge) e (refuses_edge (contents new) before s d) (subst (λ (x : Edge). IsTreeless (edge_fault d.stands.history x) e) named (treeless f s d));
       ordered = ordered;
       damaged = shown;
       failed = λ same. rose (let both : fails e ≡ fails (error.Failed (history.Store Failed)) = same in cc);
     }
 
     -- the text over the tree is the one that is defined
-    pub text_is : (told : Option Contents) (p : Pending) (e : Edge) (t : Tree) → e ≡ edge_of f i (work_of work) (tips_of tips) → ((g : List ℕ → List ℕ) (s : State) (d : IsFounded g told p s) → t ≡ edge_tree d.stands.history no_id e) →
-        (s : State) → (d : IsFounded f told p s) → text_over f t e ≡ edge_text f d.stands.history (edge_of f i (work_of work) (tips_of tips))
+    pub text_is : (told : Option Contents) (p : Pending) (e : Edge) (t : Tree) → e ≡ the_edge → ((g : List ℕ → List ℕ) (s : State) (d : IsFounded g told p s) → t ≡ edge_tree d.stands.history no_id e) →
+        (s : State) → (d : IsFounded f told p s) → text_over f t e ≡ edge_text f d.stands.history the_edge
     text_is told p e t is made s d = ap (λ (x : Tree). text_over f x e) (made f s d) ∙ ap (edge_text f d.stands.history) is
+
+    -- an edge that makes a tree has no fault
+    pub no_fault : (told : Option Contents) (p : Pending) (e : Edge) → e ≡ the_edge → ((g : List ℕ → List ℕ) (s : State) (d : IsFounded g told p s) → edge_fault d.stands.history e ≡ None) →
+        (s : State) → (d : IsFounded f told p s) → edge_fault d.stands.history the_edge ≡ None
+    no_fault told p e is fine s d = subst (λ (x : Edge). edge_fault d.stands.history x ≡ None) is (fine f s d)
 
     -- its text is that of the tree
     pub edge_put : (old mid new : K) (before middle after : Pending) (text : List ℕ) (result : Result Tips GenerateError) → middle ≡ before → Stays contents leaves faults old mid →
-        ((s : State) → (d : IsFounded f (contents mid) before s) → text ≡ edge_text f d.stands.history (edge_of f i (work_of work) (tips_of tips))) →
+        ((s : State) → (d : IsFounded f (contents mid) before s) → edge_fault d.stands.history the_edge ≡ None) → ((s : State) → (d : IsFounded f (contents mid) before s) → text ≡ edge_text f d.stands.history the_edge) →
         Goes f contents leaves faults mid new middle after (Puts work tips text) result → Goes f contents leaves faults old new before after PutsOne result
-    edge_put old mid new before middle after text result same first spelled goes =
+    edge_put old mid new before middle after text result same first fine spelled goes =
         goes_on old mid new before middle after (Puts work tips text) PutsOne result first
         (λ c s now draft.
         let d = founded f (contents mid) c before s now draft in (
           s,
           subst (λ (p : Pending). IsDraft f c p s) (sym same) draft,
-          λ answer puts. record { history = d.stands.history; spelled = d.stands.spelled; puts = subst (λ (w : List ℕ). PutsText f (work_of work) (tips_of tips) s w answer) (spelled s d) puts },
+          λ answer puts. record {
+            history = d.stands.history;
+            spelled = d.stands.spelled;
+            puts = unless_none (edge_fault d.stands.history the_edge) (PutsText f (work_of work) (tips_of tips) s (edge_text f d.stands.history the_edge)) answer (fine s d)
+                (subst (λ (w : List ℕ). PutsText f (work_of work) (tips_of tips) s w answer) (spelled s d) puts);
+          },
         )) goes
 
     -- what does not join is a revision with one edge
@@ -299,14 +333,9 @@ module _ (f : List ℕ → List ℕ) {K : Type 0} (contents : K → Option Conte
     abbrev pub AddsOne : State → Answer → Type 0
     AddsOne s = Adds f i (work_of work) (grown s (tips_of tips))
 
-    unless_none : (o : Option Cause) (Is : Answer → Type 0) (answer : Answer) → o ≡ None → Is answer → Unless o Is answer
-    unless_none o Is answer none is = subst (λ x. Unless x Is answer) (sym none) is
-
     files_end : (c : Contents) (s : State) (p : Pending) (e : HistoryError) → PutsFiles f c s (files_of i (work_of work)) (Err e) p → Ends (error.Failed e) (AddsOne s)
     files_end c s p (history.Refused cause) puts =
-        let stop : Answer = Err (Refused cause) in
-        let is : stop ≡ Err (Refused cause) = refl in
-        subst (λ (x : Option Cause). Unless x (AddsWork f i (tips_of tips) (with_files f s (files_of i (work_of work))) (work_of work)) stop) (sym puts) is
+        unless_some (files_refusal f s (files_of i (work_of work))) (AddsWork f i (tips_of tips) (with_files f s (files_of i (work_of work))) (work_of work)) cause puts
     files_end c s p (history.Store e) puts = puts
 
     pub files_failed : (old new : K) (before after : Pending) (texts : List (List ℕ)) (e : HistoryError) → texts ≡ files_of i (work_of work) → Stays contents leaves faults old new →

@@ -1,30 +1,38 @@
 -- One change that adds no node makes the same tree under every id.
-use Rattle.std.specs.Prelude.{Contains, IfOk, IfSome, filter_map, find, map, option_and_then, reverse}
+use Rattle.std.specs.Prelude.{Contains, IfErr, IfOk, OnOk, filter_map, find, is_none, map, option_and_then, option_map, reverse}
 use Rattle.std.specs.Option.{option_map_or}
 use Rattle.std.proofs.Common.{◌≡◌, ◌≢◌, ℕ, Bool, true, false, cond, List, [], ◌∷◌, ◌++◌, Option, Some, None, Result, Ok, Err, refl, sym, ap, ◌∙◌, subst, ⊎_elim}
 use Rattle.std.proofs.Math.Path.{fun_ext}
+use Rattle.mtn_apply.specs.Faults.{IsFault}
+use Rattle.mtn_apply.specs.declared.applying.ApplyError.{ApplyError}
 use Rattle.mtn_base.specs.Names.{same_name}
 use Rattle.mtn_base.specs.Lists.{is_some_with}
 use Rattle.mtn_base.specs.declared.id.Id.{Id}
 use Rattle.mtn_base.specs.declared.name.NodeName.{NodeName}
+use Rattle.mtn_base.specs.declared.refusal.Cause.{Cause}
+use Rattle.mtn_base.specs.declared.refusal.Cause.TheVariants.{UnknownParent}
 use Rattle.mtn_base.proofs.IdOrder.{contains_cases, contains_nil}
 use Rattle.mtn_changes.specs.declared.change.Change.{Change}
 use Rattle.mtn_changes.specs.declared.change.Change.TheVariants.{Delete, Rename, AddDir, AddFile, Patch, Clear, Set}
-use Rattle.mtn_changeset_laws.specs.Changes.{Occupant, added_by, aims_at, edited, if_kept, is_deleted, is_kept, kept_child, moves, occupant, occupant_by, occupant_name, occupant_up, old_after, put_by, slot_by, slot_up, tree_after}
+use Rattle.mtn_changes.specs.declared.change.Edge.{Edge}
+use Rattle.mtn_changeset_laws.specs.Changes.{Occupant, added_by, aims_at, edited, first_fault, if_kept, is_deleted, is_kept, kept_child, moves, occupant, occupant_by, occupant_name, occupant_up, old_after, or_else, put_by, slot_by, slot_up, tree_after}
 use Rattle.mtn_changeset_laws.specs.Changes.Occupant.{Old, Added}
 use Rattle.mtn_changeset_laws.specs.Laws.{RenamesDiffer}
-use Rattle.mtn_generated.specs.Numbered.{Tips, Work, changes_of, content_of, directory_at, edge_of, path_at, ten}
+use Rattle.mtn_generated.specs.Numbered.{Tips, Work, changes_of, content_of, directory_at, edge_fault, edge_of, no_id, path_at, ten}
 use Rattle.mtn_generated.specs.Numbered.Work.{Begins, Joins, Patches, Renames, Sets}
+use Rattle.mtn_history.specs.Marked.{FindsRoster}
+use Rattle.mtn_history.specs.declared.errors.HistoryError.{HistoryError}
+use Rattle.mtn_history.specs.declared.errors.HistoryError.TheVariants.{Refused}
 use Rattle.mtn_history_laws.specs.History.{Revision, tree_at}
 use Rattle.mtn_marking.specs.Graph.{IsMarkedAt}
 use Rattle.mtn_marking.specs.Marking.{MarkedTree}
-use Rattle.mtn_replay.specs.Making.{parent_tree, place_of}
+use Rattle.mtn_replay.specs.Making.{change_fault, edge_tree, parent_tree, place_of}
 use Rattle.mtn_roster.specs.Tree.{Tree, child_of, in_order, is_dir, node_at, root_of, with_attr}
 use Rattle.mtn_roster.specs.declared.entry.Body.TheVariants.{File}
 use Rattle.mtn_roster.specs.declared.entry.Entry.{Entry}
 use Rattle.mtn_roster.specs.declared.entry.Slot.{Slot}
 use Rattle.mtn_roster.specs.declared.entry.Slot.TheVariants.{Root, Below}
-use Rattle.mtn_generating.specs.Numbered.{AddsNothing, IsFit, IsOneKept}
+use Rattle.mtn_generating.specs.Numbered.{AddsNothing, IsFit, IsMade, IsOneKept, Makes}
 
 -- a node of the old tree, or none
 abbrev IsOld : Option Occupant → Type 0
@@ -169,12 +177,68 @@ fit f i Joins tips one = absurd (one refl)
 
 -- ---- what was made
 
-pub made_as : {T E F : Type 0} (made : Result T E) (r : Result (Option T) F) (x y : T) → IfOk r (λ tree. IfSome tree (λ t. made ≡ Ok t)) → IfOk made (λ t. t ≡ x) → x ≡ y → IfOk r (λ tree. IfSome tree (λ t. t ≡ y))
-made_as made (Err e) x y is ok same = tt
-made_as made (Ok None) x y is ok same = tt
-made_as made (Ok (Some t)) x y is ok same = subst (λ m. IfOk m (λ t'. t' ≡ x)) is ok ∙ same
+module _ (old : Tree) (changes : List Change) (x y : Id) (applied : Result Tree ApplyError) (ok : IfOk applied (λ t. t ≡ tree_after old changes x)) (fine : OnOk applied (first_fault old changes ≡ None))
+    (err : IfErr applied (IsFault old changes)) (same : tree_after old changes x ≡ tree_after old changes y) where
+  abbrev fault : Option Cause
+  fault = option_map (change_fault 1) (first_fault old changes)
+
+  one_made : (made : Result Tree Cause) → IsMade applied made → Makes fault (tree_after old changes y) made
+  one_made (Ok t) is = (ap (option_map (change_fault 1)) (subst (λ a. OnOk a (first_fault old changes ≡ None)) is fine), subst (λ a. IfOk a (λ t'. t' ≡ tree_after old changes x)) is ok ∙ same)
+  one_made (Err cause) is = ap (option_map (change_fault 1)) (subst (λ a. IfErr a (IsFault old changes)) is.2 err) ∙ ap (λ (c : Cause). Some c) (sym is.3)
+
+  pub makes_as : {E : Type 0} (r : Result (Result Tree Cause) E) → IfOk r (IsMade applied) → IfOk r (Makes fault (tree_after old changes y))
+  makes_as (Ok made) is = one_made made is
+  makes_as (Err e) is = tt
+
+-- the tree that is made, and why none is
+pub tree_made : (fault : Option Cause) (tree t : Tree) (made : Result Tree Cause) → made ≡ Ok t → Makes fault tree made → (fault ≡ None) × (t ≡ tree)
+tree_made fault tree t made is makes = subst (Makes fault tree) is makes
+
+pub not_made : (fault : Option Cause) (tree : Tree) (cause : Cause) (made : Result Tree Cause) → made ≡ Err cause → Makes fault tree made → fault ≡ Some cause
+not_made fault tree cause made is makes = subst (Makes fault tree) is makes
 
 -- ---- the parent's tree
 
 pub held_tree : (h : List Revision) (id : Id) (r : ℕ) (t : MarkedTree) → place_of h id ≡ Some r → IsMarkedAt h r t → parent_tree h (Some id) ≡ t.tree
 held_tree h id r t place marked = ap (λ o. option_map_or (tree_at h) o []) place ∙ marked.tree
+
+-- an id that is not found has no place
+pub unfound : (h : List Revision) (id : Id) (e : HistoryError) (cause : Cause) → e ≡ Refused cause → FindsRoster h id (Err e) → place_of h id ≡ None
+unfound h id e cause is finds = (subst (λ (x : HistoryError). FindsRoster h id (Err x)) is finds).1
+
+-- ---- the fault of an edge
+
+or_nothing : (o : Option Cause) → or_else o None ≡ o
+or_nothing None = refl
+or_nothing (Some cause) = refl
+
+abbrev pub edge : Option Id → List Change → Edge
+edge parent changes = record { parent = parent; changes = changes }
+
+module _ (h : List Revision) (changes : List Change) where
+  abbrev fault_over : Option Id → Option Cause
+  fault_over parent = option_map (change_fault 1) (first_fault (parent_tree h parent) changes)
+
+  pub begun_fault : edge_fault h (edge None changes) ≡ fault_over None
+  begun_fault = or_nothing (fault_over None)
+
+  module _ (parent : Id) where
+    abbrev by_place : Option ℕ → Option Cause
+    by_place o = or_else (option_map UnknownParent (cond (is_none o) (Some parent) None)) (or_else (fault_over (Some parent)) None)
+
+    pub held_fault : (r : ℕ) → place_of h parent ≡ Some r → edge_fault h (edge (Some parent) changes) ≡ fault_over (Some parent)
+    held_fault r place = ap by_place place ∙ or_nothing (fault_over (Some parent))
+
+    pub unheld_fault : place_of h parent ≡ None → edge_fault h (edge (Some parent) changes) ≡ Some (UnknownParent parent)
+    unheld_fault none = ap by_place none
+
+    -- what is made of the tree that is held
+    pub held_makes : (r : ℕ) → place_of h parent ≡ Some r → {t : Tree} → t ≡ parent_tree h (Some parent) → (made : Result Tree Cause) → Makes (option_map (change_fault 1) (first_fault t changes)) (tree_after t changes no_id) made →
+        Makes (edge_fault h (edge (Some parent) changes)) (tree_after (parent_tree h (Some parent)) changes no_id) made
+    held_makes r place {t} same made makes = subst (λ (o : Option Cause). Makes o (tree_after (parent_tree h (Some parent)) changes no_id) made) (sym (held_fault r place))
+        (subst (λ (x : Tree). Makes (option_map (change_fault 1) (first_fault x changes)) (tree_after x changes no_id) made) same makes)
+
+pub begun_makes : (h : List Revision) (e : Edge) → e.parent ≡ None → (made : Result Tree Cause) → Makes (option_map (change_fault 1) (first_fault [] e.changes)) (tree_after [] e.changes no_id) made →
+    Makes (edge_fault h e) (edge_tree h no_id e) made
+begun_makes h e none made makes = subst (λ (o : Option Id). Makes (edge_fault h (edge o e.changes)) (tree_after (parent_tree h o) e.changes no_id) made) (sym none)
+    (subst (λ (o : Option Cause). Makes o (tree_after [] e.changes no_id) made) (sym (begun_fault h e.changes)) makes)

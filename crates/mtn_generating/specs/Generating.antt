@@ -1,5 +1,6 @@
 -- What the calls of the generator answer over a draft, and what is pending then.
 use Rattle.std.specs.Prelude.{◌≡◌, ℕ, List, Option, Some, None, Result, Ok, Err, IfErr, IfSome, ⊤}
+use Rattle.mtn_base.specs.declared.refusal.Cause.{Cause}
 use Rattle.mtn_conflicts.specs.ConflictText.{IsLesser}
 use Rattle.mtn_generated.specs.Growing.{Answer, Generates, Grown, files_refusal, grown, with_files}
 use Rattle.mtn_generated.specs.Growing.Stop.{Conflicting, Refused}
@@ -31,11 +32,11 @@ abbrev pub IsOrdered : GenerateError → Type 0
 IsOrdered (error.Conflicting left right conflicts) = IsLesser left right
 IsOrdered (error.Failed e) = ⊤
 
--- the error is no refusal, and over a state no damage comes
-abbrev pub IsUndamaged : GenerateError → Type 0
-IsUndamaged (error.Conflicting left right conflicts) = ⊥
-IsUndamaged (error.Failed (history.Refused cause)) = ⊥
-IsUndamaged (error.Failed (history.Store e)) = IfDamage e (λ _. ⊥)
+-- why there is no tree, over a state: the fault of its edge, and no damage comes
+abbrev pub IsTreeless : Option Cause → GenerateError → Type 0
+IsTreeless fault (error.Conflicting left right conflicts) = ⊥
+IsTreeless fault (error.Failed (history.Refused cause)) = fault ≡ Some cause
+IsTreeless fault (error.Failed (history.Store e)) = IfDamage e (λ _. ⊥)
 
 -- why it ends, over a state: it is so of the answer, and no damage comes
 abbrev pub Ends : GenerateError → (Answer → Type 0) → Type 0
@@ -63,8 +64,18 @@ PutsFiles f c s texts (Ok done) p = (files_refusal f s texts ≡ None) × IsDraf
 PutsFiles f c s texts (Err (history.Refused cause)) p = files_refusal f s texts ≡ Some cause
 PutsFiles f c s texts (Err (history.Store e)) p = IfDamage e (λ _. ⊥)
 
--- The answer of `generate` over a draft that stands for a state: the summary of what grew, and a draft that stands for it; or why
--- nothing is kept
-abbrev pub Tells : (List ℕ → List ℕ) → Contents → State → ℕ → Result (List ℕ) GenerateError → Pending → Type 0
-Tells f c s n (Ok text) p = (g : Grown) × Generates f n s (Ok g) × (text ≡ summary_text n g.tips.last) × IsDraft f c p g.state
-Tells f c s n (Err e) p = Ends e (Generates f n s)
+-- the summary of what grew, and a draft that stands for it
+abbrev pub Summed : (List ℕ → List ℕ) → Contents → State → ℕ → List ℕ → Pending → Type 0
+Summed f c s n text p = (g : Grown) × Generates f n s (Ok g) × (text ≡ summary_text n g.tips.last) × IsDraft f c p g.state
+
+-- the same, or why it ends
+abbrev pub Sums : (List ℕ → List ℕ) → Contents → State → ℕ → Result (List ℕ) GenerateError → Pending → Type 0
+Sums f c s n (Ok text) p = Summed f c s n text p
+Sums f c s n (Err e) p = Ends e (Generates f n s)
+
+-- The answer of `generate` over a draft that stands for a state: the summary of what grew, and a draft that stands for it; or the
+-- refusal by which nothing is kept
+abbrev pub Tells : (List ℕ → List ℕ) → Contents → State → ℕ → Result (List ℕ) HistoryError → Pending → Type 0
+Tells f c s n (Ok text) p = Summed f c s n text p
+Tells f c s n (Err (history.Refused cause)) p = Generates f n s (Err (Refused cause))
+Tells f c s n (Err (history.Store e)) p = IfDamage e (λ _. ⊥)

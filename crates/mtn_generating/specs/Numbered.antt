@@ -1,7 +1,12 @@
 -- The numbered definitions for values in memory.
-use Rattle.std.specs.Prelude.{ℕ, List, [], ◌∷◌, Option, Some, None, ⊤}
+use Rattle.std.specs.Prelude.{◌≡◌, ℕ, List, [], ◌∷◌, Option, Some, None, Result, Ok, Err, ⊤}
+use Rattle.mtn_apply.specs.declared.applying.ApplyError.{ApplyError}
+use Rattle.mtn_apply.specs.declared.applying.ApplyError.TheVariants as apply
 use Rattle.mtn_base.specs.Hex.{id_of}
 use Rattle.mtn_base.specs.declared.id.Id.{Id}
+use Rattle.mtn_base.specs.declared.refusal.Cause.{Cause}
+use Rattle.mtn_base.specs.declared.refusal.Cause.TheVariants.{BadChange}
+use Rattle.mtn_base.specs.declared.refusal.Why.{Why}
 use Rattle.mtn_basic_io.specs.Spelling.{spelling}
 use Rattle.mtn_changes.specs.RevisionText.{revision_stanzas}
 use Rattle.mtn_changes.specs.declared.change.Change.{Change}
@@ -44,6 +49,16 @@ Fits (Some parent) changes = IsOneKept changes
 
 abbrev pub IsFit : Edge → Type 0
 IsFit e = Fits e.parent e.changes
+
+-- what was applied, with its fault as the cause of a refusal
+abbrev pub IsMade : Result Tree ApplyError → Result Tree Cause → Type 0
+IsMade applied (Ok t) = applied ≡ Ok t
+IsMade applied (Err cause) = (number : ℕ) × (why : Why) × (applied ≡ Err (apply.BadChange number why)) × (cause ≡ BadChange 1 number why)
+
+-- this tree, where there is no fault, and else the fault
+abbrev pub Makes : Option Cause → Tree → Result Tree Cause → Type 0
+Makes fault tree (Ok t) = (fault ≡ None) × (t ≡ tree)
+Makes fault tree (Err cause) = fault ≡ Some cause
 
 -- the text of a revision that has this edge alone, and names the manifest of this tree
 abbrev pub text_over : (List ℕ → List ℕ) → Tree → Edge → List ℕ

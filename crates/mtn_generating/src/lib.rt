@@ -5,11 +5,12 @@
 //! remembers it.
 //!
 //! The crate above relies on this: over records that stand for a state, [`generate`] answers the summary of what `Generates` comes
-//! to there, and the draft stands for the state with all revisions; or the refusal, or the conflicts of a merge. After an error the
-//! draft has pending what it had before. Damage is answered only where the draft's records stand for no state.
+//! to there, and the draft stands for the state with all revisions; or the refusal. After an error the draft has pending what it had
+//! before. Damage is answered only where the draft's records stand for no state. No merge of a generated history has conflicts, by a
+//! law: where one finds some, the records stand for no state, and the first of them is shown as damage.
 //!
-//! It is not proved that the changes of every revision apply to its parent's tree. One whose changes failed would have no tree whose
-//! manifest its text could name, and is answered as want of memory; whatever is answered otherwise does not rest on this.
+//! A revision whose own changes fail over its parent's tree makes no tree, so that no text can name one: it is refused with the
+//! cause that `put_revision` gives for such changes. Want of memory is answered only where memory is wanting.
 //!
 //! Cost: a revision with one edge makes its tree twice, once to name its manifest and once where it is accepted; a merge is planned
 //! once. Trees have twelve nodes at most, so that the cost is linear in the number of revisions but for look-ups.
@@ -28,5 +29,5 @@ mod tree;
 mod whole;
 mod work;
 
-pub use error::GenerateError;
+use error::GenerateError;
 pub use whole::generate;

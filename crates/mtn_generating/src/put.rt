@@ -1,9 +1,9 @@
 // A revision, put.
-ghost use Rattle.std.specs.Prelude.{◌≡◌, ◌≢◌, ℕ, List, Err, IfErr, IfOk, IfSome};
+ghost use Rattle.std.specs.Prelude.{◌≡◌, ◌≢◌, ℕ, List, None, Err, IfErr, IfOk, IfSome, OnOk};
 ghost use Rattle.mtn_generated.specs.Growing.{AddsWork, MergesTips, PutsEdge, PutsText};
-ghost use Rattle.mtn_generated.specs.Numbered.{no_id};
+ghost use Rattle.mtn_generated.specs.Numbered.{edge_fault, no_id};
 ghost use Rattle.mtn_generated.specs.Numbered.Work.{Joins};
-ghost use Rattle.mtn_generating.specs.Generating.{Goes, IfGenerateDamage, IsOrdered, IsUndamaged};
+ghost use Rattle.mtn_generating.specs.Generating.{Goes, IfGenerateDamage, IsOrdered, IsTreeless};
 ghost use Rattle.mtn_generating.specs.Numbered.{IsFit, text_over, tips_of, work_of};
 ghost use Rattle.mtn_generating.specs.Unfit.{IsShownWith};
 ghost use Rattle.mtn_history.specs.Stands.{IsFounded};
@@ -52,7 +52,7 @@ fn put_text<I: Ident, K: Keeper>(
     }
 }
 
-// The tree that an edge makes. A revision whose changes fail has no tree to be named: it is answered as want of memory.
+// The tree that an edge makes, or why it makes none.
 fn tree_of<K: Keeper>(
     alloc: Global,
     draft: &mut Draft<'_, K>,
@@ -62,15 +62,16 @@ fn tree_of<K: Keeper>(
     ensures same_reference { draft.new.keeper.ghost_name ≡ draft.old.keeper.ghost_name }
     ensures stays { Stays K.contents K.leaves K.faults draft.old.keeper.now draft.new.keeper.now }
     ensures pending { draft.new.pending ≡ draft.old.pending }
+    ensures fine { (f : List ℕ → List ℕ) (s : State) → (d : IsFounded f (K.contents draft.new.keeper.now) draft.old.pending s) → OnOk result (edge_fault d.stands.history edge.now ≡ None) }
     ensures made { (f : List ℕ → List ℕ) (s : State) → (d : IsFounded f (K.contents draft.new.keeper.now) draft.old.pending s) → IfOk result (λ t. t ≡ tree_in d.stands.history no_id edge.now) }
-    ensures sound { (f : List ℕ → List ℕ) (s : State) → (d : IsFounded f (K.contents draft.new.keeper.now) draft.old.pending s) → IfErr result IsUndamaged }
+    ensures treeless { (f : List ℕ → List ℕ) (s : State) → (d : IsFounded f (K.contents draft.new.keeper.now) draft.old.pending s) → IfErr result (IsTreeless (edge_fault d.stands.history edge.now)) }
     ensures ordered { IfErr result IsOrdered }
     ensures damaged { IfSome (K.contents draft.new.keeper.now) (λ c. IfErr result (λ e. IfGenerateDamage e (IsShownWith c))) }
     ensures failed { result ≡ Err (GenerateError.Failed (HistoryError.Store StoreError.Failed)) → Rose (K.faults draft.old.keeper.now) (K.faults draft.new.keeper.now) }
 {
     match edge_tree(alloc, draft, edge) {
-        Ok(Some(tree)) => Ok(tree),
-        Ok(None) => Err(GenerateError::Failed(HistoryError::Store(StoreError::NoMemory))),
+        Ok(Ok(tree)) => Ok(tree),
+        Ok(Err(cause)) => Err(GenerateError::Failed(HistoryError::Refused(cause))),
         Err(error) => Err(shown(draft, HistoryError::Store(error))),
     }
 }

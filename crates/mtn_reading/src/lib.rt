@@ -31,4 +31,4 @@ mod unfit;
 pub use counts::Counts;
 pub use error::ReadError;
 pub use input::read;
-pub use unfit::kept_error;
+pub use unfit::{first_kept, kept_error};

@@ -60,8 +60,9 @@ fn first_in<K: Keeper>(draft: &mut Draft<'_, K>, table: u8) -> Result<Option<Dam
     }))
 }
 
-// The first record of the keeper's own, by tables and keys, if it has one.
-fn first_kept<K: Keeper>(draft: &mut Draft<'_, K>) -> Result<Option<Damage>, StoreError>
+/// The first record of the keeper's own, by tables and keys, as a damage that shows it; None where the keeper has none. It is shown
+/// where records stand for no state and none of them is known to be why.
+pub fn first_kept<K: Keeper>(draft: &mut Draft<'_, K>) -> Result<Option<Damage>, StoreError>
     ensures same_reference { draft.new.keeper.ghost_name ≡ draft.old.keeper.ghost_name }
     ensures stays { Stays K.contents K.leaves K.faults draft.old.keeper.now draft.new.keeper.now }
     ensures pending { draft.new.pending ≡ draft.old.pending }

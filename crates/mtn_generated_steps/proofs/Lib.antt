@@ -1,0 +1,15 @@
+pub mod Edits
+pub mod Patching
+pub mod Setting
+pub mod Renaming
+pub mod Same
+pub mod Edges
+pub mod Short
+pub mod Lengthening
+pub mod Moving
+pub mod Fitting
+pub mod Stages
+pub mod First
+pub mod Twins
+pub mod Beginning
+pub mod Growing

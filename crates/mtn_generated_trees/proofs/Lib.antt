@@ -1,0 +1,15 @@
+pub mod None
+pub mod Deciding
+pub mod Uniting
+pub mod Paths
+pub mod Forming
+pub mod Staying
+pub mod Limits
+pub mod Lengths
+pub mod Small
+pub mod Texts
+pub mod Apart
+pub mod Planning
+pub mod Merging
+pub mod Joined
+pub mod Tips

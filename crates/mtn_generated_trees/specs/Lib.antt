@@ -1,0 +1,3 @@
+pub mod Formed
+pub mod Joining
+pub mod Joined
