@@ -1,6 +1,5 @@
 // The whole check.
 ghost use Rattle.std.specs.Prelude.{◌≡◌, ℕ, Err, IfErr, IfOk, IfSome, OnOk, length};
-ghost use Rattle.mtn_base.specs.declared.refusal.Cause.{Cause};
 ghost use Rattle.mtn_check_laws.specs.FirstDamage.{IsCount, IsFirstDamage};
 ghost use Rattle.mtn_history.specs.Damage.{IsShown};
 ghost use Rattle.mtn_history.specs.Errors.{IfDamage, IfStoreDamage};
@@ -8,13 +7,15 @@ ghost use Rattle.mtn_history.specs.Stands.{Stands};
 ghost use Rattle.mtn_model.specs.State.{State};
 ghost use Rattle.mtn_ports.specs.Causes.{Rose};
 ghost use Rattle.mtn_ports.specs.Kept.{Stays};
+ghost use Rattle.mtn_check.specs.Forms.{IsOfForm};
 ghost use Rattle.mtn_check.specs.Steps.{Counts, IsWholeOf};
 
 use crate::begun::check_begun;
 use crate::beside::check_beside;
+use crate::form::refuse_older;
 use crate::meta::read_count;
 use mtn_check_laws::{no_damage_stands, standing_has_no_damage};
-use mtn_check_log::walk_log;
+use mtn_check_lots::walk_lots;
 use mtn_history::{HistoryError, StoreError};
 use mtn_ports::{Ident, Keeper};
 use std::alloc::Global;
@@ -36,7 +37,7 @@ fn check_all<R: Threads + Sync, I: Ident, K: Keeper>(
     ensures failed { result ≡ Err StoreError.Failed → Rose (K.faults keeper.old) (K.faults keeper.new) }
 {
     check_begun(alloc, ident, keeper)?;
-    walk_log(rt, alloc, ident, pieces, count, keeper)?;
+    walk_lots(rt, alloc, ident, pieces, count, keeper)?;
     check_beside(alloc, count, keeper)
 }
 
@@ -60,7 +61,29 @@ fn count_of<R: Threads + Sync, I: Ident, K: Keeper>(
     Ok(count)
 }
 
-/// Checks a store: the number of its revisions where its records stand for a state, and else their first damage.
+// The same of a store that is not of the older form, and what both answers say of its records.
+fn check_present<R: Threads + Sync, I: Ident, K: Keeper>(
+    rt: &R,
+    alloc: Global,
+    ident: &I,
+    pieces: usize,
+    keeper: &mut K,
+) -> Result<u64, StoreError>
+    ensures stays { Stays K.contents K.leaves K.faults keeper.old keeper.new }
+    ensures clean { IfSome (K.contents keeper.new) (λ c. IfOk result (λ n. (s : State) × Stands (I.meaning ident.now) c s × (n ≡ length s.log))) }
+    ensures damaged { IfSome (K.contents keeper.new) (λ c. IfErr result (λ e. IfDamage e (λ d. IsFirstDamage (I.meaning ident.now) c d × IsShown c d))) }
+    ensures failed { result ≡ Err StoreError.Failed → Rose (K.faults keeper.old) (K.faults keeper.new) }
+{
+    no_damage_stands();
+    standing_has_no_damage();
+    match count_of(rt, alloc, ident, pieces, keeper) {
+        Ok(count) => Ok(count),
+        Err(error) => Err(error),
+    }
+}
+
+/// Checks a store: the number of its revisions where its records stand for a state, and else their first damage. A store of the
+/// older form is refused, and no other (`form`).
 ///
 /// All records are looked at in the order of `IsFirstDamage` (`mtn_check_laws`), each file is hashed once, and nothing is written.
 /// Beside the walk along the log, whose memory is its own, it takes memory for a record or two at a time.
@@ -72,14 +95,15 @@ pub fn check_store<R: Threads + Sync, I: Ident, K: Keeper>(
     keeper: &mut K,
 ) -> Result<u64, HistoryError>
     ensures stays { Stays K.contents K.leaves K.faults keeper.old keeper.new }
+    ensures form { IfSome (K.contents keeper.new) (λ c. IsOfForm c result) }
     ensures clean { IfSome (K.contents keeper.new) (λ c. IfOk result (λ n. (s : State) × Stands (I.meaning ident.now) c s × (n ≡ length s.log))) }
     ensures damaged { IfSome (K.contents keeper.new) (λ c. IfErr result (λ e. IfStoreDamage e (λ d. IsFirstDamage (I.meaning ident.now) c d × IsShown c d))) }
-    ensures unrefused { IfErr result (λ e. (cause : Cause) → e ≡ HistoryError.Refused cause → ⊥) }
     ensures failed { result ≡ Err (HistoryError.Store StoreError.Failed) → Rose (K.faults keeper.old) (K.faults keeper.new) }
 {
-    no_damage_stands();
-    standing_has_no_damage();
-    match count_of(rt, alloc, ident, pieces, keeper) {
+    if let Err(error) = refuse_older(alloc, keeper) {
+        return Err(error);
+    }
+    match check_present(rt, alloc, ident, pieces, keeper) {
         Ok(count) => Ok(count),
         Err(error) => Err(HistoryError::Store(error)),
     }

@@ -18,6 +18,7 @@ mod begun;
 mod beside;
 mod check;
 mod empty;
+mod form;
 mod meta;
 mod number;
 mod places;

@@ -64,7 +64,7 @@ module _ (f : List ℕ → List ℕ) (c d : Contents) (files : c 2 ≡ d 2) wher
       is ∙ (λ i. with_step (before i) (same i)) ∙ sym is'
 
 -- a new text that is accepted ends the log
-taken : (f : List ℕ → List ℕ) (s t : State) (text : List ℕ) → text_under s.log (f text) ≡ None → Decides f s text None t → t ≡ record s { log = s.log ++ record { id = f text; text = text } ∷ [] }
+pub taken : (f : List ℕ → List ℕ) (s t : State) (text : List ℕ) → text_under s.log (f text) ≡ None → Decides f s text None t → t ≡ record s { log = s.log ++ record { id = f text; text = text } ∷ [] }
 taken f s t text new (inl long) = absurd (let e = long.is in cc)
 taken f s t text new (inr (inl unread)) = absurd (let e = unread.is in cc)
 taken f s t text new (inr (inr is)) = is.after ∙ ap (λ o. logged_beside o f s text) new

@@ -13,21 +13,22 @@ use Rattle.mtn_history.specs.Stands.{IsNew, StandsFor}
 use Rattle.mtn_history.specs.declared.errors.HistoryError.TheVariants.{Refused}
 use Rattle.mtn_history.specs.declared.pending.Pending.{Pending}
 use Rattle.mtn_put_revision.specs.Accepting.{KeepsRevision}
-use Rattle.mtn_check_log.specs.Positions.{IsAgain, IsDueIn}
-use Rattle.mtn_check_log.specs.declared.due.Due.{Due}
+use Rattle.mtn_check_log.specs.Positions.{AreBroughtIn, IsTaken}
+use Rattle.mtn_check_log.specs.declared.due.Records.{Records}
 
 -- records among which there is one are not those of a new store
-standing : (f : List ℕ → List ℕ) (d : Contents) (t : State) (table : ℕ) (key body : List ℕ) (b : Bool) → MatchBool b (IsNew d t) (StandsFor f d t) → body_at d table key ≡ Some body → StandsFor f d t
+pub standing : (f : List ℕ → List ℕ) (d : Contents) (t : State) (table : ℕ) (key body : List ℕ) (b : Bool) → MatchBool b (IsNew d t) (StandsFor f d t) → body_at d table key ≡ Some body → StandsFor f d t
 standing f d t table key body true new held =
     absurd (let both : Some body ≡ None = sym held ∙ ap (λ (e : Contents). body_at e table key) new.records ∙ get-empty (slice_cmp nat_cmp) key in cc)
 standing f d t table key body false stands held = stands
 
-pub brings : (f : List ℕ → List ℕ) (mid told : Option Contents) (p : Pending) (s : State) (r : ℕ) (text : List ℕ) (due : Due) (c : Contents) → Same mid told → told ≡ Some c →
-    (mid ≡ Some c → KeepsRevision f c s text (Ok tt) p) → IfSome told (λ e. IsDueIn (with_all e p.batch) r due) → IsAgain f s r text (Ok (Some due))
-brings f mid told p s r text due c same at keeps found =
+pub brings : (f : List ℕ → List ℕ) (mid told : Option Contents) (p : Pending) (s : State) (r : ℕ) (text : List ℕ) (records : Records) (c : Contents) → Same mid told → told ≡ Some c →
+    (mid ≡ Some c → KeepsRevision f c s text (Ok tt) p) → IfSome told (λ e. AreBroughtIn (with_all e p.batch) r records) →
+    IsTaken f s r text (with_all c p.batch) (Ok (Some records))
+brings f mid told p s r text records c same at keeps found =
     let k = keeps (same c at) in
-    let here : IsDueIn (with_all c p.batch) r due = subst (λ o. IfSome o (λ e. IsDueIn (with_all e p.batch) r due)) at found in
-    (with_all c p.batch, k.0, k.1, standing f (with_all c p.batch) k.0 4 (number_text r) due.log.items p.is_new k.2.stands here.0, here)
+    let here : AreBroughtIn (with_all c p.batch) r records = subst (λ o. IfSome o (λ e. AreBroughtIn (with_all e p.batch) r records)) at found in
+    (k.0, k.1, standing f (with_all c p.batch) k.0 4 (number_text r) records.log.items p.is_new k.2.stands here.0, here)
 
-pub refused_again : (f : List ℕ → List ℕ) (c : Contents) (s : State) (r : ℕ) (text : List ℕ) (cause : Cause) (p : Pending) → KeepsRevision f c s text (Err (Refused cause)) p → IsAgain f s r text (Ok None)
+pub refused_again : (f : List ℕ → List ℕ) (c : Contents) (s : State) (r : ℕ) (text : List ℕ) (cause : Cause) (p : Pending) → KeepsRevision f c s text (Err (Refused cause)) p → IsTaken f s r text (with_all c p.batch) (Ok None)
 refused_again f c s r text cause p k = (cause, k.0, k.1)

@@ -2,6 +2,7 @@ pub mod Keys
 pub mod Showing
 pub mod Standing
 pub mod Accepted
+pub mod Carrying
 pub mod Verdicts
 pub mod Bringing
 pub mod Told

@@ -1,5 +1,5 @@
 -- What is told of a position, as its verdict.
-use Rattle.std.specs.Prelude.{IfErr, IfSome, OnOk, bytes_eq, not}
+use Rattle.std.specs.Prelude.{IfErr, IfOk, IfSome, OnOk, bytes_eq, not}
 use Rattle.std.proofs.lemmas.Slice.Eq.{bytes_eq-Decides}
 use Rattle.std.proofs.Common.{◌≡◌, ℕ, Bool, true, false, List, ◌++◌, length, Option, Some, None, Result, Ok, Err, refl, sym, ap, ◌∙◌, subst, inr}
 use Rattle.mtn_model.specs.State.{State}
@@ -9,6 +9,7 @@ use Rattle.mtn_records.specs.Fields.{number_text}
 use Rattle.mtn_records.specs.declared.record.LogRecord.{LogRecord}
 use Rattle.mtn_history.specs.Errors.{IfDamage}
 use Rattle.mtn_history.specs.Stands.{StandsFor}
+use Rattle.mtn_history.specs.declared.memory.Memory.{Memory}
 use Rattle.mtn_history.specs.declared.errors.Damage.{Damage}
 use Rattle.mtn_history.specs.declared.errors.Damage.TheVariants.{Bad}
 use Rattle.mtn_history.specs.declared.errors.StoreError.{StoreError}
@@ -17,11 +18,11 @@ use Rattle.mtn_check_laws.specs.FirstDamage.{IsBegun, IsDamageAt}
 use Rattle.mtn_check_laws.specs.Fronts.{Front, IsFrontAt}
 use Rattle.mtn_check_laws.proofs.Standing.{front_stands}
 use Rattle.mtn_check_log.specs.Below.{below}
-use Rattle.mtn_check_log.specs.Positions.{state_of, IsAgain, IsEntryAt, IsMisplaced, IsOtherAt, IsRecordOf, IsRight, IsSameAt, IsTextOf, IsUntold, IsWrong}
+use Rattle.mtn_check_log.specs.Positions.{state_of, IsAgain, IsEntryAt, IsKnownBehind, IsMisplaced, IsOtherAt, IsRecordOf, IsRight, IsSameAt, IsTextOf, IsUntold, IsWrong}
 use Rattle.mtn_check_log.specs.declared.due.Due.{Due}
 use Rattle.mtn_check_log.proofs.Showing.{both_told}
 use Rattle.mtn_check_log.proofs.Standing.{below_stands}
-use Rattle.mtn_check_log.proofs.Verdicts.{untold_damage, other_id, refused, right, other}
+use Rattle.mtn_check_log.proofs.Verdicts.{untold_damage, other_id, refused, right, known, other}
 
 -- bytes that were told apart
 pub differs : (ne : Bool) (a b : List ℕ) → ne ≡ true → ne ≡ not (bytes_eq a b) → a ≡ b → ⊥
@@ -95,27 +96,40 @@ module _ (f : List ℕ → List ℕ) (r : ℕ) (entry : LogRecord) (log body tex
         subst (IsDamageAt f c r front) (sym bad_is) (refused f c n r begun front walked entry log is body text held own k.0 k.1 k.2)) shown
 
     module _ (due : Due) (old mid : Option Contents) (same : Same old mid) (at : IfSome old Entered) (found : IfSome old Spelled) (over : IsOver f mid r text (Ok (Some due))) where
-      right_of : (c : Contents) → mid ≡ Some c → IsSameAt c r log due → (n : ℕ) → IsRight f c n r
+      right_of : (c : Contents) → mid ≡ Some c → IsSameAt c r log due.records → (n : ℕ) → IsRight f c n r
       right_of c told is n begun front walked =
           let entered : Entered c = subst (λ o. IfSome o Entered) (same c told) at in
           let held : Spelled c = subst (λ o. IfSome o Spelled) (same c told) found in
           let k = over_front f mid r text (Ok (Some due)) over c told n begun front walked in
-          right f c n r begun front walked entry log entered body text held own due k.0 k.1 k.2 k.3 k.4.0 k.4.1 is
+          right f c n r begun front walked entry log entered body text held own due.records k.0 k.1 k.2 k.3 k.4.0.0 k.4.0.1 is
 
-      wrong_of : (c : Contents) → mid ≡ Some c → (d : Damage) → IsOtherAt c r log due d → (n : ℕ) → IsWrong f c n r d
+      wrong_of : (c : Contents) → mid ≡ Some c → (d : Damage) → IsOtherAt c r log due.records d → (n : ℕ) → IsWrong f c n r d
       wrong_of c told d is n begun front walked =
           let entered : Entered c = subst (λ o. IfSome o Entered) (same c told) at in
           let held : Spelled c = subst (λ o. IfSome o Spelled) (same c told) found in
           let k = over_front f mid r text (Ok (Some due)) over c told n begun front walked in
-          other f c n r begun front walked entry log entered body text held own due k.0 k.1 k.2 k.3 k.4.0 k.4.1 d is
+          other f c n r begun front walked entry log entered body text held own due.records k.0 k.1 k.2 k.3 k.4.0.0 k.4.0.1 d is
 
-      pub told_right : (new : Option Contents) (result : Result (Unit {0}) StoreError) → Same mid new → IfSome new (λ c. OnOk result (IsSameAt c r log due)) → IfSome new (λ c. OnOk result ((n : ℕ) → IsRight f c n r))
+      known_of : (c : Contents) → mid ≡ Some c → IsSameAt c r log due.records → (n : ℕ) → IsKnownBehind f c n r due.memory
+      known_of c told is n begun front walked =
+          let entered : Entered c = subst (λ o. IfSome o Entered) (same c told) at in
+          let held : Spelled c = subst (λ o. IfSome o Spelled) (same c told) found in
+          let k = over_front f mid r text (Ok (Some due)) over c told n begun front walked in
+          known f c n r begun front walked entry log entered body text held own due.records k.0 k.1 k.2 k.3 k.4.0.0 k.4.0.1 is due.memory k.4.1
+
+      pub told_known : (new : Option Contents) (result : Result Memory StoreError) → Same mid new → IfSome new (λ c. OnOk result (IsSameAt c r log due.records)) → IfOk result (λ m. m ≡ due.memory) →
+          IfSome new (λ c. IfOk result (λ m. (n : ℕ) → IsKnownBehind f c n r m))
+      told_known None result later is memory = tt
+      told_known (Some c) (Err e) later is memory = tt
+      told_known (Some c) (Ok m) later is memory = subst (λ x. (n : ℕ) → IsKnownBehind f c n r x) (sym memory) (known_of c (later c refl) is)
+
+      pub told_right : (new : Option Contents) (result : Result Memory StoreError) → Same mid new → IfSome new (λ c. OnOk result (IsSameAt c r log due.records)) → IfSome new (λ c. OnOk result ((n : ℕ) → IsRight f c n r))
       told_right None result later is = tt
       told_right (Some c) (Err e) later is = tt
       told_right (Some c) (Ok done) later is = right_of c (later c refl) is
 
-      pub told_wrong : (new : Option Contents) (result : Result (Unit {0}) StoreError) → Same mid new → IfSome new (λ c. IfErr result (λ e. IfDamage e (IsOtherAt c r log due))) →
+      pub told_wrong : (new : Option Contents) (result : Result Memory StoreError) → Same mid new → IfSome new (λ c. IfErr result (λ e. IfDamage e (IsOtherAt c r log due.records))) →
           IfSome new (λ c. IfErr result (λ e. AreWrong f r e c))
       told_wrong None result later is = tt
       told_wrong (Some c) (Ok done) later is = tt
-      told_wrong (Some c) (Err e) later is = map_damage e (IsOtherAt c r log due) (λ d. (n : ℕ) → IsWrong f c n r d) (λ d o. wrong_of c (later c refl) d o) is
+      told_wrong (Some c) (Err e) later is = map_damage e (IsOtherAt c r log due.records) (λ d. (n : ℕ) → IsWrong f c n r d) (λ d o. wrong_of c (later c refl) d o) is

@@ -1,7 +1,7 @@
 -- What is found at a position comes to a step of the walk, or to the first damage there.
 use Rattle.std.specs.List.{flat_map}
 use Rattle.std.specs.Prelude.{IsSome}
-use Rattle.std.proofs.Common.{◌≡◌, ◌<◌, ℕ, List, [], ◌∷◌, ◌++◌, length, drop, Option, Some, None, refl, sym, ap, ◌∙◌, subst, inl, inr, arith}
+use Rattle.std.proofs.Common.{◌≡◌, ◌<◌, ℕ, ◌+◌, suc, List, [], ◌∷◌, ◌++◌, length, drop, Option, Some, None, refl, sym, ap, ◌∙◌, subst, inl, inr, add-one, arith}
 use Rattle.std.proofs.lemmas.List.{drop_at}
 use Rattle.mtn_ancestry.specs.Log.{list_of}
 use Rattle.mtn_base.specs.Hex.{id_of}
@@ -20,6 +20,8 @@ use Rattle.mtn_replay.specs.Making.{place_of}
 use Rattle.mtn_replay.specs.Texts.{text_under}
 use Rattle.mtn_replay.proofs.Histories.{history_is_grown, history_more}
 use Rattle.mtn_replay.proofs.Places.{within, inside}
+use Rattle.mtn_history.specs.Memory.{Knows}
+use Rattle.mtn_history.specs.declared.memory.Memory.{Memory}
 use Rattle.mtn_history.specs.Logs.{IsLogged, RepeatedAt}
 use Rattle.mtn_history.specs.Revisions.{Kept, IsRosterOf}
 use Rattle.mtn_history.specs.Stands.{StandsFor}
@@ -28,7 +30,7 @@ use Rattle.mtn_history.specs.declared.errors.Damage.TheVariants.{Bad, Missing}
 use Rattle.mtn_history.proofs.PlaceLemmas.{placed_is}
 use Rattle.mtn_history.proofs.TextLemmas.{text_missing}
 use Rattle.mtn_check_laws.specs.FirstDamage.{IsBegun, IsDamageAt, at_log, at_text, at_telling, at_roster, TextDamageAt}
-use Rattle.mtn_check_laws.specs.Fronts.{Front, Step, IsEntered, IsTextAt, IsTold, IsKeptNext, IsFrontAt, IsStepAt, StandsTo}
+use Rattle.mtn_check_laws.specs.Fronts.{Front, Step, with_step, IsEntered, IsTextAt, IsTold, IsKeptNext, IsFrontAt, IsStepAt, StandsTo}
 use Rattle.mtn_check_laws.specs.Sets.{HaveSets}
 use Rattle.mtn_check_laws.proofs.Due.{due_sets, front_sets, one_due}
 use Rattle.mtn_check_laws.proofs.Rosters.{one_kept}
@@ -36,8 +38,9 @@ use Rattle.mtn_check_laws.proofs.Standing.{front_stands}
 use Rattle.mtn_check_laws.proofs.Walks.{one_body, one_log}
 use Rattle.mtn_check_log.specs.Below.{below}
 use Rattle.mtn_check_log.specs.Positions.{state_of, IsEntryAt, IsMisplaced, IsOtherAt, IsSameAt, IsTextOf, IsUntold}
-use Rattle.mtn_check_log.specs.declared.due.Due.{Due}
-use Rattle.mtn_check_log.proofs.Accepted.{due_step, never_refused}
+use Rattle.mtn_check_log.specs.declared.due.Records.{Records}
+use Rattle.mtn_check_log.proofs.Accepted.{due_step, never_refused, taken}
+use Rattle.mtn_check_log.proofs.Carrying.{known_too}
 use Rattle.mtn_check_log.proofs.Standing.{below_stands, short, text_only}
 
 module _ (f : List ℕ → List ℕ) (c : Contents) (n r : ℕ) (begun : IsBegun f c n) (front : Front) (walked : IsFrontAt f c r front) where
@@ -109,12 +112,12 @@ module _ (f : List ℕ → List ℕ) (c : Contents) (n r : ℕ) (begun : IsBegun
         refused cause t decides = damaged_text (λ l v same is next.
             never_refused f c c r front walked text new cause t v (subst (λ (x : Logged). IsNext f (c 2) front.history x v) (λ i. record { id = (same ∙ own) i; text = is i }) next) decides)
 
-        module _ (due : Due) (d : Contents) (t : State) (decides : Decides f (state_of c front) text None t) (over : StandsFor f d t)
+        module _ (due : Records) (d : Contents) (t : State) (decides : Decides f (state_of c front) text None t) (over : StandsFor f d t)
             (due_log : body_at d 4 (number_text r) ≡ Some due.log.items) (due_roster : body_at d 5 (number_text r) ≡ Some due.roster.items) where
-          due_at : (s : Step) × (s.logged ≡ record { id = f text; text = text }) × IsStepAt f d r front s × (c 2 ≡ d 2)
+          pub due_at : (s : Step) × (s.logged ≡ record { id = f text; text = text }) × IsStepAt f d r front s × (c 2 ≡ d 2)
           due_at = due_step f c d r front walked text new t decides over
 
-          abbrev s : Step
+          abbrev pub s : Step
           s = due_at.0
 
           step : IsStepAt f d r front s
@@ -143,17 +146,29 @@ module _ (f : List ℕ → List ℕ) (c : Contents) (n r : ℕ) (begun : IsBegun
           told is = subst (λ e. IsTold front e s.revision) (same_entry is) step.told
 
           -- the records are those that are due
+          pub right_step : IsSameAt c r log due → IsStepAt f c r front s
+          right_step is = record {
+            entry = entry;
+            entered = entered found.new;
+            text = text_at;
+            told = told is.same;
+            roster = record { kept = step.roster.kept; body = step.roster.body; held = is.held ∙ ap Some (sym own_roster); is = step.roster.is };
+          }
+
           pub right : IsSameAt c r log due → (s : Step) × IsStepAt f c r front s
-          right is = (
-            s,
-            record {
-              entry = entry;
-              entered = entered found.new;
-              text = text_at;
-              told = told is.same;
-              roster = record { kept = step.roster.kept; body = step.roster.body; held = is.held ∙ ap Some (sym own_roster); is = step.roster.is };
-            },
-          )
+          right is = (s, right_step is)
+
+          -- the state that they end is that of the longer front
+          pub longer_state : t ≡ state_of c (with_step front s)
+          longer_state = taken f (state_of c front) t text new decides ∙ ap (λ (l : Logged). state_of c (record front { log = front.log ++ l ∷ [] })) (sym due_at.1)
+
+          -- and what is remembered of them is true of all that is shown with them
+          pub known : IsSameAt c r log due → (m : Memory) → Knows m d → Knows m (below (r + 1) c)
+          known is m knows =
+              let longer : Front = with_step front s in
+              let on : IsFrontAt f c (suc r) longer = (front, s, walked, right_step is, refl) in
+              let shows : StandsFor f (below (suc r) c) (state_of c longer) = below_stands f c (suc r) longer (front_stands f c (suc r) longer on) n begun in
+              subst (λ q. Knows m (below q c)) (sym (add-one r)) (known_too f d (below (suc r) c) (state_of c longer) (subst (StandsFor f d) longer_state over) shows m knows)
 
           -- another record of the log
           same_id : entry.id ≡ step.entry.id

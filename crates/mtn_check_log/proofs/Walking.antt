@@ -1,22 +1,23 @@
 -- The walk, a position after the other.
-use Rattle.std.specs.Prelude.{IfSome}
-use Rattle.std.proofs.Common.{◌<◌, ◌+◌, ℕ, List, Option, Some, None, refl, sym, subst, add-one}
+use Rattle.std.specs.Prelude.{IfSome, OnOk}
+use Rattle.std.proofs.Common.{◌<◌, ◌+◌, ℕ, List, Option, Some, None, Result, Ok, Err, refl, sym, subst, add-one}
 use Rattle.mtn_model.specs.Table.{Contents}
 use Rattle.mtn_ports.specs.Kept.{Same}
 use Rattle.mtn_ports.proofs.KeptLemmas.{if_same}
 use Rattle.mtn_history.specs.Errors.{IfDamage}
+use Rattle.mtn_history.specs.Memory.{Knows}
+use Rattle.mtn_history.specs.declared.memory.Memory.{Memory}
 use Rattle.mtn_history.specs.declared.errors.Damage.{Damage}
 use Rattle.mtn_history.specs.declared.errors.StoreError.{StoreError}
 use Rattle.mtn_check_laws.specs.FirstDamage.{IsBegun, IsDamageAt}
 use Rattle.mtn_check_laws.specs.Fronts.{Front, with_step, no_front, IsFrontAt}
-use Rattle.mtn_check_log.specs.Positions.{IsRight, IsWrong}
+use Rattle.mtn_check_log.specs.Positions.{IsFirstIn, IsKnownBehind, IsRight, IsWalkedTo, IsWrong}
+use Rattle.mtn_check_log.specs.Below.{below}
 use Rattle.mtn_check_log.proofs.Told.{AreWrong, map_damage}
 
--- a front of so many positions, in a store that is begun
-pub record IsWalkedTo (f : List ℕ → List ℕ) (n r : ℕ) (c : Contents) : Type 0 where
-  pub begun : IsBegun f c n
-  pub front : Front
-  pub walked : IsFrontAt f c r front
+pub told_all : (told : Option Contents) (P : Contents → Type 0) → ((c : Contents) → P c) → IfSome told P
+told_all None P all = tt
+told_all (Some c) P all = all c
 
 pub walk_begins : (f : List ℕ → List ℕ) (n : ℕ) (told : Option Contents) → IfSome told (λ c. IsBegun f c n) → IfSome told (IsWalkedTo f n 0)
 walk_begins f n None begun = tt
@@ -31,9 +32,17 @@ pub walk_goes_on : (f : List ℕ → List ℕ) (n r : ℕ) (old new : Option Con
 walk_goes_on f n r old None same is right = tt
 walk_goes_on f n r old (Some c) same is right = walked_more f n r c (if_same old (Some c) (IsWalkedTo f n r) same is) right
 
--- the first damage of a position below n
-abbrev pub IsFirstIn : (List ℕ → List ℕ) → ℕ → Contents → Damage → Type 0
-IsFirstIn f n c d = (r : ℕ) × (front : Front) × (r < n) × IsFrontAt f c r front × IsDamageAt f c r front d
+-- what is remembered of what is shown below the next position
+pub walk_knows : (f : List ℕ → List ℕ) (n r : ℕ) (m : Memory) (old new : Option Contents) → Same old new → IfSome old (IsWalkedTo f n r) → IfSome new (λ c. (k : ℕ) → IsKnownBehind f c k r m) →
+    IfSome new (λ c. Knows m (below (r + 1) c))
+walk_knows f n r m old None same is known = tt
+walk_knows f n r m old (Some c) same is known = let w : IsWalkedTo f n r c = if_same old (Some c) (IsWalkedTo f n r) same is in known n w.begun w.front w.walked
+
+pub walk_ends : {E : Type 0} (f : List ℕ → List ℕ) (n r : ℕ) (told : Option Contents) (result : Result (Unit {0}) E) → IfSome told (λ c. OnOk result (IsWalkedTo f n r c)) →
+    IfSome told (λ c. OnOk result ((front : Front) × IsFrontAt f c r front))
+walk_ends f n r None result is = tt
+walk_ends f n r (Some c) (Ok done) is = (is.front, is.walked)
+walk_ends f n r (Some c) (Err e) is = tt
 
 pub walk_stops : (f : List ℕ → List ℕ) (n r : ℕ) (old new : Option Contents) (e : StoreError) → Same old new → r < n → IfSome old (IsWalkedTo f n r) → IfSome new (AreWrong f r e) → IfSome new (λ c. IfDamage e (IsFirstIn f n c))
 walk_stops f n r old None e same lt is wrong = tt

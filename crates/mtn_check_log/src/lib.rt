@@ -8,7 +8,11 @@
 //! The crate above relies on this: `Ok` says that the records of each position are right, over the front that those below it
 //! spell; a damage is the first of the first position that has one; and the keeper is only asked.
 //!
-//! Cost: for each position what accepting its text costs in a store of which nothing is remembered, and the memory of one position.
+//! From position to position a draft's memory is handed on: what is remembered of the records that a text brings is true of those
+//! that stand there, where they are the same. So the rosters of parents are seldom read along their chains.
+//!
+//! Cost: for each position what accepting its text costs in a store whose last few rosters are remembered; the memory of these, of
+//! one position, and of the log records that the merges of the last 256 positions asked for.
 #![tactic(auto)]
 
 mod again;
@@ -21,4 +25,8 @@ mod position;
 mod shown;
 mod walk;
 
-pub use walk::walk_log;
+pub use below::Behind;
+pub use checked::check_position;
+pub use entry::{Entry, entry_at, record_of, text_in};
+pub use shown::get_shown;
+pub use walk::{walk_from, walk_log};

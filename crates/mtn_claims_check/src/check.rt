@@ -1,6 +1,6 @@
 //! A store is checked.
 ghost use Rattle.std.specs.Prelude.{◌≡◌, ℕ, Err, IfErr, IfOk, IfSome, length};
-ghost use Rattle.mtn_base.specs.declared.refusal.Cause.{Cause};
+ghost use Rattle.mtn_check.specs.Forms.{IsOfForm};
 ghost use Rattle.mtn_check_laws.specs.FirstDamage.{IsFirstDamage};
 ghost use Rattle.mtn_history.specs.Damage.{IsShown};
 ghost use Rattle.mtn_history.specs.Errors.{IfStoreDamage};
@@ -23,9 +23,9 @@ pub fn check_store<R: Threads + Sync, I: Ident, K: Keeper>(
     keeper: &mut K,
 ) -> Result<u64, HistoryError>
     ensures stays { Stays K.contents K.leaves K.faults keeper.old keeper.new }
+    ensures form { IfSome (K.contents keeper.new) (λ c. IsOfForm c result) }
     ensures clean { IfSome (K.contents keeper.new) (λ c. IfOk result (λ n. (s : State) × Stands (I.meaning ident.now) c s × (n ≡ length s.log))) }
     ensures damaged { IfSome (K.contents keeper.new) (λ c. IfErr result (λ e. IfStoreDamage e (λ d. IsFirstDamage (I.meaning ident.now) c d × IsShown c d))) }
-    ensures unrefused { IfErr result (λ e. (cause : Cause) → e ≡ HistoryError.Refused cause → ⊥) }
     ensures failed { result ≡ Err (HistoryError.Store StoreError.Failed) → Rose (K.faults keeper.old) (K.faults keeper.new) }
 {
     mtn_check::check_store(rt, alloc, ident, pieces, keeper)

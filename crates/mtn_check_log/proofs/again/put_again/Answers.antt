@@ -1,19 +1,22 @@
-use Rattle.std.proofs.Common.{Err, subst}
+use Rattle.std.proofs.Common.{Err, Ok, Some, subst, sym}
 use Rattle.mtn_ports.proofs.KeptLemmas.{stays_trans}
 use Rattle.mtn_put_revision.specs.Accepting.{KeepsRevision}
+use Rattle.mtn_ports.specs.Kept.{with_all}
+use Rattle.mtn_check_log.specs.Positions.{IsTaken}
 use Rattle.mtn_check_log.proofs.Bringing.{brings, refused_again}
 use Rattle.mtn_check_log.proofs.again.put_again.Goals as goal
 
-pub returns-in_err-due_of-in-Ok-clause-stays : goal.returns-in_err-due_of-in-Ok-clause-stays
-returns-in_err-due_of-in-Ok-clause-stays g c = stays_trans g.K.Keeper.contents g.K.Keeper.leaves g.K.Keeper.faults _ _ _ c.in-Ok.ensures.stays c.in_err-due_of-in-Ok.ensures.stays
+pub returns-in_err-records_of-in-Ok-clause-stays : goal.returns-in_err-records_of-in-Ok-clause-stays
+returns-in_err-records_of-in-Ok-clause-stays g c = stays_trans g.K.Keeper.contents g.K.Keeper.leaves g.K.Keeper.faults _ _ _ c.in-Ok.ensures.stays c.in_err-records_of-in-Ok.ensures.stays
 
 pub returns-in-Ok-clause-stays : goal.returns-in-Ok-clause-stays
-returns-in-Ok-clause-stays g c = stays_trans g.K.Keeper.contents g.K.Keeper.leaves g.K.Keeper.faults _ _ _ c.in-Ok.ensures.stays c.in_ok-due_of-in-Ok.ensures.stays
+returns-in-Ok-clause-stays g c = stays_trans g.K.Keeper.contents g.K.Keeper.leaves g.K.Keeper.faults _ _ _ c.in-Ok.ensures.stays c.in_ok-records_of-in-Ok.ensures.stays
 
 pub returns-in-Ok-clause-again : goal.returns-in-Ok-clause-again
 returns-in-Ok-clause-again g c d s at draft =
-    brings (g.I.Ident.meaning c.args.ident.now) (g.K.Keeper.contents c.put_revision_as.new.draft.keeper.now) (g.K.Keeper.contents c.due_of.new.draft.keeper.now) c.put_revision_as.new.draft.pending
-    s c.args.at c.args.text.now c.in_ok-due_of-in-Ok.field-0 d c.in_ok-due_of-in-Ok.ensures.stays.same at (λ told. c.in-Ok.ensures.accepts d s told draft) c.in_ok-due_of-in-Ok.ensures.found
+    subst (λ p. IsTaken (g.I.Ident.meaning c.args.ident.now) s c.args.at c.args.text.now (with_all d p.batch) (Ok (Some c.in_ok-records_of-in-Ok.field-0))) (sym c.in_ok-records_of-in-Ok.ensures.pending)
+    (brings (g.I.Ident.meaning c.args.ident.now) (g.K.Keeper.contents c.put_revision_as.new.draft.keeper.now) (g.K.Keeper.contents c.records_of.new.draft.keeper.now) c.put_revision_as.new.draft.pending
+    s c.args.at c.args.text.now c.in_ok-records_of-in-Ok.field-0 d c.in_ok-records_of-in-Ok.ensures.stays.same at (λ told. c.in-Ok.ensures.accepts d s told draft) c.in_ok-records_of-in-Ok.ensures.found)
 
 pub returns-in-Err-Refused-clause-again : goal.returns-in-Err-Refused-clause-again
 returns-in-Err-Refused-clause-again g c d s at draft =

@@ -4,7 +4,7 @@ use Rattle.std.proofs.lemmas.Result.{err_from_is_err_and}
 use Rattle.mtn_ports.proofs.KeptLemmas.{stays_trans}
 use Rattle.mtn_history.specs.Errors.{IfDamage}
 use Rattle.mtn_check_log.specs.Positions.{IsOtherAt, IsSameAt}
-use Rattle.mtn_check_log.proofs.Told.{AreWrong, IsOver, differs, told_never, told_other_id, told_refused, told_right, told_wrong}
+use Rattle.mtn_check_log.proofs.Told.{AreWrong, IsOver, differs, told_never, told_other_id, told_refused, told_known, told_right, told_wrong}
 use Rattle.mtn_check_log.proofs.checked.check_text.Goals as goal
 
 pub returns-then-ne-clause-wrong : goal.returns-then-ne-clause-wrong
@@ -25,14 +25,22 @@ returns-in-Some-clause-right g c =
     told_right (g.I.Ident.meaning c.args.ident.now) c.args.at c.args.entry.now.record c.args.entry.now.body.items c.args.body.now c.args.text.now (search rules) c.in-Some.due (g.K.Keeper.contents c.args.keeper.now) (g.K.Keeper.contents c.due_at.new.keeper) c.in_ok-due.ensures.stays.same c.requires.entry c.requires.text
     (subst (λ o. IsOver (g.I.Ident.meaning c.args.ident.now) (g.K.Keeper.contents c.due_at.new.keeper) c.args.at c.args.text.now (Ok o)) c.in-Some.is c.in_ok-due.ensures.again)
     (g.K.Keeper.contents c.compare.new.keeper) c.compare.result c.compare.ensures.stays.same
-    (subst (λ l. IfSome (g.K.Keeper.contents c.compare.new.keeper) (λ k. OnOk c.compare.result (IsSameAt k c.args.at l c.in-Some.due))) c.deref.ensures.value c.compare.ensures.same)
+    (subst (λ l. IfSome (g.K.Keeper.contents c.compare.new.keeper) (λ k. OnOk c.compare.result (IsSameAt k c.args.at l c.in-Some.due.records))) c.deref.ensures.value c.compare.ensures.same)
+
+pub returns-in-Some-clause-known : goal.returns-in-Some-clause-known
+returns-in-Some-clause-known g c =
+    told_known (g.I.Ident.meaning c.args.ident.now) c.args.at c.args.entry.now.record c.args.entry.now.body.items c.args.body.now c.args.text.now (search rules) c.in-Some.due (g.K.Keeper.contents c.args.keeper.now) (g.K.Keeper.contents c.due_at.new.keeper) c.in_ok-due.ensures.stays.same c.requires.entry c.requires.text
+    (subst (λ o. IsOver (g.I.Ident.meaning c.args.ident.now) (g.K.Keeper.contents c.due_at.new.keeper) c.args.at c.args.text.now (Ok o)) c.in-Some.is c.in_ok-due.ensures.again)
+    (g.K.Keeper.contents c.compare.new.keeper) c.compare.result c.compare.ensures.stays.same
+    (subst (λ l. IfSome (g.K.Keeper.contents c.compare.new.keeper) (λ k. OnOk c.compare.result (IsSameAt k c.args.at l c.in-Some.due.records))) c.deref.ensures.value c.compare.ensures.same)
+    c.compare.ensures.memory
 
 pub returns-in-Some-clause-wrong : goal.returns-in-Some-clause-wrong
 returns-in-Some-clause-wrong g c =
     told_wrong (g.I.Ident.meaning c.args.ident.now) c.args.at c.args.entry.now.record c.args.entry.now.body.items c.args.body.now c.args.text.now (search rules) c.in-Some.due (g.K.Keeper.contents c.args.keeper.now) (g.K.Keeper.contents c.due_at.new.keeper) c.in_ok-due.ensures.stays.same c.requires.entry c.requires.text
     (subst (λ o. IsOver (g.I.Ident.meaning c.args.ident.now) (g.K.Keeper.contents c.due_at.new.keeper) c.args.at c.args.text.now (Ok o)) c.in-Some.is c.in_ok-due.ensures.again)
     (g.K.Keeper.contents c.compare.new.keeper) c.compare.result c.compare.ensures.stays.same
-    (subst (λ l. IfSome (g.K.Keeper.contents c.compare.new.keeper) (λ k. IfErr c.compare.result (λ e. IfDamage e (IsOtherAt k c.args.at l c.in-Some.due)))) c.deref.ensures.value c.compare.ensures.damaged)
+    (subst (λ l. IfSome (g.K.Keeper.contents c.compare.new.keeper) (λ k. IfErr c.compare.result (λ e. IfDamage e (IsOtherAt k c.args.at l c.in-Some.due.records)))) c.deref.ensures.value c.compare.ensures.damaged)
 
 pub returns-in-None-clause-wrong : goal.returns-in-None-clause-wrong
 returns-in-None-clause-wrong g c =

@@ -1,29 +1,8 @@
-use Rattle.std.proofs.Common.{sym, ap, ◌∙◌, subst, Err}
-use Rattle.std.proofs.lemmas.Result.{err_from_is_err_and}
-use Rattle.std.specs.Prelude.{IfErr, IfSome}
-use Rattle.mtn_ports.proofs.KeptLemmas.{stays_itself, stays_trans}
-use Rattle.mtn_history.specs.Errors.{IfDamage}
-use Rattle.mtn_check_log.proofs.Walking.{walk_begins, walk_goes_on, walk_stops, IsFirstIn}
+use Rattle.mtn_check_log.proofs.Walking.{walk_begins, walk_ends}
 use Rattle.mtn_check_log.proofs.walk.walk_log.Goals as goal
 
-pub loop-at-init : goal.loop-at-init
-loop-at-init g c = record {
-  stays = stays_itself g.K.Keeper.contents g.K.Keeper.leaves g.K.Keeper.faults c.args.keeper.now;
-  walked = walk_begins (g.I.Ident.meaning c.args.ident.now) c.args.count (g.K.Keeper.contents c.args.keeper.now) c.requires.begun;
-}
+pub walk_from-requires-clause-walked : goal.walk_from-requires-clause-walked
+walk_from-requires-clause-walked g c κs lasts = walk_begins (g.I.Ident.meaning c.args.ident.now) c.args.count (g.K.Keeper.contents c.args.keeper.now) c.requires.begun
 
-pub loop-at-preserved : goal.loop-at-preserved
-loop-at-preserved g c = record {
-  stays = stays_trans g.K.Keeper.contents g.K.Keeper.leaves g.K.Keeper.faults _ _ _ c.loop-at.invariant.stays c.check_position.ensures.stays;
-  walked = walk_goes_on (g.I.Ident.meaning c.args.ident.now) c.args.count c.loop-at.at (g.K.Keeper.contents c.loop-at.keeper) (g.K.Keeper.contents c.check_position.new.keeper) c.check_position.ensures.stays.same c.loop-at.invariant.walked c.in_ok-check_position.ensures.right;
-}
-
-pub returns-in_err-check_position-clause-stays : goal.returns-in_err-check_position-clause-stays
-returns-in_err-check_position-clause-stays g c = stays_trans g.K.Keeper.contents g.K.Keeper.leaves g.K.Keeper.faults _ _ _ c.loop-at.invariant.stays c.in_err-check_position.ensures.stays
-
-pub returns-in_err-check_position-clause-damaged : goal.returns-in_err-check_position-clause-damaged
-returns-in_err-check_position-clause-damaged g c =
-    let p = err_from_is_err_and c.from_residual.result c.from_residual.ensures.1 in
-    subst (λ o. IfSome (g.K.Keeper.contents c.check_position.new.keeper) (λ k. IfErr o (λ e. IfDamage e (IsFirstIn (g.I.Ident.meaning c.args.ident.now) c.args.count k)))) (sym (p.1 ∙ ap Err p.2))
-    (walk_stops (g.I.Ident.meaning c.args.ident.now) c.args.count c.loop-at.at (g.K.Keeper.contents c.loop-at.keeper) (g.K.Keeper.contents c.check_position.new.keeper) c.in_err-check_position.field-0.0
-    c.in_err-check_position.ensures.stays.same c.loop-at-test.true c.loop-at.invariant.walked c.in_err-check_position.ensures.wrong)
+pub returns-clause-walked : goal.returns-clause-walked
+returns-clause-walked g c = walk_ends (g.I.Ident.meaning c.args.ident.now) c.args.count c.args.count (g.K.Keeper.contents c.walk_from.new.keeper) c.walk_from.result c.walk_from.ensures.walked

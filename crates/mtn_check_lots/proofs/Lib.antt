@@ -1,0 +1,5 @@
+pub mod Going
+pub mod Known
+pub mod Longer
+pub mod Reading
+pub mod Taken
