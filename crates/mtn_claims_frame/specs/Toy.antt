@@ -3,9 +3,10 @@
 use Rattle.std.specs.Prelude.{◌≡◌, ℕ, List, [], ◌∷◌, ◌++◌, Bool, true, false, Option, None, Some, codes, bytes_eq, ◌||◌, if◌then◌else◌}
 use Rattle.std.specs.FinMap.{get, insert}
 use Rattle.mtn_base.specs.declared.refusal.Cause.TheVariants.{NoBranch}
-use Rattle.mtn_model.specs.Table.{Contents, body_at}
+use Rattle.mtn_base.specs.declared.refusal.Refusal.{Refusal}
+use Rattle.mtn_model.specs.Table.{Contents, body_at, with_record}
 use Rattle.mtn_model.specs.State.{State}
-use Rattle.mtn_model.specs.Outcome.{Outcome}
+use Rattle.mtn_frame.specs.Outcome.{Outcome}
 use Rattle.mtn_model.specs.declared.status.Status.TheVariants as status
 use Rattle.mtn_ports.specs.Kept.{IsAbove, IsNext}
 use Rattle.mtn_frame.specs.Script.{refused}
@@ -37,6 +38,10 @@ pub record ToyFirst (c : Contents) (line : List ℕ) : Type 0 where
   pub least : IsNext c 2 toy_key true key
   pub is : line ≡ toy_line key
 
+-- no check is refused
+abbrev pub ToyRefuses : Contents → Refusal → Type 0
+ToyRefuses c refusal = ⊥
+
 abbrev pub ToyLines : List ℕ → Type 0
 ToyLines line = (key : List ℕ) × (line ≡ toy_line key)
 
@@ -62,16 +67,21 @@ toy_vouches words = if is_put words then false else is_check words
 abbrev pub toy_spelled : List (List ℕ) → Bool
 toy_spelled words = is_put words || is_check words || is_get words
 
+-- `put` alone changes the records, by its one file
+pub record ToyChanges (words : List (List ℕ)) (payload : List ℕ) (c d : Contents) : Type 0 where
+  pub puts : is_put words ≡ true
+  pub file : d ≡ with_record c 2 toy_key payload
+
 -- a payload is asked for by the first word
 abbrev pub toy_takes : List (List ℕ) → Bool
 toy_takes [] = false
 toy_takes (word ∷ rest) = bytes_eq word (codes "put")
 
 -- the payload is the file
-abbrev pub put_outcome : List ℕ → State → Outcome
+abbrev pub put_outcome : List ℕ → State → Outcome State
 put_outcome payload s = record { state = record s { files = insert s.files toy_key payload }; output = []; status = status.Ok }
 
-abbrev pub toy_found : State → Option (List ℕ) → Outcome
+abbrev pub toy_found : State → Option (List ℕ) → Outcome State
 toy_found s None = refused (record { packet = 0; cause = NoBranch }) s
 toy_found s (Some bytes) = record { state = s; output = bytes; status = status.Ok }
 
@@ -79,10 +89,10 @@ abbrev pub good_line : List ℕ
 good_line = codes "good" ++ 10 ∷ []
 
 -- nothing stands behind the one key
-abbrev pub checked : State → Outcome
+abbrev pub checked : State → Outcome State
 checked s = record { state = s; output = good_line; status = status.Ok }
 
-abbrev pub toy_outcome : List (List ℕ) → List ℕ → State → Outcome
+abbrev pub toy_outcome : List (List ℕ) → List ℕ → State → Outcome State
 toy_outcome words payload s =
     if is_put words then put_outcome payload s
     else if is_check words then checked s

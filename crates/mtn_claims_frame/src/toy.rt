@@ -1,8 +1,9 @@
 //! A made-up set of three commands, which shows that the frame can be met: `put` keeps the payload as the one file, `get` prints
 //! it, and `check` goes over the keeper itself, as no command over a file would: whether it holds anything behind the one key.
 ghost use Rattle.std.specs.Prelude.{◌≡◌, ◌≤◌, ◌∷◌, [], ℕ, List as Seq, Bool, true, false, ⊤, IfOk, OnOk};
-ghost use Rattle.mtn_claims_frame.specs.Toy.{ToyDamages, ToyFirst, ToyLines, ToyStands, checked, good_line, is_word as one_word, toy_key, toy_line, toy_outcome, toy_spelled, toy_takes, toy_vouches};
+ghost use Rattle.mtn_claims_frame.specs.Toy.{ToyChanges, ToyDamages, ToyFirst, ToyLines, ToyRefuses, ToyStands, checked, good_line, is_word as one_word, toy_key, toy_line, toy_outcome, toy_spelled, toy_takes, toy_vouches};
 ghost use Rattle.mtn_frame.specs.Works.{Works};
+ghost use Rattle.mtn_model.specs.State.{State};
 
 use mtn_base::{Bytes, Cause, List, NoMemory, Refusal};
 use mtn_frame::{Commands, Reply, WorkError, Worked};
@@ -60,8 +61,8 @@ fn damage_line(alloc: Global, key: &[u8]) -> Result<Bytes, NoMemory>
 
 // Looks at the keeper itself.
 fn check<K: Keeper>(alloc: Global, keeper: &mut K) -> Result<Worked, WorkError>
-    ensures { Works ToyStands ToyDamages ToyFirst ToyLines {M = Unit {0}} (λ m c. ⊤) K.contents K.leaves K.faults K.reads keeper.old keeper.new tt
-        true false true (λ s o. o ≡ checked s) (λ s n. n ≡ 1) result }
+    ensures { Works ToyStands ToyDamages ToyFirst ToyRefuses ToyLines {M = Unit {0}} (λ m c. ⊤) K.contents K.leaves K.faults K.reads keeper.old keeper.new tt
+        true false true (λ s o. o ≡ checked s) (λ s n. n ≡ 1) (λ c d. ⊥) result }
 {
     let mut key = Vec::new(alloc);
     match keeper.next(2, &[1], &mut key) {
@@ -77,6 +78,8 @@ fn check<K: Keeper>(alloc: Global, keeper: &mut K) -> Result<Worked, WorkError>
 impl Commands for Toy {
     type Memory = ();
 
+    ghost State = { State };
+
     ghost stands = { λ _. ToyStands };
 
     ghost does = { λ _ words payload s o. o ≡ toy_outcome words payload s };
@@ -85,9 +88,13 @@ impl Commands for Toy {
 
     ghost firsts = { λ _. ToyFirst };
 
+    ghost refuses = { λ _. ToyRefuses };
+
     ghost lines = { ToyLines };
 
     ghost bounds = { λ _ words payload s n. n ≡ 1 };
+
+    ghost changes = { λ _. ToyChanges };
 
     ghost knows = { λ _ m c. ⊤ };
 

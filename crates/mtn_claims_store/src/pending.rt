@@ -6,12 +6,12 @@ ghost use Rattle.mtn_ports.specs.Causes.{Rose};
 ghost use Rattle.mtn_ports.specs.Kept.{Same, Stays};
 ghost use Rattle.mtn_history.specs.Errors.{IfDamage};
 ghost use Rattle.mtn_history.specs.Memory.{Knows};
-ghost use Rattle.mtn_history.specs.Meta.{IsMetaOf, MetaDamage};
+ghost use Rattle.mtn_history.specs.Meta.{IsMetaOf, IsUnopened};
 ghost use Rattle.mtn_history.specs.Records.{record_puts, with_revision};
 ghost use Rattle.mtn_history.specs.Stands.{FinishLeaves, Finishes, Opens, Stands, WasTold};
 
 use mtn_base::{Bytes, Id, NoMemory};
-use mtn_history::{Memory, Pending, StoreError};
+use mtn_history::{HistoryError, Memory, Pending, StoreError};
 use mtn_ports::Keeper;
 use std::alloc::Global;
 
@@ -20,14 +20,14 @@ pub fn open<K: Keeper>(
     alloc: Global,
     memory: &Memory,
     keeper: &mut K,
-) -> Result<Pending, StoreError>
+) -> Result<Pending, HistoryError>
     requires knows { IfSome (K.contents keeper.old) (Knows memory.now) }
     ensures stays { Stays K.contents K.leaves K.faults keeper.old keeper.new }
     ensures stands { (f : Seq ℕ → Seq ℕ) (c : Contents) (s : State) → K.contents keeper.new ≡ Some c → Stands f c s → Opens f c s result }
     ensures bare { IfOk result (λ p. p.batch ≡ []) }
     ensures counted { IfSome (K.contents keeper.new) (λ c. IfOk result (λ p. IsMetaOf c (record { count = p.count; is_new = p.is_new }))) }
-    ensures failed { result ≡ Err StoreError.Failed → Rose (K.faults keeper.old) (K.faults keeper.new) }
-    ensures damaged { IfSome (K.contents keeper.new) (λ c. IfErr result (λ e. IfDamage e (MetaDamage c))) }
+    ensures unopened { IfSome (K.contents keeper.new) (λ c. IfErr result (IsUnopened c)) }
+    ensures failed { result ≡ Err (HistoryError.Store StoreError.Failed) → Rose (K.faults keeper.old) (K.faults keeper.new) }
     ensures reads { K.reads keeper.new ≤ K.reads keeper.old + 2 }
     ensures remembered { IsSome memory.now.meta → K.reads keeper.new ≡ K.reads keeper.old }
 {

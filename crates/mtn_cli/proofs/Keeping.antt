@@ -8,7 +8,7 @@ use Rattle.mtn_certs.specs.Certificates.{IsIdBytes}
 use Rattle.mtn_order.specs.Free.{KeepsIds, MakesIds, NamesIds, asks_ids}
 use Rattle.mtn_step.specs.declared.call.Call.{Call}
 use Rattle.mtn_step_laws.proofs.Ids.{If, read_is}
-use Rattle.mtn_step.specs.declared.call.Call.TheVariants.{PutFile, PutRevision, GetFile, GetRevision, GetManifestOf, GetRoster, GetContentChanged, GetCorrespondingPath, Ask, Graph, Merge, ShowConflicts, Cert, Certs, Key, Heads, Branches, Commit, Packets, Read, Generate, Check}
+use Rattle.mtn_step.specs.declared.call.Call.TheVariants.{PutFile, PutRevision, GetFile, GetRevision, GetManifestOf, GetRoster, GetContentChanged, GetCorrespondingPath, Ask, Graph, Merge, ShowConflicts, Cert, Certs, Key, Heads, Branches, Commit, Packets, Read, Generate, Check, Migrate}
 use Rattle.mtn_step.specs.declared.call.Said.{Said}
 use Rattle.mtn_words.specs.Calls.{ask_named, call_named, call_of, call_with, cert, cert_by, commit, content_changed, corresponding_path, key_named, merge, merge_heads, query_named, said, view_named}
 use Rattle.mtn_words.specs.Options.{has_flag, key_of, option_value, takes}
@@ -102,7 +102,8 @@ named_fits name words =
     (either (bytes_eq name (codes "key")) _ _ (key_fits words)
     (either (bytes_eq name (codes "read")) _ _ (plain (λ _. Read) (λ _. tt) (no_words words))
     (either (bytes_eq name (codes "generate")) _ _ (plain Generate (λ _. tt) (one_count words))
-    (either (bytes_eq name (codes "check")) _ _ (plain (λ _. Check) (λ _. tt) (no_words words)) (view_fits name words))))))))
+    (either (bytes_eq name (codes "check")) _ _ (plain (λ _. Check) (λ _. tt) (no_words words))
+    (either (bytes_eq name (codes "migrate")) _ _ (plain (λ _. Migrate) (λ _. tt) (no_words words)) (view_fits name words)))))))))
 
 -- ---- those with options
 

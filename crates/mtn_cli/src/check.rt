@@ -1,13 +1,16 @@
 // The check of the whole store, which goes over the keeper itself.
-ghost use Rattle.std.specs.Prelude.{◌≡◌, ◌∷◌, ◌++◌, [], IfOk, IfSome, ⊤, false, true, codes, decimal};
-ghost use Rattle.mtn_cli.specs.Store.{IsFirstLine, IsFirstShown, IsLine, ShowsDamage};
+ghost use Rattle.std.specs.Prelude.{◌≡◌, ◌∷◌, ◌++◌, [], IfOk, IfSome, Some, ⊤, false, true, codes, decimal};
+ghost use Rattle.mtn_cli.specs.Store.{IsFirstLine, IsFirstShown, IsLine, IsOldStore, ShowsDamage, changes_of};
 ghost use Rattle.mtn_frame.specs.Works.{Works};
+ghost use Rattle.mtn_cli.specs.Step.{StepIn};
+ghost use Rattle.mtn_history.specs.Meta.{HasOldVersion};
 ghost use Rattle.mtn_history.specs.Stands.{Stands};
+ghost use Rattle.mtn_old_stores.specs.Stores.{StandsIn};
+ghost use Rattle.mtn_step.specs.declared.call.Call.TheVariants.{Check};
 ghost use Rattle.mtn_model.specs.State.{State};
 ghost use Rattle.mtn_ports.specs.Kept.{Stays};
-ghost use Rattle.mtn_step.specs.Step.{done, sound_text};
 
-use crate::damage::tell;
+use crate::damage::{tell, whole};
 use mtn_base::{Bytes, List, NoMemory};
 use mtn_check::check_store;
 use mtn_check_laws::standing_has_no_damage;
@@ -40,22 +43,22 @@ fn sound(alloc: Global, count: u64) -> Result<Worked, NoMemory>
     })
 }
 
-/// Checks the store: answers how many revisions it has, or shows its first damage. It remembers nothing.
+/// Checks the store: answers how many revisions it has, or shows its first damage; one of the older form is refused. It remembers
+/// nothing.
 pub fn check<R: Threads + Sync, I: Ident, K: Keeper>(
     rt: &R,
     alloc: Global,
     ident: &I,
     keeper: &mut K,
 ) -> Result<Worked, WorkError>
-    ensures { Works (Stands (I.meaning ident.now)) (ShowsDamage (I.meaning ident.now) (false ≡ true) (true ≡ true)) (IsFirstLine (I.meaning ident.now)) IsLine {M = Unit {0}} (λ m c. ⊤) K.contents K.leaves K.faults K.reads keeper.old keeper.new tt
-        true false true (λ s o. o ≡ done s (sound_text s)) (λ s n. ⊥) result }
+    ensures { Works (StandsIn (I.meaning ident.now)) (ShowsDamage (I.meaning ident.now) (false ≡ true) (true ≡ true) (false ≡ true)) (IsFirstLine (I.meaning ident.now)) IsOldStore IsLine {M = Unit {0}} (λ m c. ⊤) K.contents K.leaves K.faults K.reads keeper.old keeper.new tt
+        true false true (StepIn (I.meaning ident.now) (Some Check) []) (λ s n. ⊥) (changes_of (I.meaning ident.now) (Some Check) []) result }
 {
     one_state();
     standing_has_no_damage();
     match check_store(rt, alloc, ident, PIECES, keeper) {
         Ok(count) => Ok(sound(alloc, count)?),
-        Err(HistoryError::Store(error)) => Err(tell(alloc, CommandError::Store(error))),
-        Err(HistoryError::Refused(_)) => unreachable!(),
+        Err(error) => Err(tell(alloc, whole(error))),
     }
 }
 
@@ -69,13 +72,14 @@ pub fn first_shown<R: Threads + Sync, I: Ident, K: Keeper>(
     keeper: &mut K,
 ) -> WorkError
     requires line { IsLine line }
-    requires none { IfSome (K.contents keeper.old) (λ c. (s : State) → Stands (I.meaning ident.now) c s → ⊥) }
+    requires none { IfSome (K.contents keeper.old) (λ c. ((s : State) → Stands (I.meaning ident.now) c s → ⊥) × ¬ HasOldVersion c) }
     ensures stays { Stays K.contents K.leaves K.faults keeper.old keeper.new }
     ensures shown { IsFirstShown (I.meaning ident.now) (K.contents keeper.new) (K.faults keeper.old) (K.faults keeper.new) result }
 {
     match check_store(rt, alloc, ident, PIECES, keeper) {
         Ok(_) => WorkError::Damaged { line },
         Err(HistoryError::Store(error)) => tell(alloc, CommandError::Store(error)),
-        Err(HistoryError::Refused(_)) => unreachable!(),
+        // (over a keeper that tells nothing)
+        Err(HistoryError::Refused(_)) => WorkError::Damaged { line },
     }
 }

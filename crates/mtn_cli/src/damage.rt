@@ -2,13 +2,24 @@
 ghost use Rattle.std.specs.Prelude.{◌≡◌, ◌++◌, IfOk, OnOk};
 ghost use Rattle.hex.specs.Hex.{encode_lower};
 ghost use Rattle.mtn_cli.specs.Store.{IsTold};
+ghost use Rattle.mtn_commands.specs.Drafts.{whole_error};
 ghost use Rattle.mtn_cli.specs.Texts.{damage_line as line_of, record_text};
 
-use mtn_base::{Bytes, List, NoMemory};
+use mtn_base::{Bytes, List, NoMemory, Refusal};
 use mtn_commands::error::CommandError;
 use mtn_frame::WorkError;
-use mtn_history::{Damage, StoreError};
+use mtn_history::{Damage, HistoryError, StoreError};
 use std::alloc::Global;
+
+/// The same error of a command, which refuses by its cause alone.
+pub fn whole(error: HistoryError) -> CommandError
+    ensures { result ≡ whole_error error }
+{
+    match error {
+        HistoryError::Refused(cause) => CommandError::Refused(Refusal { packet: 0, cause }),
+        HistoryError::Store(error) => CommandError::Store(error),
+    }
+}
 
 /// The same error for the frame: a refusal whole, a damage by its line.
 pub fn tell(alloc: Global, error: CommandError) -> WorkError

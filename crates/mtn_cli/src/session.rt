@@ -2,13 +2,13 @@
 ghost use Rattle.std.specs.Prelude.{◌≡◌, true, IfSome};
 ghost use Rattle.std.specs.List.{list_any};
 ghost use Rattle.mtn_cli.specs.Step.{Step};
-ghost use Rattle.mtn_cli.specs.Store.{IsFirstLine, IsLine, ShowsDamage, is_checking, is_merging, is_spelled, job_checking, job_reading, script_checking, script_reading, bounds};
+ghost use Rattle.mtn_cli.specs.Store.{IsFirstLine, IsLine, IsOldStore, ShowsDamage, bounds, changes, is_checking, is_merging, is_spelled, job_checking, job_migrating, job_reading, script_checking, script_migrating, script_reading};
 ghost use Rattle.mtn_frame.specs.One.{One};
-ghost use Rattle.mtn_frame.specs.Script.{BoundsJob, Does};
+ghost use Rattle.mtn_frame.specs.Script.{BoundsJob, ChangesJob, Does};
 ghost use Rattle.mtn_frame.specs.Session.{RunsJobs, RunsScript, script_merging, script_spelled, script_vouching};
 ghost use Rattle.mtn_frame.specs.Works.{is_merging as job_merging, is_spelled as job_spelled, is_vouching as job_vouching};
 ghost use Rattle.mtn_history.specs.Memory.{Knows};
-ghost use Rattle.mtn_history.specs.Stands.{Stands};
+ghost use Rattle.mtn_old_stores.specs.Stores.{StandsIn};
 
 use crate::works::work_job;
 use mtn_base::List;
@@ -32,8 +32,8 @@ fn one<R: Threads + Sync, I: Ident, O: Sink, K: Keeper>(
     keeper: &mut K,
 ) -> Status
     requires { IfSome (K.contents keeper.old) (Knows memory.old) }
-    ensures { One (Stands (I.meaning ident.now)) (ShowsDamage (I.meaning ident.now) (job_reading job.now ≡ true) (job_checking job.now ≡ true)) (IsFirstLine (I.meaning ident.now)) IsLine Knows K.contents K.leaves K.faults K.reads keeper.old keeper.new memory.new
-        (O.written sink.old) (O.written sink.new) (O.faults sink.old) (O.faults sink.new) form (job_spelled is_spelled job.now) (job_merging is_merging job.now) (job_vouching is_checking job.now) (Does (Step (I.meaning ident.now)) job.now) (BoundsJob (bounds (I.meaning ident.now)) job.now) result }
+    ensures { One (StandsIn (I.meaning ident.now)) (ShowsDamage (I.meaning ident.now) (job_reading job.now ≡ true) (job_checking job.now ≡ true) (job_migrating job.now ≡ true)) (IsFirstLine (I.meaning ident.now)) IsOldStore IsLine Knows K.contents K.leaves K.faults K.reads keeper.old keeper.new memory.new
+        (O.written sink.old) (O.written sink.new) (O.faults sink.old) (O.faults sink.new) form (job_spelled is_spelled job.now) (job_merging is_merging job.now) (job_vouching is_checking job.now) (Does (Step (I.meaning ident.now)) job.now) (BoundsJob (bounds (I.meaning ident.now)) job.now) (ChangesJob (changes (I.meaning ident.now)) job.now) result }
 {
     let worked = work_job(rt, alloc, ident, job, memory, keeper);
     let settled = settle(alloc, form, worked);
@@ -56,7 +56,7 @@ fn run_jobs<R: Threads + Sync, I: Ident, O: Sink, K: Keeper>(
     keeper: &mut K,
 ) -> Status
     requires { IfSome (K.contents keeper.old) (Knows memory.old) }
-    ensures { RunsJobs (Stands (I.meaning ident.now)) (ShowsDamage (I.meaning ident.now) (list_any job_reading jobs.now ≡ true) (list_any job_checking jobs.now ≡ true)) (Does (Step (I.meaning ident.now))) K.contents K.leaves K.faults keeper.old keeper.new
+    ensures { RunsJobs (StandsIn (I.meaning ident.now)) (ShowsDamage (I.meaning ident.now) (list_any job_reading jobs.now ≡ true) (list_any job_checking jobs.now ≡ true) (list_any job_migrating jobs.now ≡ true)) (Does (Step (I.meaning ident.now))) K.contents K.leaves K.faults keeper.old keeper.new
         (O.written sink.old) (O.written sink.new) (O.faults sink.old) (O.faults sink.new) jobs.now result }
 {
     for (number, job) in jobs.as_slice().iter().enumerate() {
@@ -80,7 +80,7 @@ pub fn run_script<R: Threads + Sync, I: Ident, O: Sink, K: Keeper>(
     sink: &mut O,
     keeper: &mut K,
 ) -> Status
-    ensures { RunsScript (Stands (I.meaning ident.now)) (ShowsDamage (I.meaning ident.now) (script_reading script.now ≡ true) (script_checking script.now ≡ true)) (IsFirstLine (I.meaning ident.now)) IsLine (Does (Step (I.meaning ident.now))) (BoundsJob (bounds (I.meaning ident.now))) K.contents K.leaves K.faults K.reads keeper.old keeper.new
+    ensures { RunsScript (StandsIn (I.meaning ident.now)) (ShowsDamage (I.meaning ident.now) (script_reading script.now ≡ true) (script_checking script.now ≡ true) (script_migrating script.now ≡ true)) (IsFirstLine (I.meaning ident.now)) IsOldStore IsLine (Does (Step (I.meaning ident.now))) (BoundsJob (bounds (I.meaning ident.now))) (ChangesJob (changes (I.meaning ident.now))) K.contents K.leaves K.faults K.reads keeper.old keeper.new
         (O.written sink.old) (O.written sink.new) (O.faults sink.old) (O.faults sink.new) script.now (script_spelled is_spelled script.now) (script_merging is_merging script.now) (script_vouching is_checking script.now) result }
 {
     let mut memory = Memory::new(alloc);

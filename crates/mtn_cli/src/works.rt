@@ -1,20 +1,19 @@
-// A command over a draft of the keeper.
+// A command over a draft of the keeper, or over the keeper itself.
 ghost use Rattle.std.specs.Prelude.{◌≡◌, ◌≢◌, IfSome, Some, true};
-ghost use Rattle.mtn_cli.specs.Step.{Step};
-ghost use Rattle.mtn_cli.specs.Store.{IsFirstLine, IsLine, MeetsDamage, ShowsDamage, bounds, bounds_of, checks_store, is_checking, is_merging, is_reading, is_spelled, job_checking, job_reading};
+ghost use Rattle.mtn_cli.specs.Step.{Step, StepIn};
+ghost use Rattle.mtn_cli.specs.Store.{IsFirstLine, IsLine, IsOldStore, MeetsDamage, ShowsDamage, bounds, bounds_in, changes, changes_of, checks_store, is_checking, is_merging, is_migrating, is_reading, is_spelled, job_checking, job_migrating, job_reading, migrates_store};
 ghost use Rattle.mtn_commands.specs.Drafts.{may_conflict, reads_packets};
-ghost use Rattle.mtn_frame.specs.Script.{BoundsJob, Does};
+ghost use Rattle.mtn_frame.specs.Script.{BoundsJob, ChangesJob, Does};
 ghost use Rattle.mtn_frame.specs.Works.{Works, is_merging as job_merging, is_spelled as job_spelled, is_vouching as job_vouching};
 ghost use Rattle.mtn_history.specs.Memory.{Knows};
 ghost use Rattle.mtn_model.specs.Table.{Contents};
 ghost use Rattle.mtn_ports.specs.Kept.{with_all};
-ghost use Rattle.mtn_history.specs.Stands.{Stands};
-ghost use Rattle.mtn_step.specs.Step.{Steps};
+ghost use Rattle.mtn_old_stores.specs.Stores.{StandsIn};
 
 use crate::check::{check, first_shown};
-use crate::damage::tell;
+use crate::damage::{tell, whole};
+use crate::migrate::migrate_store;
 use mtn_base::{Bytes, Cause, Refusal};
-use mtn_commands::error::CommandError;
 use mtn_commands::perform::perform;
 use mtn_frame::{Job, WorkError, Worked};
 use mtn_history::{Draft, Memory, Pending};
@@ -49,12 +48,13 @@ fn work_on<R: Threads + Sync, I: Ident, K: Keeper>(
 ) -> Result<Worked, WorkError>
     requires known { IfSome (K.contents keeper.old) (Knows memory.old) }
     requires unchecked { call.now ≢ Call.Check }
-    ensures { Works (Stands (I.meaning ident.now)) (MeetsDamage (I.meaning ident.now) (reads_packets (Some call.now) ≡ true)) (IsFirstLine (I.meaning ident.now)) IsLine Knows K.contents K.leaves K.faults K.reads keeper.old keeper.new memory.new
-        true (may_conflict (Some call.now)) (checks_store (Some call.now)) (Steps (I.meaning ident.now) call.now payload.now) (bounds_of (I.meaning ident.now) (Some call.now) payload.now) result }
+    requires unmigrated { call.now ≢ Call.Migrate }
+    ensures { Works (StandsIn (I.meaning ident.now)) (MeetsDamage (I.meaning ident.now) (reads_packets (Some call.now) ≡ true)) (IsFirstLine (I.meaning ident.now)) IsOldStore IsLine Knows K.contents K.leaves K.faults K.reads keeper.old keeper.new memory.new
+        true (may_conflict (Some call.now)) (checks_store (Some call.now)) (StepIn (I.meaning ident.now) (Some call.now) payload.now) (bounds_in (I.meaning ident.now) (Some call.now) payload.now) (changes_of (I.meaning ident.now) (Some call.now) payload.now) result }
 {
     let pending = match Pending::open(alloc, memory, keeper) {
         Ok(pending) => pending,
-        Err(error) => return Err(tell(alloc, CommandError::Store(error))),
+        Err(error) => return Err(tell(alloc, whole(error))),
     };
     let remembered = mem::replace(memory, Memory::new(alloc));
     let mut draft = Draft::new(keeper, pending, remembered);
@@ -95,8 +95,9 @@ fn work_shown<R: Threads + Sync, I: Ident, K: Keeper>(
 ) -> Result<Worked, WorkError>
     requires known { IfSome (K.contents keeper.old) (Knows memory.old) }
     requires unchecked { call.now ≢ Call.Check }
-    ensures { Works (Stands (I.meaning ident.now)) (ShowsDamage (I.meaning ident.now) (reads_packets (Some call.now) ≡ true) (checks_store (Some call.now) ≡ true)) (IsFirstLine (I.meaning ident.now)) IsLine Knows K.contents K.leaves K.faults K.reads keeper.old keeper.new memory.new
-        true (may_conflict (Some call.now)) (checks_store (Some call.now)) (Steps (I.meaning ident.now) call.now payload.now) (bounds_of (I.meaning ident.now) (Some call.now) payload.now) result }
+    requires unmigrated { call.now ≢ Call.Migrate }
+    ensures { Works (StandsIn (I.meaning ident.now)) (ShowsDamage (I.meaning ident.now) (reads_packets (Some call.now) ≡ true) (checks_store (Some call.now) ≡ true) (migrates_store (Some call.now) ≡ true)) (IsFirstLine (I.meaning ident.now)) IsOldStore IsLine Knows K.contents K.leaves K.faults K.reads keeper.old keeper.new memory.new
+        true (may_conflict (Some call.now)) (checks_store (Some call.now)) (StepIn (I.meaning ident.now) (Some call.now) payload.now) (bounds_in (I.meaning ident.now) (Some call.now) payload.now) (changes_of (I.meaning ident.now) (Some call.now) payload.now) result }
 {
     let worked = work_on(rt, alloc, call, ident, payload, memory, keeper);
     if !puts_many(call) {
@@ -112,7 +113,8 @@ fn work_shown<R: Threads + Sync, I: Ident, K: Keeper>(
     }
 }
 
-// The work of any command: the check of the store goes over the keeper itself, and every other over a draft.
+// The work of any command: the check of the store and the migration of an older one go over the keeper itself, and every other over
+// a draft.
 fn work_call<R: Threads + Sync, I: Ident, K: Keeper>(
     rt: &R,
     alloc: Global,
@@ -123,11 +125,15 @@ fn work_call<R: Threads + Sync, I: Ident, K: Keeper>(
     keeper: &mut K,
 ) -> Result<Worked, WorkError>
     requires { IfSome (K.contents keeper.old) (Knows memory.old) }
-    ensures { Works (Stands (I.meaning ident.now)) (ShowsDamage (I.meaning ident.now) (reads_packets (Some call.now) ≡ true) (checks_store (Some call.now) ≡ true)) (IsFirstLine (I.meaning ident.now)) IsLine Knows K.contents K.leaves K.faults K.reads keeper.old keeper.new memory.new
-        true (may_conflict (Some call.now)) (checks_store (Some call.now)) (Steps (I.meaning ident.now) call.now payload.now) (bounds_of (I.meaning ident.now) (Some call.now) payload.now) result }
+    ensures { Works (StandsIn (I.meaning ident.now)) (ShowsDamage (I.meaning ident.now) (reads_packets (Some call.now) ≡ true) (checks_store (Some call.now) ≡ true) (migrates_store (Some call.now) ≡ true)) (IsFirstLine (I.meaning ident.now)) IsOldStore IsLine Knows K.contents K.leaves K.faults K.reads keeper.old keeper.new memory.new
+        true (may_conflict (Some call.now)) (checks_store (Some call.now)) (StepIn (I.meaning ident.now) (Some call.now) payload.now) (bounds_in (I.meaning ident.now) (Some call.now) payload.now) (changes_of (I.meaning ident.now) (Some call.now) payload.now) result }
 {
     match call {
         Call::Check => check(rt, alloc, ident, keeper),
+        Call::Migrate => {
+            *memory = Memory::new(alloc);
+            migrate_store(alloc, payload, keeper)
+        }
         _ => work_shown(rt, alloc, call, ident, payload, memory, keeper),
     }
 }
@@ -143,8 +149,8 @@ fn work_words<R: Threads + Sync, I: Ident, K: Keeper>(
     keeper: &mut K,
 ) -> Result<Worked, WorkError>
     requires { IfSome (K.contents keeper.old) (Knows memory.old) }
-    ensures { Works (Stands (I.meaning ident.now)) (ShowsDamage (I.meaning ident.now) (is_reading words.now ≡ true) (is_checking words.now ≡ true)) (IsFirstLine (I.meaning ident.now)) IsLine Knows K.contents K.leaves K.faults K.reads keeper.old keeper.new memory.new
-        (is_spelled words.now) (is_merging words.now) (is_checking words.now) (Step (I.meaning ident.now) words.now payload.now) (bounds (I.meaning ident.now) words.now payload.now) result }
+    ensures { Works (StandsIn (I.meaning ident.now)) (ShowsDamage (I.meaning ident.now) (is_reading words.now ≡ true) (is_checking words.now ≡ true) (is_migrating words.now ≡ true)) (IsFirstLine (I.meaning ident.now)) IsOldStore IsLine Knows K.contents K.leaves K.faults K.reads keeper.old keeper.new memory.new
+        (is_spelled words.now) (is_merging words.now) (is_checking words.now) (Step (I.meaning ident.now) words.now payload.now) (bounds (I.meaning ident.now) words.now payload.now) (changes (I.meaning ident.now) words.now payload.now) result }
 {
     match read_words(alloc, words) {
         Ok(call) => work_call(rt, alloc, &call, ident, payload, memory, keeper),
@@ -163,8 +169,8 @@ pub fn work_job<R: Threads + Sync, I: Ident, K: Keeper>(
     keeper: &mut K,
 ) -> Result<Worked, WorkError>
     requires { IfSome (K.contents keeper.old) (Knows memory.old) }
-    ensures { Works (Stands (I.meaning ident.now)) (ShowsDamage (I.meaning ident.now) (job_reading job.now ≡ true) (job_checking job.now ≡ true)) (IsFirstLine (I.meaning ident.now)) IsLine Knows K.contents K.leaves K.faults K.reads keeper.old keeper.new memory.new
-        (job_spelled is_spelled job.now) (job_merging is_merging job.now) (job_vouching is_checking job.now) (Does (Step (I.meaning ident.now)) job.now) (BoundsJob (bounds (I.meaning ident.now)) job.now) result }
+    ensures { Works (StandsIn (I.meaning ident.now)) (ShowsDamage (I.meaning ident.now) (job_reading job.now ≡ true) (job_checking job.now ≡ true) (job_migrating job.now ≡ true)) (IsFirstLine (I.meaning ident.now)) IsOldStore IsLine Knows K.contents K.leaves K.faults K.reads keeper.old keeper.new memory.new
+        (job_spelled is_spelled job.now) (job_merging is_merging job.now) (job_vouching is_checking job.now) (Does (Step (I.meaning ident.now)) job.now) (BoundsJob (bounds (I.meaning ident.now)) job.now) (ChangesJob (changes (I.meaning ident.now)) job.now) result }
 {
     match job {
         Job::Call { words, payload } => {

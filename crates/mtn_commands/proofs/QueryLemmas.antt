@@ -1,11 +1,11 @@
 -- What is answered of the graph that a draft tells.
-use Rattle.std.specs.Prelude.{IfSome, MatchBool}
+use Rattle.std.specs.Prelude.{IfSome}
 use Rattle.std.proofs.Common.{◌≡◌, inl, inr, ℕ, Bool, true, false, List, Option, Some, None, Result, Ok, Err, refl, sym, subst, arith}
 use Rattle.mtn_ancestry.specs.declared.pos.LogEntry.{LogEntry}
 use Rattle.mtn_history_laws.specs.History.{Revision}
 use Rattle.mtn_replay.specs.Graphs.{Tells}
 use Rattle.mtn_replay.specs.Lawful.{IsHistory}
-use Rattle.mtn_model.specs.Table.{Contents, body_at}
+use Rattle.mtn_model.specs.Table.{Contents}
 use Rattle.mtn_model.specs.State.{State}
 use Rattle.mtn_base.specs.declared.refusal.Cause.TheVariants.{UnknownRevision}
 use Rattle.mtn_ports.specs.Causes.{Rose}
@@ -13,7 +13,7 @@ use Rattle.mtn_ports.specs.Kept.{Stays, with_all}
 use Rattle.mtn_history.specs.Damage.{IsDamage}
 use Rattle.mtn_history.specs.Errors.{IfDamage}
 use Rattle.mtn_history.specs.Logs.{IsReadTo, LogDamage, WrongBelow}
-use Rattle.mtn_history.specs.Meta.{Counted, count_key}
+use Rattle.mtn_history.specs.Meta.{IsMetaOf}
 use Rattle.mtn_history.specs.Stands.{IsDraft}
 use Rattle.mtn_history.specs.declared.errors.Damage.{Damage}
 use Rattle.mtn_history.specs.declared.errors.StoreError.{StoreError}
@@ -34,7 +34,7 @@ use Rattle.mtn_graph_queries.specs.declared.query.QueryError.TheVariants.{Unknow
 use Rattle.mtn_graph_queries.specs.declared.query.QueryError.TheVariants as query
 use Rattle.mtn_commands.proofs.ReasonLemmas.{reason_of}
 
-counted_wrong : (b : Bool) (c : Contents) (n : ℕ) (d : Damage) → MatchBool b ((body_at c 1 count_key ≡ None) × (n ≡ 0)) (Counted c n) → WrongBelow n c d → LogDamage c d
+counted_wrong : (b : Bool) (c : Contents) (n : ℕ) (d : Damage) → IsMetaOf c (record { count = n; is_new = b }) → WrongBelow n c d → LogDamage c d
 counted_wrong true c n d counted wrong = absurd (let none = counted.1 in omega (arith, none, wrong.below))
 counted_wrong false c n d counted wrong = record { count = n; counted = counted; wrong = wrong }
 

@@ -2,12 +2,14 @@
 use Rattle.std.specs.Prelude.{◌≡◌, ◌⊎◌, List, Option, Some, Result, Ok, Err, ℕ, Bool, true, false, ⊤, IfSome, option_map}
 use Rattle.mtn_commands.specs.declared.error.CommandError.{CommandError}
 use Rattle.mtn_commands.specs.declared.error.CommandError.TheVariants as command
-use Rattle.mtn_frame.specs.Script.{refused as refused_with}
-use Rattle.mtn_frame.specs.Works.{replied}
+use Rattle.mtn_base.specs.Refusals.{refusal_text}
+use Rattle.mtn_base.specs.declared.refusal.Refusal.{Refusal}
+use Rattle.mtn_frame.specs.Works.{reply_status}
 use Rattle.mtn_frame.specs.declared.works.Reply.{Reply}
 use Rattle.mtn_model.specs.Outcome.{Outcome}
 use Rattle.mtn_model.specs.State.{State}
 use Rattle.mtn_model.specs.Table.{Contents}
+use Rattle.mtn_model.specs.declared.status.Status.TheVariants as status
 use Rattle.mtn_ports.specs.Causes.{Rose}
 use Rattle.mtn_ports.specs.Kept.{Stays, with_all}
 use Rattle.mtn_history.specs.Damage.{IsDamage}
@@ -28,6 +30,14 @@ use Rattle.mtn_reading.specs.Unfit.{IsUnfit}
 use Rattle.mtn_step.specs.Step.{done, refused}
 use Rattle.mtn_step.specs.declared.call.Call.{Call}
 use Rattle.mtn_step.specs.declared.call.Call.TheVariants.{Generate, Merge, MergeHeads, Read}
+
+-- the outcome that a reply tells, with this state
+abbrev pub replied : Reply → State → Outcome
+replied reply t = record { state = t; output = reply.text; status = reply_status reply }
+
+-- the line of a whole refusal; the state is left
+abbrev pub refused_with : Refusal → State → Outcome
+refused_with refusal s = record { state = s; output = refusal_text refusal; status = status.Refused }
 
 -- what a command answers for a query without an answer
 abbrev pub query_refusal : QueryError → HistoryError
@@ -98,7 +108,6 @@ pub record Replies (f : List ℕ → List ℕ) {K : Type 0} (contents : K → Op
 abbrev pub may_conflict : Option Call → Bool
 may_conflict (Some (Merge a b resolves)) = true
 may_conflict (Some (MergeHeads branch author date key resolves)) = true
-may_conflict (Some (Generate count)) = true
 may_conflict _ = false
 
 -- an error of a command that refuses by its cause alone

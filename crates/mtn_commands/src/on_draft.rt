@@ -26,7 +26,7 @@ use mtn_ports::{Ident, Keeper};
 use mtn_step::Call;
 use std::alloc::Global;
 
-/// What a command other than `put_revision`, `read`, `generate` and `check` does over a draft, and replies: its line of the step. One arm a command.
+/// What a command other than `put_revision`, `read`, `generate`, `check` and `migrate` does over a draft, and replies: its line of the step. One arm a command.
 pub fn on_draft<I: Ident, K: Keeper>(
     alloc: Global,
     call: &Call,
@@ -36,6 +36,7 @@ pub fn on_draft<I: Ident, K: Keeper>(
 ) -> Result<Reply, HistoryError>
     requires other { call.now ≢ Call.Read }
     requires unchecked { call.now ≢ Call.Check }
+    requires unmigrated { call.now ≢ Call.Migrate }
     requires unput { call.now ≢ Call.PutRevision }
     requires ungenerated { (count : ℕ) → call.now ≢ Call.Generate count }
     ensures same_reference { draft.new.keeper.ghost_name ≡ draft.old.keeper.ghost_name }
@@ -86,5 +87,6 @@ pub fn on_draft<I: Ident, K: Keeper>(
         Call::Read => unreachable!(),
         Call::Generate { .. } => unreachable!(),
         Call::Check => unreachable!(),
+        Call::Migrate => unreachable!(),
     }
 }

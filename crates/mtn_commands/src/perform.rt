@@ -20,7 +20,7 @@ use mtn_step::Call;
 use std::alloc::Global;
 use std::thread::Threads;
 
-/// What a command other than `check` does over a draft with nothing pending, and replies: its line of the step. `rt` is for the
+/// What a command other than `check` and `migrate` does over a draft with nothing pending, and replies: its line of the step. `rt` is for the
 /// ids of many packets.
 pub fn perform<R: Threads + Sync, I: Ident, K: Keeper>(
     rt: &R,
@@ -32,6 +32,7 @@ pub fn perform<R: Threads + Sync, I: Ident, K: Keeper>(
 ) -> Result<Reply, CommandError>
     requires bare { draft.old.pending.batch ≡ [] }
     requires unchecked { call.now ≢ Call.Check }
+    requires unmigrated { call.now ≢ Call.Migrate }
     ensures same_reference { draft.new.keeper.ghost_name ≡ draft.old.keeper.ghost_name }
     ensures performs { Performs (I.meaning ident.now) K.contents K.leaves K.faults draft.old.keeper.now draft.new.keeper.now draft.old.pending draft.new.pending
         (may_conflict (Some call.now)) (reads_packets (Some call.now)) (Steps (I.meaning ident.now) call.now payload.now) result }

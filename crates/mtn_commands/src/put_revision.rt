@@ -2,7 +2,6 @@
 ghost use Rattle.std.specs.Prelude.{◌≡◌, ◌≤◌, ◌+◌, ℕ, Some};
 ghost use Rattle.mtn_commands.specs.Drafts.{Drafts};
 ghost use Rattle.mtn_step.specs.Step.{Steps};
-ghost use Rattle.mtn_history.specs.Files.{MakesIds};
 ghost use Rattle.mtn_put_revision.specs.Reads.{IsBoundOf};
 ghost use Rattle.mtn_model.specs.State.{State};
 ghost use Rattle.mtn_model.specs.Table.{Contents};
@@ -25,7 +24,7 @@ pub fn put_revision<I: Ident, K: Keeper>(
     ensures same_reference { draft.new.keeper.ghost_name ≡ draft.old.keeper.ghost_name }
     ensures drafts { Drafts (I.meaning ident.now) K.contents K.leaves K.faults draft.old.keeper.now draft.new.keeper.now draft.old.pending draft.new.pending
         (Steps (I.meaning ident.now) Call.PutRevision payload.now) result }
-    ensures reads { (c : Contents) (s : State) (n : ℕ) → K.contents draft.new.keeper.now ≡ Some c → IsDraft (I.meaning ident.now) c draft.old.pending s → MakesIds (I.meaning ident.now) →
+    ensures reads { (c : Contents) (s : State) (n : ℕ) → K.contents draft.new.keeper.now ≡ Some c → IsDraft (I.meaning ident.now) c draft.old.pending s →
         IsBoundOf 38 (I.meaning ident.now) s payload.now n → K.reads draft.new.keeper.now ≤ K.reads draft.old.keeper.now + n }
 {
     put_text(alloc, ident, payload, None, None, draft)

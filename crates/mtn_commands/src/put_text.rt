@@ -12,7 +12,6 @@ ghost use Rattle.mtn_ports.specs.Causes.{Rose};
 ghost use Rattle.mtn_ports.specs.Kept.{Stays, with_all};
 ghost use Rattle.mtn_put_revision.specs.Accepting.{AcceptsRevision};
 ghost use Rattle.mtn_put_revision.specs.Keeping.{IsPlanned};
-ghost use Rattle.mtn_history.specs.Files.{MakesIds};
 ghost use Rattle.mtn_put_revision.specs.Reads.{IsBoundOf};
 
 use crate::put_file::id_text;
@@ -50,7 +49,7 @@ fn put<I: Ident, K: Keeper>(
     ensures damaged { IfSome (K.contents draft.new.keeper.now) (λ c. IsMetaOf (with_all c draft.old.pending.batch) (record { count = draft.old.pending.count; is_new = draft.old.pending.is_new }) →
         IfErr result (λ e. IfStoreDamage e (IsDamage (with_all c draft.old.pending.batch)))) }
     ensures failed { result ≡ Err (HistoryError.Store StoreError.Failed) → Rose (K.faults draft.old.keeper.now) (K.faults draft.new.keeper.now) }
-    ensures reads { (c : Contents) (s : State) (n : ℕ) → K.contents draft.new.keeper.now ≡ Some c → IsDraft (I.meaning ident.now) c draft.old.pending s → MakesIds (I.meaning ident.now) →
+    ensures reads { (c : Contents) (s : State) (n : ℕ) → K.contents draft.new.keeper.now ≡ Some c → IsDraft (I.meaning ident.now) c draft.old.pending s →
         IsBoundOf 38 (I.meaning ident.now) s text.now n → K.reads draft.new.keeper.now ≤ K.reads draft.old.keeper.now + n }
 {
     match known {
@@ -78,7 +77,7 @@ pub fn put_text<I: Ident, K: Keeper>(
     ensures same_reference { draft.new.keeper.ghost_name ≡ draft.old.keeper.ghost_name }
     ensures drafts { Drafts (I.meaning ident.now) K.contents K.leaves K.faults draft.old.keeper.now draft.new.keeper.now draft.old.pending draft.new.pending
         (ending (I.meaning ident.now) (option_copied said.entry) text.now) result }
-    ensures reads { option_copied said.entry ≡ None → (c : Contents) (s : State) (n : ℕ) → K.contents draft.new.keeper.now ≡ Some c → IsDraft (I.meaning ident.now) c draft.old.pending s → MakesIds (I.meaning ident.now) →
+    ensures reads { option_copied said.entry ≡ None → (c : Contents) (s : State) (n : ℕ) → K.contents draft.new.keeper.now ≡ Some c → IsDraft (I.meaning ident.now) c draft.old.pending s →
         IsBoundOf 38 (I.meaning ident.now) s text.now n → K.reads draft.new.keeper.now ≤ K.reads draft.old.keeper.now + n }
 {
     let id = put(alloc, ident, text, known, draft)?;

@@ -3,8 +3,8 @@ use Rattle.std.proofs.Common.{◌≡◌, ◌≢◌, inl, inr, ℕ, Bool, true, f
 use Rattle.std.specs.Bool.{OnTrue}
 use Rattle.std.specs.Io.KnownBytes.{Appends}
 use Rattle.std.proofs.lemmas.List.{append-nil}
+use Rattle.mtn_base.specs.declared.refusal.Refusal.{Refusal}
 use Rattle.mtn_model.specs.Table.{Contents}
-use Rattle.mtn_model.specs.State.{State}
 use Rattle.mtn_ports.specs.Kept.{Same}
 use Rattle.mtn_frame.specs.declared.script.Job.{Job}
 use Rattle.mtn_frame.specs.declared.script.Form.TheVariants.{Plain}
@@ -13,8 +13,8 @@ use Rattle.mtn_frame.specs.declared.script.Script.TheVariants.{Bare, Framed}
 use Rattle.mtn_model.specs.declared.status.Status.{Status}
 use Rattle.mtn_model.specs.declared.status.Status.TheVariants as status
 use Rattle.mtn_frame.specs.Kinds.{Kind, Answered, Cut, Halted, Quiet, Hurt, kind_of, ByKind, ByVouch}
-use Rattle.mtn_model.specs.Outcome.{Outcome}
-use Rattle.mtn_frame.specs.Script.{print_as, Does, BoundsJob}
+use Rattle.mtn_frame.specs.Outcome.{Outcome}
+use Rattle.mtn_frame.specs.Script.{print_as, Does, BoundsJob, ChangesJob}
 use Rattle.mtn_frame.specs.Works.{is_spelled, is_merging, is_vouching}
 use Rattle.mtn_frame.specs.One.{One, WritesOne}
 use Rattle.mtn_frame.specs.Frame.{Writes, keeps}
@@ -27,17 +27,17 @@ map_kind Halted a c h a' c' h' x on_a on_c on_h = on_h x
 map_kind Quiet a c h a' c' h' x on_a on_c on_h = x
 map_kind Hurt a c h a' c' h' x on_a on_c on_h = x
 
-map_vouch : (st : Status) (a h h' : Type 0) → ByVouch st a h → (h → h') → ByVouch st a h'
-map_vouch status.Ok a h h' x on_h = x
-map_vouch status.Refused a h h' x on_h = x
-map_vouch status.Usage a h h' x on_h = x
-map_vouch status.Conflicts a h h' x on_h = x
-map_vouch status.SourceFault a h h' x on_h = x
-map_vouch status.SinkFault a h h' x on_h = x
-map_vouch status.StoreFault a h h' x on_h = x
-map_vouch status.NoMemory a h h' x on_h = x
-map_vouch status.Damaged a h h' x on_h = on_h x
-map_vouch status.TooLong a h h' x on_h = x
+map_vouch : (st : Status) (a r h h' : Type 0) → ByVouch st a r h → (h → h') → ByVouch st a r h'
+map_vouch status.Ok a r h h' x on_h = x
+map_vouch status.Refused a r h h' x on_h = x
+map_vouch status.Usage a r h h' x on_h = x
+map_vouch status.Conflicts a r h h' x on_h = x
+map_vouch status.SourceFault a r h h' x on_h = x
+map_vouch status.SinkFault a r h h' x on_h = x
+map_vouch status.StoreFault a r h h' x on_h = x
+map_vouch status.NoMemory a r h h' x on_h = x
+map_vouch status.Damaged a r h h' x on_h = on_h x
+map_vouch status.TooLong a r h h' x on_h = x
 
 keep_by : (S : Type 0) (st : Status) → (st ≢ status.Ok → st ≢ status.SinkFault → S) → OnTrue (keeps false st) S
 keep_by S status.Ok same = tt
@@ -87,12 +87,12 @@ session_writes Lines w0 w1 k0 k1 o0 o1 status.NoMemory x = tt
 session_writes Lines w0 w1 k0 k1 o0 o1 status.Damaged x = tt
 session_writes Lines w0 w1 k0 k1 o0 o1 status.TooLong x = absurd x
 
-module _ (Stands : Contents → State → Type 0) (Damages Firsts : Contents → List ℕ → Type 0) (Lines : List ℕ → Type 0) {M : Type 0} (Knows : M → Contents → Type 0) {K : Type 0} (contents : K → Option Contents) (leaves : K → Contents → Type 0) (faults asked : K → ℕ)
-    (does : List (List ℕ) → List ℕ → State → Outcome → Type 0) (bounds : List (List ℕ) → List ℕ → State → ℕ → Type 0) (spelled merging vouching : List (List ℕ) → Bool) (old new : K) (m1 : M) (w0 w1 : Option (List ℕ)) (o0 o1 : ℕ) (result : Status) where
+module _ {S : Type 0} (Stands : Contents → S → Type 0) (Damages Firsts : Contents → List ℕ → Type 0) (Refuses : Contents → Refusal → Type 0) (Lines : List ℕ → Type 0) {M : Type 0} (Knows : M → Contents → Type 0) {K : Type 0} (contents : K → Option Contents) (leaves : K → Contents → Type 0) (faults asked : K → ℕ)
+    (does : List (List ℕ) → List ℕ → S → Outcome S → Type 0) (bounds : List (List ℕ) → List ℕ → S → ℕ → Type 0) (changes : List (List ℕ) → List ℕ → Contents → Contents → Type 0) (spelled merging vouching : List (List ℕ) → Bool) (old new : K) (m1 : M) (w0 w1 : Option (List ℕ)) (o0 o1 : ℕ) (result : Status) where
   abbrev Target : Script → Type 0
-  Target script = RunsScript Stands Damages Firsts Lines (Does does) (BoundsJob bounds) contents leaves faults asked old new w0 w1 o0 o1 script (script_spelled spelled script) (script_merging merging script) (script_vouching vouching script) result
+  Target script = RunsScript Stands Damages Firsts Refuses Lines (Does does) (BoundsJob bounds) (ChangesJob changes) contents leaves faults asked old new w0 w1 o0 o1 script (script_spelled spelled script) (script_merging merging script) (script_vouching vouching script) result
 
-  bare : (job : Job) → One Stands Damages Firsts Lines Knows contents leaves faults asked old new m1 w0 w1 o0 o1 Plain (is_spelled spelled job) (is_merging merging job) (is_vouching vouching job) (Does does job) (BoundsJob bounds job) result → Target (Bare job)
+  bare : (job : Job) → One Stands Damages Firsts Refuses Lines Knows contents leaves faults asked old new m1 w0 w1 o0 o1 Plain (is_spelled spelled job) (is_merging merging job) (is_vouching vouching job) (Does does job) (BoundsJob bounds job) (ChangesJob changes job) result → Target (Bare job)
   bare job one = record {
     told = one.told;
     done = λ c d s told now stands. map_kind (kind_of result) _ _ _ _ _ _ (one.done c d s told now stands)
@@ -107,7 +107,8 @@ module _ (Stands : Contents → State → Type 0) (Damages Firsts : Contents →
     written = writes_by Lines w0 w1 result one.written;
     damage = λ is c now. let shown = one.damage is c now in record { line = shown.line; is = shown.is; written = shown.written };
     few_reads = λ c d s n told now stands bounded. one.few_reads c d s n told now stands bounded;
-    vouches = λ on d now. map_vouch result _ _ _ (one.vouches on d now) (λ shown. record { line = shown.line; is = shown.is; written = shown.written });
+    changes = one.changes;
+    vouches = λ on d now. map_vouch result _ _ _ _ (one.vouches on d now) (λ shown. record { line = shown.line; is = shown.is; written = shown.written });
     usage = one.usage;
     words = one.words;
     conflicts = one.conflicts;
@@ -126,6 +127,7 @@ module _ (Stands : Contents → State → Type 0) (Damages Firsts : Contents →
     written = session_writes Lines w0 w1 (faults old) (faults new) o0 o1 result run.ends;
     damage = run.damage;
     few_reads = tt;
+    changes = tt;
     vouches = tt;
     usage = λ is. absurd (subst (EndsSession (faults old) (faults new) o0 o1) is run.ends);
     words = λ none. cc;
@@ -136,7 +138,7 @@ module _ (Stands : Contents → State → Type 0) (Damages Firsts : Contents →
     later = run.later;
   }
 
-  pub of_bare : (script : Script) (job : Job) → script ≡ Bare job → One Stands Damages Firsts Lines Knows contents leaves faults asked old new m1 w0 w1 o0 o1 Plain (is_spelled spelled job) (is_merging merging job) (is_vouching vouching job) (Does does job) (BoundsJob bounds job) result → Target script
+  pub of_bare : (script : Script) (job : Job) → script ≡ Bare job → One Stands Damages Firsts Refuses Lines Knows contents leaves faults asked old new m1 w0 w1 o0 o1 Plain (is_spelled spelled job) (is_merging merging job) (is_vouching vouching job) (Does does job) (BoundsJob bounds job) (ChangesJob changes job) result → Target script
   of_bare script job is one = subst Target (sym is) (bare job one)
 
   pub of_session : (script : Script) (jobs : List Job) → script ≡ Framed jobs → RunsJobs Stands Damages (Does does) contents leaves faults old new w0 w1 o0 o1 jobs result → Target script

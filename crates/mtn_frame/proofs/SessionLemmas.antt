@@ -4,8 +4,8 @@ use Rattle.std.specs.Prelude.{IfSome}
 use Rattle.std.specs.Io.KnownBytes.{Appends}
 use Rattle.std.proofs.KnownBytes.{Appends-trans}
 use Rattle.std.proofs.lemmas.List.{append-nil}
+use Rattle.mtn_base.specs.declared.refusal.Refusal.{Refusal}
 use Rattle.mtn_model.specs.Table.{Contents}
-use Rattle.mtn_model.specs.State.{State}
 use Rattle.mtn_ports.specs.Kept.{IfTold}
 use Rattle.mtn_frame.specs.declared.script.Job.{Job}
 use Rattle.mtn_frame.specs.declared.script.Form.TheVariants.{Numbered}
@@ -14,7 +14,7 @@ use Rattle.mtn_frame.specs.declared.script.Script.TheVariants.{Framed}
 use Rattle.mtn_model.specs.declared.status.Status.{Status}
 use Rattle.mtn_model.specs.declared.status.Status.TheVariants as status
 use Rattle.mtn_frame.specs.Kinds.{kind_of, ByKind}
-use Rattle.mtn_model.specs.Outcome.{Outcome}
+use Rattle.mtn_frame.specs.Outcome.{Outcome}
 use Rattle.mtn_frame.specs.Script.{Reaches, state_after, texts, texts_from, printed, print_as}
 use Rattle.mtn_frame.specs.One.{One, AnsweredOne, CutOne, WasTold, WritesOne}
 use Rattle.mtn_frame.specs.Frame.{Walked, StandsAfterSome, RunsOver, ShowsLast}
@@ -29,18 +29,18 @@ pub if_some : {A : Type 0} (told : Option A) (P : A → Type 0) → ((x : A) →
 if_some None P fact = tt
 if_some (Some x) P fact = fact x refl
 
-pub reaches_more : (Is : Job → State → Outcome → Type 0) (s : State) (front rest : List Job) (job : Job) (os : List Outcome) (o : Outcome) → length os ≡ length front → Reaches Is s (front ++ job ∷ rest) os → Is job (state_after s os) o →
+pub reaches_more : {S : Type 0} (Is : Job → S → Outcome S → Type 0) (s : S) (front rest : List Job) (job : Job) (os : List (Outcome S)) (o : Outcome S) → length os ≡ length front → Reaches Is s (front ++ job ∷ rest) os → Is job (state_after s os) o →
     Reaches Is s (front ++ job ∷ rest) (os ++ o ∷ [])
 reaches_more Is s [] rest job [] o long reaches is = (is, tt)
 reaches_more Is s [] rest job (x ∷ os) o long reaches is = absurd (omega (arith, long))
 reaches_more Is s (j ∷ front) rest job [] o long reaches is = absurd (omega (arith, long))
 reaches_more Is s (j ∷ front) rest job (x ∷ os) o long reaches is = (reaches.0, reaches_more Is x.state front rest job os o (omega (arith, long)) reaches.1 is)
 
-pub state_more : (s : State) (os : List Outcome) (o : Outcome) → state_after s (os ++ o ∷ []) ≡ o.state
+pub state_more : {S : Type 0} (s : S) (os : List (Outcome S)) (o : Outcome S) → state_after s (os ++ o ∷ []) ≡ o.state
 state_more s [] o = refl
 state_more s (x ∷ os) o = state_more x.state os o
 
-pub texts_more : (script : Script) (n : ℕ) (os : List Outcome) (o : Outcome) → texts_from script n (os ++ o ∷ []) ≡ texts_from script n os ++ printed script (n + length os) o
+pub texts_more : {S : Type 0} (script : Script) (n : ℕ) (os : List (Outcome S)) (o : Outcome S) → texts_from script n (os ++ o ∷ []) ≡ texts_from script n os ++ printed script (n + length os) o
 texts_more script n [] o = append-nil (printed script n o) ∙ ap (λ k. printed script k o) (plus_none n)
   where
     plus_none : (k : ℕ) → k ≡ k + 0
@@ -52,11 +52,11 @@ texts_more script n (x ∷ os) o =
     plus_more : (k m : ℕ) → suc k + m ≡ k + suc m
     plus_more k m = omega arith
 
-length_more : (os : List Outcome) (o : Outcome) → length (os ++ o ∷ []) ≡ suc (length os)
+length_more : {S : Type 0} (os : List (Outcome S)) (o : Outcome S) → length (os ++ o ∷ []) ≡ suc (length os)
 length_more [] o = refl
 length_more (x ∷ os) o = ap suc (length_more os o)
 
-some_after : (Stands : Contents → State → Type 0) (Is : Job → State → Outcome → Type 0) (s : State) (jobs : List Job) (e : Contents) (os : List Outcome) (o : Outcome) → Reaches Is s jobs (os ++ o ∷ []) → Stands e o.state → StandsAfterSome Stands Is s jobs e
+some_after : {S : Type 0} (Stands : Contents → S → Type 0) (Is : Job → S → Outcome S → Type 0) (s : S) (jobs : List Job) (e : Contents) (os : List (Outcome S)) (o : Outcome S) → Reaches Is s jobs (os ++ o ∷ []) → Stands e o.state → StandsAfterSome Stands Is s jobs e
 some_after Stands Is s jobs e [] o reaches stands = record { first = o; more = []; reaches = reaches; stands = stands }
 some_after Stands Is s jobs e (x ∷ os) o reaches stands = record { first = x; more = os ++ o ∷ []; reaches = reaches; stands = subst (Stands e) (sym (state_more x.state os o)) stands }
 
@@ -68,17 +68,17 @@ split_at_place (x ∷ xs) (suc n) job inside is =
     let more = split_at_place xs n job (omega (arith, inside)) is in
     (x ∷ more.0, more.1, ap (λ ys. x ∷ ys) more.2, ap suc more.3)
 
-module _ (Stands : Contents → State → Type 0) (Damages Firsts : Contents → List ℕ → Type 0) (Lines : List ℕ → Type 0) {M : Type 0} (Knows : M → Contents → Type 0) {K : Type 0} (contents : K → Option Contents) (leaves : K → Contents → Type 0) (faults asked : K → ℕ)
-    (Is : Job → State → Outcome → Type 0) (jobs : List Job) (old : K) (w0 : Option (List ℕ)) (o0 : ℕ) where
+module _ {S : Type 0} (Stands : Contents → S → Type 0) (Damages Firsts : Contents → List ℕ → Type 0) (Refuses : Contents → Refusal → Type 0) (Lines : List ℕ → Type 0) {M : Type 0} (Knows : M → Contents → Type 0) {K : Type 0} (contents : K → Option Contents) (leaves : K → Contents → Type 0) (faults asked : K → ℕ)
+    (Is : Job → S → Outcome S → Type 0) (jobs : List Job) (old : K) (w0 : Option (List ℕ)) (o0 : ℕ) where
   -- the first n jobs were done and answered, over records that stand for a state
-  pub record WalkedTo (s : State) (d : Contents) (w : Option (List ℕ)) (n : ℕ) : Type 0 where
+  pub record WalkedTo (s : S) (d : Contents) (w : Option (List ℕ)) (n : ℕ) : Type 0 where
     pub walked : Walked Stands Is (Framed jobs) s jobs d w0 w
     pub count : length walked.outcomes ≡ n
 
   pub record Walking (cur : K) (m : M) (w : Option (List ℕ)) (o : ℕ) (n : ℕ) : Type 0 where
     pub told : WasTold (contents old) (contents cur)
-    pub done : (c d : Contents) (s : State) → contents old ≡ Some c → contents cur ≡ Some d → Stands c s → WalkedTo s d w n
-    pub crash : (c d e : Contents) (s : State) → contents old ≡ Some c → contents cur ≡ Some d → Stands c s → leaves cur e → leaves old e ⊎ StandsAfterSome Stands Is s jobs e
+    pub done : (c d : Contents) (s : S) → contents old ≡ Some c → contents cur ≡ Some d → Stands c s → WalkedTo s d w n
+    pub crash : (c d e : Contents) (s : S) → contents old ≡ Some c → contents cur ≡ Some d → Stands c s → leaves cur e → leaves old e ⊎ StandsAfterSome Stands Is s jobs e
     pub remembers : IfSome (contents cur) (Knows m)
     pub grows : (text : List ℕ) × Appends w0 w text
     pub later : faults old ≤ faults cur
@@ -97,22 +97,22 @@ module _ (Stands : Contents → State → Type 0) (Damages Firsts : Contents →
     sink_later = omega arith;
   }
 
-  module _ (cur next : K) (m m1 : M) (w w1 : Option (List ℕ)) (o o1 : ℕ) (front rest : List Job) (job : Job) (is_jobs : jobs ≡ front ++ job ∷ rest) (spelled merges vouched : Bool) (bounded : State → ℕ → Type 0) (result : Status)
-      (walking : Walking cur m w o (length front)) (one : One Stands Damages Firsts Lines Knows contents leaves faults asked cur next m1 w w1 o o1 (Numbered (length front)) spelled merges vouched (Is job) bounded result) where
-    more_reached : (s : State) (os : List Outcome) (x : Outcome) → length os ≡ length front → Reaches Is s jobs os → Is job (state_after s os) x → Reaches Is s jobs (os ++ x ∷ [])
+  module _ (cur next : K) (m m1 : M) (w w1 : Option (List ℕ)) (o o1 : ℕ) (front rest : List Job) (job : Job) (is_jobs : jobs ≡ front ++ job ∷ rest) (spelled merges vouched : Bool) (bounded : S → ℕ → Type 0) (changed : Contents → Contents → Type 0) (result : Status)
+      (walking : Walking cur m w o (length front)) (one : One Stands Damages Firsts Refuses Lines Knows contents leaves faults asked cur next m1 w w1 o o1 (Numbered (length front)) spelled merges vouched (Is job) bounded changed result) where
+    more_reached : (s : S) (os : List (Outcome S)) (x : Outcome S) → length os ≡ length front → Reaches Is s jobs os → Is job (state_after s os) x → Reaches Is s jobs (os ++ x ∷ [])
     more_reached s os x long reaches is = subst (λ js. Reaches Is s js (os ++ x ∷ [])) (sym is_jobs) (reaches_more Is s front rest job os x long (subst (λ js. Reaches Is s js os) is_jobs reaches) is)
 
     was : WasTold (contents old) (contents next)
     was d now = let at = one.told d now in walking.told at.0 at.1
 
     -- the walk so far, at contents in between
-    abbrev Between : State → Contents → Contents → Type 0
+    abbrev Between : S → Contents → Contents → Type 0
     Between s c d = (x : Contents) × (contents cur ≡ Some x) × WalkedTo s x w (length front)
 
-    between : (c d : Contents) (s : State) → contents old ≡ Some c → contents next ≡ Some d → Stands c s → Between s c d
+    between : (c d : Contents) (s : S) → contents old ≡ Some c → contents next ≡ Some d → Stands c s → Between s c d
     between c d s told now stands = let at = one.told d now in (at.0, at.1, walking.done c at.0 s told at.1 stands)
 
-    crash_on : (c d e : Contents) (s : State) → contents old ≡ Some c → contents next ≡ Some d → Stands c s → leaves next e → leaves old e ⊎ StandsAfterSome Stands Is s jobs e
+    crash_on : (c d e : Contents) (s : S) → contents old ≡ Some c → contents next ≡ Some d → Stands c s → leaves next e → leaves old e ⊎ StandsAfterSome Stands Is s jobs e
     crash_on c d e s told now stands may =
         let at = between c d s told now stands in
         elim (one.crash at.0 d e (state_after s at.2.walked.outcomes) at.1 now at.2.walked.stands may) [
@@ -121,9 +121,9 @@ module _ (Stands : Contents → State → Type 0) (Damages Firsts : Contents →
         ]
 
     -- one more was answered
-    answered : (s : State) (c d : Contents) → (at : Between s c d) → AnsweredOne Stands (Is job (state_after s at.2.walked.outcomes)) (Numbered (length front)) d w w1 result → WalkedTo s d w1 (suc (length front))
+    answered : (s : S) (c d : Contents) → (at : Between s c d) → AnsweredOne Stands (Is job (state_after s at.2.walked.outcomes)) (Numbered (length front)) d w w1 result → WalkedTo s d w1 (suc (length front))
     answered s c d at a =
-        let os : List Outcome = at.2.walked.outcomes in
+        let os : List (Outcome S) = at.2.walked.outcomes in
         record {
           walked = record {
             outcomes = os ++ a.outcome ∷ [];
@@ -163,11 +163,11 @@ module _ (Stands : Contents → State → Type 0) (Damages Firsts : Contents →
       sink_later = omega (arith, walking.sink_later, one.sink_later);
     }
 
-    abbrev One_end : State → State → Contents → Status → Type 0
+    abbrev One_end : S → S → Contents → Status → Type 0
     One_end s t d st = ByKind (kind_of st) (AnsweredOne Stands (Is job t) (Numbered (length front)) d w w1 st) (CutOne Stands (Is job t) (Numbered (length front)) d w w1) (Stands d t × Appends w w1 []) ⊥ ⊥
 
     -- how the session ends where it does not go on
-    ended : (s : State) (c d : Contents) (at : Between s c d) (st : Status) → goes_on st ≡ false → One_end s (state_after s at.2.walked.outcomes) d st → RunsOver Stands Is (Framed jobs) s d w0 w1 st
+    ended : (s : S) (c d : Contents) (at : Between s c d) (st : Status) → goes_on st ≡ false → One_end s (state_after s at.2.walked.outcomes) d st → RunsOver Stands Is (Framed jobs) s d w0 w1 st
     ended s c d at status.Ok off x = cc
     ended s c d at status.Refused off x = cc
     ended s c d at status.Usage off x = cc
@@ -236,20 +236,20 @@ module _ (Stands : Contents → State → Type 0) (Damages Firsts : Contents →
     sink_later = walking.sink_later;
   }
 
-  module _ (cur next : K) (m m1 : M) (w w1 : Option (List ℕ)) (o o1 : ℕ) (items : List Job) (n : ℕ) (job : Job) (spelled merges vouched : Bool) (bounded : State → ℕ → Type 0) (result : Status) (same : items ≡ jobs) (inside : n < length items) (is : job ≡ get_or items n job)
-      (walking : Walking cur m w o n) (one : One Stands Damages Firsts Lines Knows contents leaves faults asked cur next m1 w w1 o o1 (Numbered n) spelled merges vouched (Is job) bounded result) where
+  module _ (cur next : K) (m m1 : M) (w w1 : Option (List ℕ)) (o o1 : ℕ) (items : List Job) (n : ℕ) (job : Job) (spelled merges vouched : Bool) (bounded : S → ℕ → Type 0) (changed : Contents → Contents → Type 0) (result : Status) (same : items ≡ jobs) (inside : n < length items) (is : job ≡ get_or items n job)
+      (walking : Walking cur m w o n) (one : One Stands Damages Firsts Refuses Lines Knows contents leaves faults asked cur next m1 w w1 o o1 (Numbered n) spelled merges vouched (Is job) bounded changed result) where
     pub ended_at : goes_on result ≡ false → RunsJobs Stands Damages Is contents leaves faults old next w0 w1 o0 o1 jobs result
     ended_at off =
         let at = split_at_place items n job inside is in
-        ends cur next m m1 w w1 o o1 at.0 at.1 job (sym same ∙ at.2) spelled merges vouched bounded result (subst (Walking cur m w o) (sym at.3) walking)
-        (subst (λ k. One Stands Damages Firsts Lines Knows contents leaves faults asked cur next m1 w w1 o o1 (Numbered k) spelled merges vouched (Is job) bounded result) (sym at.3) one) off
+        ends cur next m m1 w w1 o o1 at.0 at.1 job (sym same ∙ at.2) spelled merges vouched bounded changed result (subst (Walking cur m w o) (sym at.3) walking)
+        (subst (λ k. One Stands Damages Firsts Refuses Lines Knows contents leaves faults asked cur next m1 w w1 o o1 (Numbered k) spelled merges vouched (Is job) bounded changed result) (sym at.3) one) off
 
     pub walked_on : goes_on result ≡ true → Walking next m1 w1 o1 (n + 1)
     walked_on on =
         let at = split_at_place items n job inside is in
         subst (Walking next m1 w1 o1) (one_more at.0 n at.3)
-        (walks_on cur next m m1 w w1 o o1 at.0 at.1 job (sym same ∙ at.2) spelled merges vouched bounded result (subst (Walking cur m w o) (sym at.3) walking)
-        (subst (λ k. One Stands Damages Firsts Lines Knows contents leaves faults asked cur next m1 w w1 o o1 (Numbered k) spelled merges vouched (Is job) bounded result) (sym at.3) one) on)
+        (walks_on cur next m m1 w w1 o o1 at.0 at.1 job (sym same ∙ at.2) spelled merges vouched bounded changed result (subst (Walking cur m w o) (sym at.3) walking)
+        (subst (λ k. One Stands Damages Firsts Refuses Lines Knows contents leaves faults asked cur next m1 w w1 o o1 (Numbered k) spelled merges vouched (Is job) bounded changed result) (sym at.3) one) on)
       where
         one_more : (front : List Job) (k : ℕ) → length front ≡ k → suc (length front) ≡ k + 1
         one_more front k e = omega (arith, e)

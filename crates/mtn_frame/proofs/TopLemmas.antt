@@ -1,24 +1,26 @@
 -- The top call from its parts.
-use Rattle.std.proofs.Common.{◌≡◌, ◌≤◌, ◌+◌, inl, inr, ℕ, Bool, true, false, ◌&&◌, ◌||◌, not, List, [], ◌++◌, length, Option, Some, None, refl, sym, ap, ◌∙◌, subst, arith}
+use Rattle.std.proofs.Common.{◌≡◌, ◌≤◌, ◌+◌, ◌⊎◌, inl, inr, ℕ, Bool, true, false, ◌&&◌, ◌||◌, not, List, [], ◌∷◌, ◌++◌, length, Option, Some, None, refl, sym, ap, ◌∙◌, subst, arith}
 use Rattle.std.specs.Bool.{OnTrue}
 use Rattle.std.specs.Io.KnownBytes.{Consumes, IsAtEnd}
 use Rattle.std.proofs.lemmas.List.{append-nil}
+use Rattle.mtn_base.specs.declared.refusal.Refusal.{Refusal}
 use Rattle.mtn_model.specs.Table.{Contents}
-use Rattle.mtn_model.specs.State.{State}
 use Rattle.mtn_ports.specs.Causes.{Rose}
 use Rattle.mtn_ports.specs.Kept.{Same}
 use Rattle.mtn_frame.specs.declared.script.Form.TheVariants.{Plain}
+use Rattle.mtn_frame.specs.declared.script.Job.{Job}
 use Rattle.mtn_frame.specs.declared.script.Script.{Script}
 use Rattle.mtn_model.specs.declared.status.Status.{Status}
 use Rattle.mtn_model.specs.declared.status.Status.TheVariants as status
 use Rattle.mtn_frame.specs.Kinds.{Kind, Answered, Cut, Halted, Quiet, Hurt, kind_of, ByKind}
 use Rattle.mtn_frame.specs.Limit.{Past, Within}
-use Rattle.mtn_model.specs.Outcome.{Outcome}
-use Rattle.mtn_frame.specs.Script.{Does, BoundsJob, IsScript, IsScriptIf, is_session, state_after}
-use Rattle.mtn_frame.specs.Frame.{Told, Counts, Shows, Untouched, Meets, LeavesRecords, Writes, keeps, HasCauses, Completes, StaysLawful, LeavesSource, VouchesBare}
-use Rattle.mtn_frame.specs.Session.{RunsScript, AsksFewIf, VouchesIf, is_framed, script_spelled, script_merging, script_vouching}
+use Rattle.mtn_frame.specs.Outcome.{Outcome}
+use Rattle.mtn_frame.specs.Script.{Does, BoundsJob, ChangesJob, IsScript, IsScriptIf, Reaches, is_session, jobs_of, state_after}
+use Rattle.mtn_frame.specs.Frame.{Told, Counts, IsReached, Shows, Untouched, Meets, LeavesRecords, Writes, keeps, HasCauses, Completes, StaysLawful, LeavesSource, VouchesBare}
+use Rattle.mtn_frame.specs.Session.{RunsScript, AsksFewIf, ChangesIf, VouchesIf, is_framed, script_spelled, script_merging, script_vouching}
 use Rattle.mtn_frame.specs.Top.{Runs, ComesTo, reads, fed, Feeds, Unread, in_grammar, is_merge, is_vouch}
-use Rattle.mtn_frame.proofs.OneLemmas.{writes_nothing}
+use Rattle.mtn_frame.proofs.OneLemmas.{told_is, writes_nothing}
+use Rattle.mtn_frame.proofs.SessionLemmas.{state_more}
 
 consumed : (l0 l1 : Option (List ℕ)) (input p : List ℕ) → l0 ≡ Some input → Consumes l0 l1 p → IsAtEnd l1 → (p ≡ input) × (l1 ≡ Some [])
 consumed None l1 input p told took done = cc
@@ -114,18 +116,21 @@ known_by true b c on off = cc
 known_by false true c on off = cc
 known_by false false c on off = cc
 
-module _ (Stands : Contents → State → Type 0) (Damages Firsts : Contents → List ℕ → Type 0) (Lines : List ℕ → Type 0) (does : List (List ℕ) → List ℕ → State → Outcome → Type 0) (bounds : List (List ℕ) → List ℕ → State → ℕ → Type 0) (takes spelled merging vouching : List (List ℕ) → Bool) (words : List (List ℕ)) where
+module _ {S : Type 0} (Stands : Contents → S → Type 0) (Damages Firsts : Contents → List ℕ → Type 0) (Refuses : Contents → Refusal → Type 0) (Lines : List ℕ → Type 0) (does : List (List ℕ) → List ℕ → S → Outcome S → Type 0) (bounds : List (List ℕ) → List ℕ → S → ℕ → Type 0) (changes : List (List ℕ) → List ℕ → Contents → Contents → Type 0) (takes spelled merging vouching : List (List ℕ) → Bool) (words : List (List ℕ)) where
   abbrev Read : Bool
   Read = reads spelled takes words
 
   abbrev Scripts : List ℕ → Script → Type 0
   Scripts input = IsScript takes words (fed Read input)
 
-  abbrev Bounded : List ℕ → State → ℕ → Type 0
+  abbrev Bounded : List ℕ → S → ℕ → Type 0
   Bounded input = bounds words (fed Read input)
 
+  abbrev Changes : List ℕ → Contents → Contents → Type 0
+  Changes input = changes words (fed Read input)
+
   abbrev Target : Told → Told → Counts → Counts → (Contents → Type 0) → (Contents → Type 0) → Status → Type 0
-  Target before after counts0 counts1 may0 may1 result = Runs Stands Damages Firsts Lines (Does does) Bounded (does words) Scripts (is_session words) (in_grammar spelled words) (is_merge merging words) (is_vouch vouching words) Read before after counts0 counts1 may0 may1 result
+  Target before after counts0 counts1 may0 may1 result = Runs Stands Damages Firsts Refuses Lines (Does does) Bounded Changes (does words) Scripts (is_session words) (in_grammar spelled words) (is_merge merging words) (is_vouch vouching words) Read before after counts0 counts1 may0 may1 result
 
   -- where nothing failed, by what the call meets and its causes
   completes : (before after : Told) (counts0 counts1 : Counts) (st : Status) → Meets Stands (Does does) Scripts Read before after st → HasCauses (is_session words) (in_grammar spelled words) (is_merge merging words) Read before after counts0 counts1 st →
@@ -143,8 +148,12 @@ module _ (Stands : Contents → State → Type 0) (Damages Firsts : Contents →
       let long = causes.too_long refl in
       absurd (not_past before.left after.left input (subst (λ b. OnTrue b (before.left ≡ Some input)) long.0 tells.left) small long.1)
 
-  same_lawful : (told : Option Contents) → StaysLawful Stands told told
-  same_lawful told c d s is now stands = let e : c ≡ d = same_told told c d is now in (s, subst (λ x. Stands x s) e stands)
+  -- the state that outcomes lead to is reached
+  reached_by : (s : S) (d : Contents) (jobs : List Job) (os : List (Outcome S)) → Reaches (Does does) s jobs os → Stands d (state_after s os) → (t : S) × Stands d t × IsReached (Does does) s t
+  reached_by s d jobs os reaches stands = (state_after s os, stands, record { jobs = jobs; outcomes = os; reaches = reaches; is = refl })
+
+  same_lawful : (told : Option Contents) → StaysLawful Stands (Does does) told told
+  same_lawful told c d s is now stands = let e : c ≡ d = same_told told c d is now in (s, subst (λ x. Stands x s) e stands, record { jobs = []; outcomes = []; reaches = tt; is = refl })
     where
       same_told : (o : Option Contents) (a b : Contents) → o ≡ Some a → o ≡ Some b → a ≡ b
       same_told o a b first second = cc
@@ -179,6 +188,7 @@ module _ (Stands : Contents → State → Type 0) (Damages Firsts : Contents →
           complete = completes Before After Counts0 Counts1 status.NoMemory (λ s input w d tells now. inl (record { contents = refl; written = refl })) causes;
           crash = λ s input w d e tells now left. inl left;
           few_reads = λ single c d s input n told now stands is bounded. omega arith;
+          changes = λ single c d input before now is. inl (told_is told d c now before);
           vouches = λ on d now. tt;
         }
       where
@@ -203,6 +213,7 @@ module _ (Stands : Contents → State → Type 0) (Damages Firsts : Contents →
           complete = completes Before After Counts0 Counts1 status.SourceFault (λ s input w d tells now. record { contents = refl; written = refl }) causes;
           crash = λ s input w d e tells now left. inl left;
           few_reads = λ single c d s input n told now stands is bounded. omega arith;
+          changes = λ single c d input before now is. inl (told_is told d c now before);
           vouches = λ on d now. tt;
         }
 
@@ -219,12 +230,13 @@ module _ (Stands : Contents → State → Type 0) (Damages Firsts : Contents →
           complete = completes Before After Counts0 Counts1 status.TooLong (λ s input w d tells now. record { contents = refl; written = refl }) causes;
           crash = λ s input w d e tells now left. inl left;
           few_reads = λ single c d s input n told now stands is bounded. omega arith;
+          changes = λ single c d input before now is. inl (told_is told d c now before);
           vouches = λ on d now. tt;
         }
 
   module _ {K : Type 0} (contents : K → Option Contents) (leaves : K → Contents → Type 0) (faults asked : K → ℕ) (old new : K) (left0 left1 w0 w1 : Option (List ℕ)) (s0 s1 o0 o1 : ℕ) (payload : List ℕ) (script : Script) (result : Status)
       (feeds : Feeds Read left0 left1 payload) (within : Within left0 left1) (unread : Unread Read left0 left1) (is : IsScript takes words payload script)
-      (run : RunsScript Stands Damages Firsts Lines (Does does) (BoundsJob bounds) contents leaves faults asked old new w0 w1 o0 o1 script (script_spelled spelled script) (script_merging merging script) (script_vouching vouching script) result) where
+      (run : RunsScript Stands Damages Firsts Refuses Lines (Does does) (BoundsJob bounds) (ChangesJob changes) contents leaves faults asked old new w0 w1 o0 o1 script (script_spelled spelled script) (script_merging merging script) (script_vouching vouching script) result) where
     abbrev Start : Told
     Start = record { contents = contents old; left = left0; written = w0 }
 
@@ -249,15 +261,19 @@ module _ (Stands : Contents → State → Type 0) (Damages Firsts : Contents →
         (λ c. record { script = script; is = script_is input tells.left; some = c })
         (λ h. inr (script, script_is input tells.left, h))
 
-    few : (b : Bool) → b ≡ false → (c d : Contents) (s : State) (n : ℕ) → contents old ≡ Some c → contents new ≡ Some d → Stands c s → IsScriptIf b takes words payload script → bounds words payload s n → asked new ≤ asked old + n
+    few : (b : Bool) → b ≡ false → (c d : Contents) (s : S) (n : ℕ) → contents old ≡ Some c → contents new ≡ Some d → Stands c s → IsScriptIf b takes words payload script → bounds words payload s n → asked new ≤ asked old + n
     few true single c d s n told now stands is_script bounded = cc
     few false single c d s n told now stands is_script bounded = subst (λ x. AsksFewIf Stands (BoundsJob bounds) x (contents old) (contents new) (asked old) (asked new)) is_script run.few_reads c d s n told now stands bounded
 
-    vouch : (b : Bool) → not b && vouching words ≡ true → IsScriptIf b takes words payload script → (d : Contents) → contents new ≡ Some d → VouchesBare Stands Firsts (does words payload) d w0 w1 result
-    vouch true on is_script d now = cc
-    vouch false on is_script d now = subst (λ x. VouchesIf Stands Firsts (Does does) x (script_vouching vouching x) (contents new) w0 w1 result) is_script run.vouches on d now
+    change : (b : Bool) → b ≡ false → (c d : Contents) → contents old ≡ Some c → contents new ≡ Some d → IsScriptIf b takes words payload script → (d ≡ c) ⊎ changes words payload c d
+    change true single c d told now is_script = cc
+    change false single c d told now is_script = subst (λ x. ChangesIf (ChangesJob changes) x (contents old) (contents new)) is_script run.changes c d told now
 
-    with_source : (d : Contents) (st : Status) → VouchesBare Stands Firsts (does words payload) d w0 w1 st → VouchesBare Stands Firsts (ComesTo (does words) Read left0 left1) d w0 w1 st
+    vouch : (b : Bool) → not b && vouching words ≡ true → IsScriptIf b takes words payload script → (d : Contents) → contents new ≡ Some d → VouchesBare Stands Firsts Refuses (does words payload) d w0 w1 result
+    vouch true on is_script d now = cc
+    vouch false on is_script d now = subst (λ x. VouchesIf Stands Firsts Refuses (Does does) x (script_vouching vouching x) (contents new) w0 w1 result) is_script run.vouches on d now
+
+    with_source : (d : Contents) (st : Status) → VouchesBare Stands Firsts Refuses (does words payload) d w0 w1 st → VouchesBare Stands Firsts Refuses (ComesTo (does words) Read left0 left1) d w0 w1 st
     with_source d status.Ok v = record { state = v.state; stands = v.stands; outcome = v.outcome; is = (payload, feeds, v.is); status = v.status; written = v.written }
     with_source d status.Refused v = v
     with_source d status.Usage v = v
@@ -288,8 +304,10 @@ module _ (Stands : Contents → State → Type 0) (Damages Firsts : Contents →
       same = same_by (is_framed script) (is_session words) (Same (contents old) (contents new)) result bare_if run.same;
       written = writes_as Lines (is_framed script) (is_session words) w0 w1 result bare_if run.written;
       damage = λ ends c now. shows_as Damages (is_framed script) (is_session words) c w0 w1 bare_if (run.damage ends c now);
-      lawful = λ c d s told now stands. any_kind (kind_of result) _ _ _ ((t : State) × Stands d t) (run.done c d s told now stands)
-          (λ a. (state_after s a.walked.outcomes, a.walked.stands)) (λ c. (c.last.state, c.stands)) (λ h. (state_after s h.walked.outcomes, h.walked.stands));
+      lawful = λ c d s told now stands. any_kind (kind_of result) _ _ _ ((t : S) × Stands d t × IsReached (Does does) s t) (run.done c d s told now stands)
+          (λ a. reached_by s d (jobs_of script) a.walked.outcomes a.walked.reaches a.walked.stands)
+          (λ c. (c.last.state, c.stands, record { jobs = jobs_of script; outcomes = c.outcomes ++ c.last ∷ []; reaches = c.reaches; is = sym (state_more s c.outcomes c.last) }))
+          (λ h. reached_by s d (jobs_of script) h.walked.outcomes h.walked.reaches h.walked.stands);
       causes = run_causes;
       complete = completes Start Stop First Last result run_meets run_causes;
       crash = λ s input w d e tells now left. elim (run.crash tells.c d e s tells.contents now tells.stands left) [
@@ -297,6 +315,7 @@ module _ (Stands : Contents → State → Type 0) (Damages Firsts : Contents →
         | inr after ↦ inr (script, script_is input tells.left, after)
       ];
       few_reads = λ single c d s input n told now stands is_told bounded. few (is_session words) single c d s n told now stands is (subst (λ p. bounds words p s n) (sym (given Read left0 left1 input payload is_told feeds).0) bounded);
+      changes = λ single c d input told now is_told. subst (λ p. (d ≡ c) ⊎ changes words p c d) (given Read left0 left1 input payload is_told feeds).0 (change (is_session words) single c d told now is);
       vouches = λ on d now. with_source d result (vouch (is_session words) on is d now);
     }
 

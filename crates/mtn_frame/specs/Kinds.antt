@@ -31,15 +31,15 @@ ByKind Halted answered cut halted quiet hurt = halted
 ByKind Quiet answered cut halted quiet hurt = quiet
 ByKind Hurt answered cut halted quiet hurt = hurt
 
--- a fact where a command that vouches for the store was done, and one where it shows a damage; it is never refused
-abbrev pub ByVouch : Status → Type 0 → Type 0 → Type 0
-ByVouch Ok sound hurt = sound
-ByVouch Refused sound hurt = ⊥
-ByVouch Usage sound hurt = ⊤
-ByVouch Conflicts sound hurt = ⊥
-ByVouch SourceFault sound hurt = ⊤
-ByVouch SinkFault sound hurt = ⊤
-ByVouch StoreFault sound hurt = ⊤
-ByVouch NoMemory sound hurt = ⊤
-ByVouch Damaged sound hurt = hurt
-ByVouch TooLong sound hurt = ⊤
+-- a fact where a command that vouches for the store was done, one where it was refused, and one where it shows a damage
+abbrev pub ByVouch : Status → Type 0 → Type 0 → Type 0 → Type 0
+ByVouch Ok sound refused hurt = sound
+ByVouch Refused sound refused hurt = refused
+ByVouch Usage sound refused hurt = ⊤
+ByVouch Conflicts sound refused hurt = ⊥
+ByVouch SourceFault sound refused hurt = ⊤
+ByVouch SinkFault sound refused hurt = ⊤
+ByVouch StoreFault sound refused hurt = ⊤
+ByVouch NoMemory sound refused hurt = ⊤
+ByVouch Damaged sound refused hurt = hurt
+ByVouch TooLong sound refused hurt = ⊤

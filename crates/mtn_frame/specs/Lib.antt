@@ -1,6 +1,7 @@
 pub mod Requests
 pub mod Kinds
 pub mod Limit
+pub mod Outcome
 pub mod Script
 pub mod Works
 pub mod One

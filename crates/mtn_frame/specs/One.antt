@@ -4,7 +4,6 @@ use Rattle.std.specs.Io.KnownBytes.{Appends}
 use Rattle.mtn_base.specs.declared.refusal.Refusal.{Refusal}
 use Rattle.mtn_base.specs.Refusals.{refusal_text}
 use Rattle.mtn_model.specs.Table.{Contents}
-use Rattle.mtn_model.specs.State.{State}
 use Rattle.mtn_ports.specs.Causes.{Rose}
 use Rattle.mtn_ports.specs.Kept.{Same, IfTold, Adds, MayLeave, Stays}
 use Rattle.mtn_ports.specs.declared.batch.Put.{Put}
@@ -14,7 +13,7 @@ use Rattle.mtn_frame.specs.declared.script.Form.{Form}
 use Rattle.mtn_model.specs.declared.status.Status.{Status}
 use Rattle.mtn_model.specs.declared.status.Status.TheVariants as status
 use Rattle.mtn_frame.specs.Kinds.{kind_of, ByKind, ByVouch}
-use Rattle.mtn_model.specs.Outcome.{Outcome}
+use Rattle.mtn_frame.specs.Outcome.{Outcome}
 use Rattle.mtn_frame.specs.Script.{usage_line, print_as}
 
 -- contents that are told at the end were told before
@@ -38,16 +37,16 @@ Delivers answered text old new before now result =
     ((result ≡ answered) × Appends old new text) ⊎ ((result ≡ status.SinkFault) × Rose before now × (0 < length text) × ((n : ℕ) × Appends old new (take n text)))
 
 -- its outcome, whole
-pub record AnsweredOne (Stands : Contents → State → Type 0) (Is : Outcome → Type 0) (form : Form) (d : Contents) (written0 written1 : Option (List ℕ)) (result : Status) : Type 0 where
-  pub outcome : Outcome
+pub record AnsweredOne {S : Type 0} (Stands : Contents → S → Type 0) (Is : Outcome S → Type 0) (form : Form) (d : Contents) (written0 written1 : Option (List ℕ)) (result : Status) : Type 0 where
+  pub outcome : Outcome S
   pub is : Is outcome
   pub status : result ≡ outcome.status
   pub stands : Stands d outcome.state
   pub written : Appends written0 written1 (print_as form outcome.status outcome.output)
 
 -- its outcome, of which a front was written
-pub record CutOne (Stands : Contents → State → Type 0) (Is : Outcome → Type 0) (form : Form) (d : Contents) (written0 written1 : Option (List ℕ)) : Type 0 where
-  pub outcome : Outcome
+pub record CutOne {S : Type 0} (Stands : Contents → S → Type 0) (Is : Outcome S → Type 0) (form : Form) (d : Contents) (written0 written1 : Option (List ℕ)) : Type 0 where
+  pub outcome : Outcome S
   pub is : Is outcome
   pub stands : Stands d outcome.state
   pub front : ℕ
@@ -72,29 +71,35 @@ pub record ShowsOne (Damages : Contents → List ℕ → Type 0) (form : Form) (
   pub is : Damages c line
   pub written : Appends written0 written1 (print_as form status.Damaged line)
 
+-- the line of a refusal of these records, as it was answered
+pub record RefusesOne (Refuses : Contents → Refusal → Type 0) (form : Form) (c : Contents) (written0 written1 : Option (List ℕ)) : Type 0 where
+  pub refusal : Refusal
+  pub is : Refuses c refusal
+  pub written : Appends written0 written1 (print_as form status.Refused (refusal_text refusal))
+
 -- the records stand for a state, over which the command was done and answered whole
-pub record Vouched (Stands : Contents → State → Type 0) (Outcomes : State → Outcome → Type 0) (form : Form) (d : Contents) (written0 written1 : Option (List ℕ)) (result : Status) : Type 0 where
-  pub state : State
+pub record Vouched {S : Type 0} (Stands : Contents → S → Type 0) (Outcomes : S → Outcome S → Type 0) (form : Form) (d : Contents) (written0 written1 : Option (List ℕ)) (result : Status) : Type 0 where
+  pub state : S
   pub stands : Stands d state
-  pub outcome : Outcome
+  pub outcome : Outcome S
   pub is : Outcomes state outcome
   pub status : result ≡ outcome.status
   pub written : Appends written0 written1 (print_as form outcome.status outcome.output)
 
 -- the records stand for the state of such an outcome
-pub record StandsAfter (Stands : Contents → State → Type 0) (Is : Outcome → Type 0) (now : Contents) : Type 0 where
-  pub outcome : Outcome
+pub record StandsAfter {S : Type 0} (Stands : Contents → S → Type 0) (Is : Outcome S → Type 0) (now : Contents) : Type 0 where
+  pub outcome : Outcome S
   pub is : Is outcome
   pub stands : Stands now outcome.state
 
-pub record One (Stands : Contents → State → Type 0) (Damages Firsts : Contents → List ℕ → Type 0) (Lines : List ℕ → Type 0) {M : Type 0} (Knows : M → Contents → Type 0)
+pub record One {S : Type 0} (Stands : Contents → S → Type 0) (Damages Firsts : Contents → List ℕ → Type 0) (Refuses : Contents → Refusal → Type 0) (Lines : List ℕ → Type 0) {M : Type 0} (Knows : M → Contents → Type 0)
     {K : Type 0} (contents : K → Option Contents) (leaves : K → Contents → Type 0) (faults asked : K → ℕ) (old new : K) (after : M)
-    (written0 written1 : Option (List ℕ)) (o0 o1 : ℕ) (form : Form) (spelled merges vouched : Bool) (Outcomes : State → Outcome → Type 0) (Bounded : State → ℕ → Type 0) (result : Status) : Type 0 where
+    (written0 written1 : Option (List ℕ)) (o0 o1 : ℕ) (form : Form) (spelled merges vouched : Bool) (Outcomes : S → Outcome S → Type 0) (Bounded : S → ℕ → Type 0) (Changes : Contents → Contents → Type 0) (result : Status) : Type 0 where
   pub told : WasTold (contents old) (contents new)
-  pub done : (c d : Contents) (s : State) → contents old ≡ Some c → contents new ≡ Some d → Stands c s →
+  pub done : (c d : Contents) (s : S) → contents old ≡ Some c → contents new ≡ Some d → Stands c s →
       ByKind (kind_of result) (AnsweredOne Stands (Outcomes s) form d written0 written1 result) (CutOne Stands (Outcomes s) form d written0 written1) (Stands d s × Appends written0 written1 []) ⊥ ⊥
   pub knows : (d : Contents) → contents new ≡ Some d → ByKind (kind_of result) (Knows after d) ⊤ ⊤ ⊤ ⊤
-  pub crash : (c d e : Contents) (s : State) → contents old ≡ Some c → contents new ≡ Some d → Stands c s → leaves new e → leaves old e ⊎ StandsAfter Stands (Outcomes s) e
+  pub crash : (c d e : Contents) (s : S) → contents old ≡ Some c → contents new ≡ Some d → Stands c s → leaves new e → leaves old e ⊎ StandsAfter Stands (Outcomes s) e
   pub same : result ≢ status.Ok → result ≢ status.SinkFault → Same (contents old) (contents new)
   pub written : WritesOne Lines form written0 written1 result
   pub grows : (text : List ℕ) × Appends written0 written1 text
@@ -104,7 +109,8 @@ pub record One (Stands : Contents → State → Type 0) (Damages Firsts : Conten
   pub conflicts : result ≡ status.Conflicts → merges ≡ true
   pub store : result ≡ status.StoreFault → Rose (faults old) (faults new)
   pub sink : result ≡ status.SinkFault → Rose o0 o1
-  pub few_reads : (c d : Contents) (s : State) (n : ℕ) → contents old ≡ Some c → contents new ≡ Some d → Stands c s → Bounded s n → asked new ≤ asked old + n
-  pub vouches : vouched ≡ true → (d : Contents) → contents new ≡ Some d → ByVouch result (Vouched Stands Outcomes form d written0 written1 result) (ShowsOne Firsts form d written0 written1)
+  pub few_reads : (c d : Contents) (s : S) (n : ℕ) → contents old ≡ Some c → contents new ≡ Some d → Stands c s → Bounded s n → asked new ≤ asked old + n
+  pub changes : (c d : Contents) → contents old ≡ Some c → contents new ≡ Some d → (d ≡ c) ⊎ Changes c d
+  pub vouches : vouched ≡ true → (d : Contents) → contents new ≡ Some d → ByVouch result (Vouched Stands Outcomes form d written0 written1 result) (RefusesOne Refuses form d written0 written1) (ShowsOne Firsts form d written0 written1)
   pub later : faults old ≤ faults new
   pub sink_later : o0 ≤ o1

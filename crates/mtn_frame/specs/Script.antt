@@ -4,8 +4,9 @@ use Rattle.std.specs.Prelude.{◌≡◌, ◌⊎◌, ◌&&◌, ℕ, suc, List, []
 use Rattle.mtn_base.specs.declared.refusal.Refusal.{Refusal}
 use Rattle.mtn_base.specs.declared.refusal.Cause.TheVariants.{BadRequest}
 use Rattle.mtn_base.specs.Refusals.{refusal_text}
-use Rattle.mtn_model.specs.Outcome.{Outcome, number_of}
-use Rattle.mtn_model.specs.State.{State}
+use Rattle.mtn_frame.specs.Outcome.{Outcome}
+use Rattle.mtn_model.specs.Table.{Contents}
+use Rattle.mtn_model.specs.Outcome.{number_of}
 use Rattle.mtn_frame.specs.declared.script.Job.{Job}
 use Rattle.mtn_frame.specs.declared.script.Job.TheVariants.{Call, BadInput}
 use Rattle.mtn_frame.specs.declared.script.Form.{Form}
@@ -18,11 +19,11 @@ use Rattle.mtn_model.specs.declared.status.Status.TheVariants as status
 use Rattle.mtn_frame.specs.Requests.{IsListOf, BreaksAt}
 
 -- what words with a payload come to over a state; one line a command
-abbrev pub Commands : Type 1
-Commands = List (List ℕ) → List ℕ → State → Outcome → Type 0
+abbrev pub Commands : Type 0 → Type 1
+Commands S = List (List ℕ) → List ℕ → S → Outcome S → Type 0
 
 -- the line of a refusal; the state is left
-abbrev pub refused : Refusal → State → Outcome
+abbrev pub refused : {S : Type 0} → Refusal → S → Outcome S
 refused refusal s = record { state = s; output = refusal_text refusal; status = status.Refused }
 
 abbrev pub usage_line : List ℕ
@@ -33,16 +34,25 @@ abbrev pub bad_request : ℕ → Refusal
 bad_request number = record { packet = 0; cause = BadRequest number }
 
 -- how many records words with a payload ask for at most over a state
-abbrev pub Bounds : Type 1
-Bounds = List (List ℕ) → List ℕ → State → ℕ → Type 0
+abbrev pub Bounds : Type 0 → Type 1
+Bounds S = List (List ℕ) → List ℕ → S → ℕ → Type 0
 
 -- the same of a job; to refuse an input asks for none
-abbrev pub BoundsJob : Bounds → Job → State → ℕ → Type 0
+abbrev pub BoundsJob : {S : Type 0} → Bounds S → Job → S → ℕ → Type 0
 BoundsJob bounds (Call words payload) = bounds words payload
 BoundsJob bounds (BadInput number) = λ s n. ⊤
 
+-- what words with a payload may change of records
+abbrev pub Changing : Type 1
+Changing = List (List ℕ) → List ℕ → Contents → Contents → Type 0
+
+-- the same of a job; to refuse an input changes nothing
+abbrev pub ChangesJob : Changing → Job → Contents → Contents → Type 0
+ChangesJob changing (Call words payload) = changing words payload
+ChangesJob changing (BadInput number) = λ c d. ⊥
+
 -- what a job comes to
-abbrev pub Does : Commands → Job → State → Outcome → Type 0
+abbrev pub Does : {S : Type 0} → Commands S → Job → S → Outcome S → Type 0
 Does commands (Call words payload) = commands words payload
 Does commands (BadInput number) = λ s o. o ≡ refused (bad_request number) s
 
@@ -51,13 +61,13 @@ jobs_of (Bare job) = job ∷ []
 jobs_of (Framed jobs) = jobs
 
 -- Outcomes of the first jobs, each at the state that the one before left. Nothing is said of the jobs behind them.
-abbrev pub Reaches : (Job → State → Outcome → Type 0) → State → List Job → List Outcome → Type 0
+abbrev pub Reaches : {S : Type 0} → (Job → S → Outcome S → Type 0) → S → List Job → List (Outcome S) → Type 0
 Reaches Is s jobs [] = ⊤
 Reaches Is s [] (o ∷ os) = ⊥
 Reaches Is s (job ∷ jobs) (o ∷ os) = Is job s o × Reaches Is o.state jobs os
 
 -- the state that they left
-abbrev pub state_after : State → List Outcome → State
+abbrev pub state_after : {S : Type 0} → S → List (Outcome S) → S
 state_after s [] = s
 state_after s (o ∷ os) = state_after o.state os
 
@@ -75,23 +85,23 @@ form_of (Bare job) n = Plain
 form_of (Framed jobs) n = Numbered n
 
 -- the n-th answer
-abbrev pub printed : Script → ℕ → Outcome → List ℕ
+abbrev pub printed : {S : Type 0} → Script → ℕ → Outcome S → List ℕ
 printed script n o = print_as (form_of script n) o.status o.output
 
 -- answers from the n-th on
-abbrev pub texts_from : Script → ℕ → List Outcome → List ℕ
+abbrev pub texts_from : {S : Type 0} → Script → ℕ → List (Outcome S) → List ℕ
 texts_from script n [] = []
 texts_from script n (o ∷ os) = printed script n o ++ texts_from script (suc n) os
 
-abbrev pub texts : Script → List Outcome → List ℕ
+abbrev pub texts : {S : Type 0} → Script → List (Outcome S) → List ℕ
 texts script outcomes = texts_from script 0 outcomes
 
 -- a single command ends with the status of its outcome, a session with Ok
-abbrev pub last_status : Status → List Outcome → Status
+abbrev pub last_status : {S : Type 0} → Status → List (Outcome S) → Status
 last_status before [] = before
 last_status before (o ∷ os) = last_status o.status os
 
-abbrev pub ending : Script → List Outcome → Status
+abbrev pub ending : {S : Type 0} → Script → List (Outcome S) → Status
 ending (Bare job) outcomes = last_status status.Ok outcomes
 ending (Framed jobs) outcomes = status.Ok
 

@@ -1,7 +1,7 @@
 -- What the jobs of a session leave.
 use Rattle.std.specs.Prelude.{◌≡◌, ◌≤◌, ◌+◌, ◌⊎◌, ℕ, List, Bool, true, false, Option, Some, ⊤}
+use Rattle.mtn_base.specs.declared.refusal.Refusal.{Refusal}
 use Rattle.mtn_model.specs.Table.{Contents}
-use Rattle.mtn_model.specs.State.{State}
 use Rattle.mtn_ports.specs.Causes.{Rose}
 use Rattle.mtn_ports.specs.Kept.{IfTold}
 use Rattle.mtn_frame.specs.declared.script.Job.{Job}
@@ -9,7 +9,7 @@ use Rattle.mtn_frame.specs.declared.script.Script.{Script}
 use Rattle.mtn_frame.specs.declared.script.Script.TheVariants.{Bare, Framed}
 use Rattle.mtn_model.specs.declared.status.Status.{Status}
 use Rattle.mtn_model.specs.declared.status.Status.TheVariants as status
-use Rattle.mtn_model.specs.Outcome.{Outcome}
+use Rattle.mtn_frame.specs.Outcome.{Outcome}
 use Rattle.mtn_frame.specs.Script.{jobs_of}
 use Rattle.mtn_frame.specs.One.{WasTold}
 use Rattle.mtn_frame.specs.Frame.{RunsOver, StandsAfterSome, LeavesRecords, Writes, Shows, ShowsLast, VouchesBare}
@@ -41,12 +41,12 @@ EndsSession k0 k1 o0 o1 status.NoMemory = ⊤
 EndsSession k0 k1 o0 o1 status.Damaged = ⊤
 EndsSession k0 k1 o0 o1 status.TooLong = ⊥
 
-pub record RunsJobs (Stands : Contents → State → Type 0) (Damages : Contents → List ℕ → Type 0) (Is : Job → State → Outcome → Type 0)
+pub record RunsJobs {S : Type 0} (Stands : Contents → S → Type 0) (Damages : Contents → List ℕ → Type 0) (Is : Job → S → Outcome S → Type 0)
     {K : Type 0} (contents : K → Option Contents) (leaves : K → Contents → Type 0) (faults : K → ℕ) (old new : K)
     (written0 written1 : Option (List ℕ)) (o0 o1 : ℕ) (jobs : List Job) (result : Status) : Type 0 where
   pub told : WasTold (contents old) (contents new)
-  pub done : (c d : Contents) (s : State) → contents old ≡ Some c → contents new ≡ Some d → Stands c s → RunsOver Stands Is (Framed jobs) s d written0 written1 result
-  pub crash : (c d e : Contents) (s : State) → contents old ≡ Some c → contents new ≡ Some d → Stands c s → leaves new e → leaves old e ⊎ StandsAfterSome Stands Is s jobs e
+  pub done : (c d : Contents) (s : S) → contents old ≡ Some c → contents new ≡ Some d → Stands c s → RunsOver Stands Is (Framed jobs) s d written0 written1 result
+  pub crash : (c d e : Contents) (s : S) → contents old ≡ Some c → contents new ≡ Some d → Stands c s → leaves new e → leaves old e ⊎ StandsAfterSome Stands Is s jobs e
   pub damage : result ≡ status.Damaged → IfTold (contents new) (λ c. ShowsLast Damages c written0 written1)
   pub ends : EndsSession (faults old) (faults new) o0 o1 result
   pub later : faults old ≤ faults new
@@ -71,21 +71,26 @@ script_vouching vouching (Bare job) = is_vouching vouching job
 script_vouching vouching (Framed jobs) = false
 
 -- a bare job asks for no more records than it says
-abbrev pub AsksFewIf : (Contents → State → Type 0) → (Job → State → ℕ → Type 0) → Script → Option Contents → Option Contents → ℕ → ℕ → Type 0
-AsksFewIf Stands Bounded (Bare job) old new before now = (c d : Contents) (s : State) (n : ℕ) → old ≡ Some c → new ≡ Some d → Stands c s → Bounded job s n → now ≤ before + n
+abbrev pub AsksFewIf : {S : Type 0} → (Contents → S → Type 0) → (Job → S → ℕ → Type 0) → Script → Option Contents → Option Contents → ℕ → ℕ → Type 0
+AsksFewIf {S} Stands Bounded (Bare job) old new before now = (c d : Contents) (s : S) (n : ℕ) → old ≡ Some c → new ≡ Some d → Stands c s → Bounded job s n → now ≤ before + n
 AsksFewIf Stands Bounded (Framed jobs) old new before now = ⊤
 
-abbrev pub VouchesIf : (Contents → State → Type 0) → (Contents → List ℕ → Type 0) → (Job → State → Outcome → Type 0) → Script → Bool → Option Contents → Option (List ℕ) → Option (List ℕ) → Status → Type 0
-VouchesIf Stands Firsts Is (Bare job) vouched new written0 written1 result = vouched ≡ true → (d : Contents) → new ≡ Some d → VouchesBare Stands Firsts (Is job) d written0 written1 result
-VouchesIf Stands Firsts Is (Framed jobs) vouched new written0 written1 result = ⊤
+-- a bare job changes the records only as it says
+abbrev pub ChangesIf : (Job → Contents → Contents → Type 0) → Script → Option Contents → Option Contents → Type 0
+ChangesIf Changes (Bare job) old new = (c d : Contents) → old ≡ Some c → new ≡ Some d → (d ≡ c) ⊎ Changes job c d
+ChangesIf Changes (Framed jobs) old new = ⊤
+
+abbrev pub VouchesIf : {S : Type 0} → (Contents → S → Type 0) → (Contents → List ℕ → Type 0) → (Contents → Refusal → Type 0) → (Job → S → Outcome S → Type 0) → Script → Bool → Option Contents → Option (List ℕ) → Option (List ℕ) → Status → Type 0
+VouchesIf Stands Firsts Refuses Is (Bare job) vouched new written0 written1 result = vouched ≡ true → (d : Contents) → new ≡ Some d → VouchesBare Stands Firsts Refuses (Is job) d written0 written1 result
+VouchesIf Stands Firsts Refuses Is (Framed jobs) vouched new written0 written1 result = ⊤
 
 -- What a script leaves, once the input was read.
-pub record RunsScript (Stands : Contents → State → Type 0) (Damages Firsts : Contents → List ℕ → Type 0) (Lines : List ℕ → Type 0) (Is : Job → State → Outcome → Type 0) (Bounded : Job → State → ℕ → Type 0)
+pub record RunsScript {S : Type 0} (Stands : Contents → S → Type 0) (Damages Firsts : Contents → List ℕ → Type 0) (Refuses : Contents → Refusal → Type 0) (Lines : List ℕ → Type 0) (Is : Job → S → Outcome S → Type 0) (Bounded : Job → S → ℕ → Type 0) (Changes : Job → Contents → Contents → Type 0)
     {K : Type 0} (contents : K → Option Contents) (leaves : K → Contents → Type 0) (faults asked : K → ℕ) (old new : K)
     (written0 written1 : Option (List ℕ)) (o0 o1 : ℕ) (script : Script) (spelled merges vouched : Bool) (result : Status) : Type 0 where
   pub told : WasTold (contents old) (contents new)
-  pub done : (c d : Contents) (s : State) → contents old ≡ Some c → contents new ≡ Some d → Stands c s → RunsOver Stands Is script s d written0 written1 result
-  pub crash : (c d e : Contents) (s : State) → contents old ≡ Some c → contents new ≡ Some d → Stands c s → leaves new e → leaves old e ⊎ StandsAfterSome Stands Is s (jobs_of script) e
+  pub done : (c d : Contents) (s : S) → contents old ≡ Some c → contents new ≡ Some d → Stands c s → RunsOver Stands Is script s d written0 written1 result
+  pub crash : (c d e : Contents) (s : S) → contents old ≡ Some c → contents new ≡ Some d → Stands c s → leaves new e → leaves old e ⊎ StandsAfterSome Stands Is s (jobs_of script) e
   pub same : LeavesRecords (is_framed script) (contents old) (contents new) result
   pub written : Writes Lines (is_framed script) written0 written1 result
   pub damage : result ≡ status.Damaged → IfTold (contents new) (λ c. Shows Damages (is_framed script) c written0 written1)
@@ -95,6 +100,7 @@ pub record RunsScript (Stands : Contents → State → Type 0) (Damages Firsts :
   pub store : result ≡ status.StoreFault → Rose (faults old) (faults new)
   pub sink : result ≡ status.SinkFault → Rose o0 o1
   pub few_reads : AsksFewIf Stands Bounded script (contents old) (contents new) (asked old) (asked new)
-  pub vouches : VouchesIf Stands Firsts Is script vouched (contents new) written0 written1 result
+  pub changes : ChangesIf Changes script (contents old) (contents new)
+  pub vouches : VouchesIf Stands Firsts Refuses Is script vouched (contents new) written0 written1 result
   pub read : (result ≡ status.SourceFault → ⊥) × (result ≡ status.TooLong → ⊥)
   pub later : faults old ≤ faults new

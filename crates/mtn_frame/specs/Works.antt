@@ -1,9 +1,9 @@
 -- What the function behind a command ensures, the same words for each. It only reads the keeper, and answers with the records
 -- that are to be put.
 use Rattle.std.specs.Prelude.{◌≡◌, ◌⊎◌, ◌≤◌, ◌+◌, ℕ, Bool, true, false, List, [], Option, Some, Result, Ok, Err, if◌then◌else◌, ⊤}
+use Rattle.mtn_base.specs.declared.refusal.Refusal.{Refusal}
 use Rattle.mtn_base.specs.Refusals.{refusal_text}
 use Rattle.mtn_model.specs.Table.{Contents}
-use Rattle.mtn_model.specs.State.{State}
 use Rattle.mtn_ports.specs.Causes.{Rose}
 use Rattle.mtn_ports.specs.Kept.{Stays, IfTold, with_all}
 use Rattle.mtn_ports.specs.declared.batch.Put.{Put}
@@ -17,7 +17,7 @@ use Rattle.mtn_frame.specs.declared.works.WorkError.TheVariants.{Usage, Refused,
 use Rattle.mtn_frame.specs.declared.settle.Settled.{Settled}
 use Rattle.mtn_model.specs.declared.status.Status.{Status}
 use Rattle.mtn_model.specs.declared.status.Status.TheVariants as status
-use Rattle.mtn_model.specs.Outcome.{Outcome}
+use Rattle.mtn_frame.specs.Outcome.{Outcome}
 use Rattle.mtn_frame.specs.Script.{refused, usage_line, print_as}
 
 -- how a reply ends
@@ -25,16 +25,16 @@ abbrev pub reply_status : Reply → Status
 reply_status reply = if reply.conflicts then status.Conflicts else status.Ok
 
 -- the outcome that a reply tells, with this state
-abbrev pub replied : Reply → State → Outcome
+abbrev pub replied : {S : Type 0} → Reply → S → Outcome S
 replied reply t = record { state = t; output = reply.text; status = reply_status reply }
 
 -- words outside the grammar leave the state
-abbrev pub misused : State → Outcome
+abbrev pub misused : {S : Type 0} → S → Outcome S
 misused s = record { state = s; output = usage_line; status = status.Usage }
 
 -- the answer over records that stand for a state: with what is put they stand for the outcome's
-abbrev pub WorksOver : (Contents → State → Type 0) → Contents → State → (Outcome → Type 0) → Result Worked WorkError → Type 0
-WorksOver Stands c s Is (Ok worked) = (t : State) × Is (replied worked.reply t) × Stands (with_all c worked.batch) t
+abbrev pub WorksOver : {S : Type 0} → (Contents → S → Type 0) → Contents → S → (Outcome S → Type 0) → Result Worked WorkError → Type 0
+WorksOver {S} Stands c s Is (Ok worked) = (t : S) × Is (replied worked.reply t) × Stands (with_all c worked.batch) t
 WorksOver Stands c s Is (Err Usage) = Is (misused s)
 WorksOver Stands c s Is (Err (Refused refusal)) = Is (refused refusal s)
 WorksOver Stands c s Is (Err (Damaged line)) = ⊥
@@ -57,27 +57,34 @@ HasReason spelled merges before now Lines IsDamage (Err Failed) = (spelled ≡ t
 HasReason spelled merges before now Lines IsDamage (Err NoMemory) = ⊤
 
 -- What a command that vouches for the store says of records, whatever they are: that they stand for a state, over which it did
--- this and put nothing, or that this is their first damage. No rule refuses it.
-abbrev pub VouchesFor : (Contents → State → Type 0) → (Contents → List ℕ → Type 0) → Contents → (State → Outcome → Type 0) → Result Worked WorkError → Type 0
-VouchesFor Stands Firsts c Outcomes (Ok worked) = (s : State) × Stands c s × Outcomes s (replied worked.reply s) × (worked.reply.conflicts ≡ false) × (worked.batch ≡ [])
-VouchesFor Stands Firsts c Outcomes (Err Usage) = ⊤
-VouchesFor Stands Firsts c Outcomes (Err (Refused refusal)) = ⊥
-VouchesFor Stands Firsts c Outcomes (Err (Damaged line)) = Firsts c line
-VouchesFor Stands Firsts c Outcomes (Err Failed) = ⊤
-VouchesFor Stands Firsts c Outcomes (Err NoMemory) = ⊤
+-- this and put nothing, that they are of those over which it is refused so, or that this is their first damage.
+abbrev pub VouchesFor : {S : Type 0} → (Contents → S → Type 0) → (Contents → List ℕ → Type 0) → (Contents → Refusal → Type 0) → Contents → (S → Outcome S → Type 0) → Result Worked WorkError → Type 0
+VouchesFor {S} Stands Firsts Refuses c Outcomes (Ok worked) = (s : S) × Stands c s × Outcomes s (replied worked.reply s) × (worked.reply.conflicts ≡ false) × (worked.batch ≡ [])
+VouchesFor Stands Firsts Refuses c Outcomes (Err Usage) = ⊤
+VouchesFor Stands Firsts Refuses c Outcomes (Err (Refused refusal)) = Refuses c refusal
+VouchesFor Stands Firsts Refuses c Outcomes (Err (Damaged line)) = Firsts c line
+VouchesFor Stands Firsts Refuses c Outcomes (Err Failed) = ⊤
+VouchesFor Stands Firsts Refuses c Outcomes (Err NoMemory) = ⊤
+
+-- what is put, if anything, changes the records only so
+abbrev pub ChangesBy : (Contents → Contents → Type 0) → Contents → Result Worked WorkError → Type 0
+ChangesBy Changes c (Ok worked) = (worked.batch ≡ []) ⊎ Changes c (with_all c worked.batch)
+ChangesBy Changes c (Err e) = ⊤
 
 -- What a command does over a keeper, with a memory of what was read before that is true of its records. `Outcomes` says what it does to a state, `Knows` that a
--- memory is true of records, `Damages` that a line shows a damage of records, `Firsts` the first one, `Lines` that a line shows a damage at all, `Bounded` how
--- many records are asked for at most.
-pub record Works (Stands : Contents → State → Type 0) (Damages Firsts : Contents → List ℕ → Type 0) (Lines : List ℕ → Type 0) {M : Type 0} (Knows : M → Contents → Type 0)
+-- memory is true of records, `Damages` that a line shows a damage of records, `Firsts` the first one, `Refuses` over which
+-- records a command that vouches for the store is refused, `Lines` that a line shows a damage at all, `Bounded` how
+-- many records are asked for at most, `Changes` what may become of records.
+pub record Works {S : Type 0} (Stands : Contents → S → Type 0) (Damages Firsts : Contents → List ℕ → Type 0) (Refuses : Contents → Refusal → Type 0) (Lines : List ℕ → Type 0) {M : Type 0} (Knows : M → Contents → Type 0)
     {K : Type 0} (contents : K → Option Contents) (leaves : K → Contents → Type 0) (faults asked : K → ℕ) (old new : K) (after : M)
-    (spelled merges vouched : Bool) (Outcomes : State → Outcome → Type 0) (Bounded : State → ℕ → Type 0) (result : Result Worked WorkError) : Type 0 where
+    (spelled merges vouched : Bool) (Outcomes : S → Outcome S → Type 0) (Bounded : S → ℕ → Type 0) (Changes : Contents → Contents → Type 0) (result : Result Worked WorkError) : Type 0 where
   pub stays : Stays contents leaves faults old new
-  pub done : (c : Contents) (s : State) → contents new ≡ Some c → Stands c s → WorksOver Stands c s (Outcomes s) result
+  pub done : (c : Contents) (s : S) → contents new ≡ Some c → Stands c s → WorksOver Stands c s (Outcomes s) result
   pub knows : (c : Contents) → contents new ≡ Some c → Knows after (with_all c (puts_of result))
   pub reason : HasReason spelled merges (faults old) (faults new) Lines (λ line. IfTold (contents new) (λ c. Damages c line)) result
-  pub few_reads : (c : Contents) (s : State) (n : ℕ) → contents new ≡ Some c → Stands c s → Bounded s n → asked new ≤ asked old + n
-  pub vouches : (c : Contents) → contents new ≡ Some c → vouched ≡ true → VouchesFor Stands Firsts c Outcomes result
+  pub few_reads : (c : Contents) (s : S) (n : ℕ) → contents new ≡ Some c → Stands c s → Bounded s n → asked new ≤ asked old + n
+  pub changes : (c : Contents) → contents new ≡ Some c → ChangesBy Changes c result
+  pub vouches : (c : Contents) → contents new ≡ Some c → vouched ≡ true → VouchesFor Stands Firsts Refuses c Outcomes result
 
 -- whether the words of a job are in the grammar; an input that is no list of requests came with words that are
 abbrev pub is_spelled : (List (List ℕ) → Bool) → Job → Bool

@@ -7,10 +7,11 @@
 //! such fronts (`specs/Frame.antt`), so that a single command and a session have the same clauses.
 //!
 //! The crate above relies on this: whoever meets `Commands`, the contract of one command (`specs/Works.antt`), has by
-//! `run_frame` all clauses of the top call (`specs/Top.antt`). None of them names a command.
+//! `run_frame` all clauses of the top call (`specs/Top.antt`). None of them names a command, and none looks into a state: what
+//! contents stand for is a parameter of them all.
 //!
 //! A command may *vouch* for the store (`vouching` of `Commands`): whatever the records are that are told, it is done where they
-//! stand for a state, shows their first damage where they stand for none, and is never refused.
+//! stand for a state, shows their first damage where they stand for none, and is refused only over such as `refuses` names.
 //!
 //! A command only reads. Its answer is printed and framed before its records are put by one call of the keeper, and nothing
 //! takes memory behind that. The requests of a session are read whole before the first is done.

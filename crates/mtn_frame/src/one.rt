@@ -1,6 +1,6 @@
 //! One job: done, put, and answered.
 ghost use Rattle.std.specs.Prelude.{◌≡◌, ◌≤◌, IfSome};
-ghost use Rattle.mtn_frame.specs.Script.{Does, BoundsJob};
+ghost use Rattle.mtn_frame.specs.Script.{Does, BoundsJob, ChangesJob};
 ghost use Rattle.mtn_frame.specs.Works.{Works, is_spelled, is_merging, is_vouching};
 ghost use Rattle.mtn_frame.specs.One.{One, Puts, Delivers};
 
@@ -21,8 +21,8 @@ fn work_on<C: Commands, K: Keeper>(
     keeper: &mut K,
 ) -> Result<Worked, WorkError>
     requires { IfSome (K.contents keeper.old) (C.knows commands.now memory.old) }
-    ensures { Works (C.stands commands.now) (C.damages commands.now) (C.firsts commands.now) C.lines (C.knows commands.now) K.contents K.leaves K.faults K.reads keeper.old keeper.new memory.new
-        (is_spelled C.spelled job.now) (is_merging C.merging job.now) (is_vouching C.vouching job.now) (Does (C.does commands.now) job.now) (BoundsJob (C.bounds commands.now) job.now) result }
+    ensures { Works (C.stands commands.now) (C.damages commands.now) (C.firsts commands.now) (C.refuses commands.now) C.lines (C.knows commands.now) K.contents K.leaves K.faults K.reads keeper.old keeper.new memory.new
+        (is_spelled C.spelled job.now) (is_merging C.merging job.now) (is_vouching C.vouching job.now) (Does (C.does commands.now) job.now) (BoundsJob (C.bounds commands.now) job.now) (ChangesJob (C.changes commands.now) job.now) result }
 {
     match job {
         Job::Call { words, payload } => {
@@ -73,8 +73,8 @@ pub fn one<C: Commands, O: Sink, K: Keeper>(
     keeper: &mut K,
 ) -> Status
     requires { IfSome (K.contents keeper.old) (C.knows commands.now memory.old) }
-    ensures { One (C.stands commands.now) (C.damages commands.now) (C.firsts commands.now) C.lines (C.knows commands.now) K.contents K.leaves K.faults K.reads keeper.old keeper.new memory.new
-        (O.written sink.old) (O.written sink.new) (O.faults sink.old) (O.faults sink.new) form (is_spelled C.spelled job.now) (is_merging C.merging job.now) (is_vouching C.vouching job.now) (Does (C.does commands.now) job.now) (BoundsJob (C.bounds commands.now) job.now) result }
+    ensures { One (C.stands commands.now) (C.damages commands.now) (C.firsts commands.now) (C.refuses commands.now) C.lines (C.knows commands.now) K.contents K.leaves K.faults K.reads keeper.old keeper.new memory.new
+        (O.written sink.old) (O.written sink.new) (O.faults sink.old) (O.faults sink.new) form (is_spelled C.spelled job.now) (is_merging C.merging job.now) (is_vouching C.vouching job.now) (Does (C.does commands.now) job.now) (BoundsJob (C.bounds commands.now) job.now) (ChangesJob (C.changes commands.now) job.now) result }
 {
     let worked = work_on(alloc, commands, job, memory, keeper);
     let settled = settle(alloc, form, worked);

@@ -1,6 +1,6 @@
 //! The jobs of a session, one after the other.
 ghost use Rattle.std.specs.Prelude.{◌≡◌, IfSome};
-ghost use Rattle.mtn_frame.specs.Script.{Does, BoundsJob};
+ghost use Rattle.mtn_frame.specs.Script.{Does, BoundsJob, ChangesJob};
 ghost use Rattle.mtn_frame.specs.Works.{is_spelled, is_merging, is_vouching};
 ghost use Rattle.mtn_frame.specs.Session.{RunsJobs, RunsScript, goes_on as answers_on, script_spelled, script_merging, script_vouching};
 
@@ -57,7 +57,7 @@ pub fn run_script<C: Commands, O: Sink, K: Keeper>(
     sink: &mut O,
     keeper: &mut K,
 ) -> Status
-    ensures { RunsScript (C.stands commands.now) (C.damages commands.now) (C.firsts commands.now) C.lines (Does (C.does commands.now)) (BoundsJob (C.bounds commands.now)) K.contents K.leaves K.faults K.reads keeper.old keeper.new
+    ensures { RunsScript (C.stands commands.now) (C.damages commands.now) (C.firsts commands.now) (C.refuses commands.now) C.lines (Does (C.does commands.now)) (BoundsJob (C.bounds commands.now)) (ChangesJob (C.changes commands.now)) K.contents K.leaves K.faults K.reads keeper.old keeper.new
         (O.written sink.old) (O.written sink.new) (O.faults sink.old) (O.faults sink.new) script.now (script_spelled C.spelled script.now) (script_merging C.merging script.now) (script_vouching C.vouching script.now) result }
 {
     let mut memory = commands.begin(alloc);

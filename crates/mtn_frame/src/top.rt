@@ -148,7 +148,7 @@ pub fn run_frame<C: Commands, S: Source, O: Sink, K: Keeper>(
     sink: &mut O,
     keeper: &mut K,
 ) -> Status
-    ensures { Runs (C.stands commands.now) (C.damages commands.now) (C.firsts commands.now) C.lines (Does (C.does commands.now)) (λ input. C.bounds commands.now words.now (fed (reads C.spelled C.takes words.now) input)) (C.does commands.now words.now) (λ input. IsScript C.takes words.now (fed (reads C.spelled C.takes words.now) input))
+    ensures { Runs (C.stands commands.now) (C.damages commands.now) (C.firsts commands.now) (C.refuses commands.now) C.lines (Does (C.does commands.now)) (λ input. C.bounds commands.now words.now (fed (reads C.spelled C.takes words.now) input)) (λ input. C.changes commands.now words.now (fed (reads C.spelled C.takes words.now) input)) (C.does commands.now words.now) (λ input. IsScript C.takes words.now (fed (reads C.spelled C.takes words.now) input))
         (session_words words.now) (in_grammar C.spelled words.now) (is_merge C.merging words.now) (is_vouch C.vouching words.now) (reads C.spelled C.takes words.now)
         (record { contents = K.contents keeper.old; left = S.left source.old; written = O.written sink.old })
         (record { contents = K.contents keeper.new; left = S.left source.new; written = O.written sink.new })

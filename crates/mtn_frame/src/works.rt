@@ -1,8 +1,8 @@
 //! What does the commands.
 ghost use Rattle.std.specs.Prelude.{◌≡◌, ℕ, List as Seq, Bool, IfOk, IfSome};
 ghost use Rattle.mtn_model.specs.Table.{Contents};
-ghost use Rattle.mtn_model.specs.State.{State};
-ghost use Rattle.mtn_model.specs.Outcome.{Outcome};
+ghost use Rattle.mtn_frame.specs.Outcome.{Outcome};
+ghost use Rattle.mtn_base.specs.declared.refusal.Refusal.{Refusal};
 ghost use Rattle.mtn_frame.specs.Works.{Works};
 
 use mtn_base::{Bytes, NoMemory, Refusal};
@@ -53,11 +53,14 @@ pub trait Commands {
     /// What was read before, for the requests of one session.
     type Memory: Drop;
 
+    /// What contents stand for. The frame never looks into it.
+    ghost State: { Type 0 };
+
     /// Contents stand for a state.
-    ghost stands: { Self → Contents → State → Type 0 };
+    ghost stands: { Self → Contents → Self.State → Type 0 };
 
     /// What words with a payload come to over a state, one line a command.
-    ghost does: { Self → Seq (Seq ℕ) → Seq ℕ → State → Outcome → Type 0 };
+    ghost does: { Self → Seq (Seq ℕ) → Seq ℕ → Self.State → Outcome Self.State → Type 0 };
 
     /// A line shows a damage of contents.
     ghost damages: { Self → Contents → Seq ℕ → Type 0 };
@@ -65,11 +68,17 @@ pub trait Commands {
     /// A line shows the first damage of contents.
     ghost firsts: { Self → Contents → Seq ℕ → Type 0 };
 
+    /// Over contents a command that vouches for the store is refused so.
+    ghost refuses: { Self → Contents → Refusal → Type 0 };
+
     /// A line shows a damage, of whatever contents.
     ghost lines: { Seq ℕ → Type 0 };
 
     /// How many records words with a payload ask for at most, over contents that stand for a state.
-    ghost bounds: { Self → Seq (Seq ℕ) → Seq ℕ → State → ℕ → Type 0 };
+    ghost bounds: { Self → Seq (Seq ℕ) → Seq ℕ → Self.State → ℕ → Type 0 };
+
+    /// What words with a payload may change of contents.
+    ghost changes: { Self → Seq (Seq ℕ) → Seq ℕ → Contents → Contents → Type 0 };
 
     /// What is remembered is true of contents.
     ghost knows: { Self → Self.Memory → Contents → Type 0 };
@@ -80,7 +89,8 @@ pub trait Commands {
     /// Words of a merge.
     ghost merging: { Seq (Seq ℕ) → Bool };
 
-    /// Words of a command that vouches for the store: it says that the contents stand for a state, or shows their first damage.
+    /// Words of a command that vouches for the store: it says that the contents stand for a state, is refused as `refuses` says, or
+    /// shows their first damage.
     ghost vouching: { Seq (Seq ℕ) → Bool };
 
     /// Raw words that ask for a payload.
@@ -108,6 +118,6 @@ pub trait Commands {
         keeper: &mut K,
     ) -> Result<Worked, WorkError>
         requires knows { IfSome (K.contents keeper.old) (knows self.now memory.old) }
-        ensures works { Works (stands self.now) (damages self.now) (firsts self.now) lines (knows self.now) K.contents K.leaves K.faults K.reads keeper.old keeper.new memory.new
-            (spelled words.now) (merging words.now) (vouching words.now) (does self.now words.now payload.now) (bounds self.now words.now payload.now) result };
+        ensures works { Works (stands self.now) (damages self.now) (firsts self.now) (refuses self.now) lines (knows self.now) K.contents K.leaves K.faults K.reads keeper.old keeper.new memory.new
+            (spelled words.now) (merging words.now) (vouching words.now) (does self.now words.now payload.now) (bounds self.now words.now payload.now) (changes self.now words.now payload.now) result };
 }

@@ -70,3 +70,6 @@ unreachable-requires-in-Generate g c = c.requires.ungenerated c.in-Generate.coun
 
 pub unreachable-requires-in-Check : goal.unreachable-requires-in-Check
 unreachable-requires-in-Check g c = c.requires.unchecked c.in-Check.is
+
+pub unreachable-requires-in-Migrate : goal.unreachable-requires-in-Migrate
+unreachable-requires-in-Migrate g c = c.requires.unmigrated c.in-Migrate.is

@@ -27,7 +27,7 @@ pub returns-in-PutRevision-clause-performs : goal.returns-in-PutRevision-clause-
 returns-in-PutRevision-clause-performs g c = rw c.in-PutRevision.is (performs_as _ _ _ _ _ _ _ _ _ _ _ c.told.result c.whole.result c.whole.ensures (replies_as _ _ _ _ _ _ _ _ _ _ c.put_revision.result c.told.result c.told.ensures c.put_revision.ensures.drafts))
 
 pub returns-in-PutRevision-clause-few_reads : goal.returns-in-PutRevision-clause-few_reads
-returns-in-PutRevision-clause-few_reads g c = λ x s n told draft asks. c.put_revision.ensures.reads x s n told draft asks.1 asks.2
+returns-in-PutRevision-clause-few_reads g c = λ x s n told draft asks. c.put_revision.ensures.reads x s n told draft asks.1
 
 pub returns-in_default-clause-few_reads : goal.returns-in_default-clause-few_reads
 returns-in_default-clause-few_reads g c = λ x s n told draft asks. absurd (c.in_default.not-PutRevision asks.0)

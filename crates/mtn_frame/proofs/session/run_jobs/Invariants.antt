@@ -4,5 +4,5 @@ use Rattle.mtn_frame.proofs.session.run_jobs.Given as goal
 
 abbrev pub invariant-loop-number : goal.invariant-loop-number
 invariant-loop-number g l =
-    Walking (g.C.Commands.stands l.fn.commands) (g.C.Commands.damages l.fn.commands) (g.C.Commands.firsts l.fn.commands) g.C.Commands.lines (g.C.Commands.knows l.fn.commands) g.K.Keeper.contents g.K.Keeper.leaves g.K.Keeper.faults g.K.Keeper.reads (Does (g.C.Commands.does l.fn.commands)) l.fn.jobs
+    Walking (g.C.Commands.stands l.fn.commands) (g.C.Commands.damages l.fn.commands) (g.C.Commands.firsts l.fn.commands) (g.C.Commands.refuses l.fn.commands) g.C.Commands.lines (g.C.Commands.knows l.fn.commands) g.K.Keeper.contents g.K.Keeper.leaves g.K.Keeper.faults g.K.Keeper.reads (Does (g.C.Commands.does l.fn.commands)) l.fn.jobs
     l.fn.keeper (g.O.Sink.written l.fn.sink) (g.O.Sink.faults l.fn.sink) l.keeper l.memory (g.O.Sink.written l.sink) (g.O.Sink.faults l.sink) l.number
