@@ -82,6 +82,8 @@ class Model:
     def first(self, records):
         """What `check` prints of other records, and its status."""
         held = {(table, key): body for table, key, body in records}
+        if held.get((META, VERSION)) == b'1':
+            return 1, b'refused OldStore 1\n'
         damage = self.before_walk(held)
         if damage is None and (META, COUNT) not in held:
             return 0, b'ok 0\n'

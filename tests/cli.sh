@@ -66,7 +66,7 @@ for query in erase_ancestors toposort leaves roots graph; do
     row "$query of nothing" 0 'unread' '' - $query
 done
 
-for words in '' 'head' 'heads' 'put_file x' 'put_file --x' 'put_file --x=' 'put_file --resolve' 'put_file -- x' 'put_file -- --' 'get_file' 'get_revision' 'get_revision ABC' 'get_manifest_of' 'get_manifest_of ABC' "get_manifest_of $abc x" 'get_roster' 'get_roster ABC' "get_roster $abc x" "get_content_changed $abc" "get_content_changed $abc a//b" "get_content_changed $abc ./a" "get_content_changed a $abc" "get_corresponding_path $abc a" "get_corresponding_path $abc a/.. $abc" "get_corresponding_path $abc a ABC" "get_revision $abc $abc" 'get_file ABC' "get_file $abc x" "get_file $abc --" "get_file --x= $abc" 'get_file --' 'PUT_FILE' '-- put_file' parents "parents $abc $abc" children ancestors descendents common_ancestors ancestry_difference 'toposort x' "leaves $abc" "roots $abc" "graph $abc" merge "merge $abc" "merge $abc $abc $abc" "merge $abc ABC" "merge --resolve=yes $abc $abc" "merge --x $abc $abc" "merge --resolve --resolve $abc $abc" "merge $abc $abc --resolve" 'merge --resolve' show_conflicts "show_conflicts $abc" "show_conflicts ABC $abc" "show_conflicts --resolve $abc $abc" "get_file --resolve $abc" packets 'packets ABC' "packets $abc x" "packets --resolve $abc" 'read x' 'read --resolve' generate 'generate 0' 'generate 01' 'generate 2001' 'generate -1' 'generate 4 4' 'generate --resolve 4' 'check x' 'check --all'; do
+for words in '' 'head' 'heads' 'put_file x' 'put_file --x' 'put_file --x=' 'put_file --resolve' 'put_file -- x' 'put_file -- --' 'get_file' 'get_revision' 'get_revision ABC' 'get_manifest_of' 'get_manifest_of ABC' "get_manifest_of $abc x" 'get_roster' 'get_roster ABC' "get_roster $abc x" "get_content_changed $abc" "get_content_changed $abc a//b" "get_content_changed $abc ./a" "get_content_changed a $abc" "get_corresponding_path $abc a" "get_corresponding_path $abc a/.. $abc" "get_corresponding_path $abc a ABC" "get_revision $abc $abc" 'get_file ABC' "get_file $abc x" "get_file $abc --" "get_file --x= $abc" 'get_file --' 'PUT_FILE' '-- put_file' parents "parents $abc $abc" children ancestors descendents common_ancestors ancestry_difference 'toposort x' "leaves $abc" "roots $abc" "graph $abc" merge "merge $abc" "merge $abc $abc $abc" "merge $abc ABC" "merge --resolve=yes $abc $abc" "merge --x $abc $abc" "merge --resolve --resolve $abc $abc" "merge $abc $abc --resolve" 'merge --resolve' show_conflicts "show_conflicts $abc" "show_conflicts ABC $abc" "show_conflicts --resolve $abc $abc" "get_file --resolve $abc" packets 'packets ABC' "packets $abc x" "packets --resolve $abc" 'read x' 'read --resolve' generate 'generate 0' 'generate 01' 'generate 2001' 'generate -1' 'generate 4 4' 'generate --resolve 4' 'check x' 'check --all' 'migrate x' 'migrate --resolve'; do
     # shellcheck disable=SC2086
     row "outside the grammar: '$words'" 2 'never read' 'usage\n' - $words
 done
@@ -296,7 +296,7 @@ while IFS= read -r words; do
     verdict "help lists $name" grep -q "^  $name " "$work/help"
     ./mtn --help "$name" >"$work/out"
     verdict "and says more of it" test $? = 0 -a "$(head -n 1 "$work/out" | cut -d' ' -f1)" = "$name" -a "$(wc -l <"$work/out")" -gt 1
-done <<<"put_file"$'\n'"put_revision"$'\n'"merge"$'\n'"key"$'\n'"cert"$'\n'"commit"$'\n'"merge_heads"$'\n'"read"$'\n'"generate"$'\n'"stdio"$'\n'"${asked//;/$'\n'}"
+done <<<"put_file"$'\n'"put_revision"$'\n'"merge"$'\n'"key"$'\n'"cert"$'\n'"commit"$'\n'"merge_heads"$'\n'"read"$'\n'"migrate"$'\n'"generate"$'\n'"stdio"$'\n'"${asked//;/$'\n'}"
 for status in 0 1 2 3 4 5 6 7 8 9; do
     ./mtn --explain "$status" >"$work/out"
     verdict "status $status is explained" test $? = 0 -a "$(head -c 2 "$work/out")" = "$status "
@@ -310,7 +310,7 @@ verdict "a store's record says the same format" asks "$store" "SELECT CAST(body 
 # The walks in the documents, and histories, made and asked for; the rows of each script count here.
 # The program is new enough by now: the scripts start it without looking.
 export MTN=$PWD/target/mtn
-for script in walk revisions merged_rows cert_rows packet_rows check_rows random_histories sessions; do
+for script in walk revisions merged_rows cert_rows packet_rows check_rows migrate_rows random_histories sessions; do
     told=$(python3 "tests/$script.py")
     ended=$?
     echo "$script: $told"

@@ -142,10 +142,55 @@ def reads():
     return lines
 
 
+def older():
+    """A store of the older form: a lone root with a certificate whose key has a name."""
+    lines = Lines()
+    field = lambda data: len(data).to_bytes(4, 'big') + data
+    text = b'format_version "1"\n\nnew_manifest [%040x]\n\nold_revision []\n\nadd_dir ""\n' % 27
+    # Under the toy ident a text has its length as its id.
+    root = bytes(19) + bytes([len(text)])
+    entry = bytes(7) + b'\1' + bytes(8) + root + field(b'') + b'\0' + bytes(8) + field(b'') + b'\0\0\0\1' + bytes(8) + bytes(8)
+    held = root + field(b'branch') + field(b'k@x') + field(b'main') + field(b'')
+    records = [record(1, b'count', bytes(7) + b'\1'), record(1, b'version', b'1'), record(3, root, bytes(8) + text), record(4, bytes(8), root + bytes(7) + b'\2\0'),
+               record(5, bytes(8), b'\0' + bytes(7) + b'\1' + entry), record(6, held)]
+    table = b'format_version "1"\n\n key [%s]\nname "k@x"\n' % KEY.encode()
+    head = b'format_version "1"\n'
+    lines.remark('A store of the older form is refused to every command, until it is migrated by a table that names its keys.')
+    lines.asks(['heads', 'main'], 1, b'refused OldStore 1\n', None, 'store plain toy', *records)
+    lines.asks(['check'], 1, b'refused OldStore 1\n')
+    lines.asks(['heads'], 2, b'usage\n')
+    lines.asks(['migrate'], 1, b'refused BadOrder 1\n', b'')
+    lines.asks(['migrate'], 1, b'refused UnknownKey k@x\n', head)
+    lines.finds('none', root.hex(), 'none', b'count'.hex())
+    lines.asks(['migrate'], 0, b'keys 1\ncerts 1\n', table)
+    lines.asks(['heads', 'main'], 0, root.hex().encode() + b'\n')
+    lines.asks(['check'], 0, b'ok 1\n')
+    lines.asks(['migrate'], 1, b'refused NotOld\n', table)
+    lines.remark('A store that is new is not older. In a session a request is refused until the store is migrated.')
+    lines.asks(['migrate'], 1, b'refused NotOld\n', head, 'store plain toy')
+    refused, done, heads = b'refused OldStore 1\n', b'keys 1\ncerts 1\n', root.hex().encode() + b'\n'
+    framed = b''.join(b'%d:m:%d:%s%d:l:1:%d' % (number, len(output), output, number, status) for number, (status, output) in enumerate(((1, refused), (0, done), (0, heads))))
+    lines.asks(['stdio'], 0, framed, b'l5:heads4:maine' + b'l7:migrate%d:%se' % (len(table), table) + b'l5:heads4:maine', 'store plain toy', *records)
+    lines.remark('A version that is neither is damage, and so is a record of table 6 that is no certificate.')
+    lines.asks(['migrate'], 8, b'damaged 1 76657273696f6e 33\n', table, 'store plain toy', *records, record(1, b'version', b'3'))
+    lines.asks(['migrate'], 8, b'damaged 6 00 \n', table, 'store plain toy', *records, record(6, b'\0'))
+    lines.remark('All of it is put or nothing, whichever call of the keeper fails.')
+    for call in range(len(records) + 1, len(records) + 8):
+        sets = ['store plain toy %d' % call, *records]
+        status, _, output = told([*sets, 'give ' + escaped(table), asking(['migrate'])])[-1].partition(' ')
+        lines.asks(['migrate'], int(status), done if status == '0' else b'', table, *sets)
+        # The call behind the last one of a migration that is done is the first that looks for a record, and fails.
+        lines.finds('none' if status == '6' else 'no answer', root.hex(), 'none' if status == '6' else (root + field(b'branch') + bytes.fromhex(KEY) + field(b'main') + field(b'')).hex(), b'count'.hex())
+        if status == '0':
+            break
+    lines.ends()
+    return lines
+
+
 def main(folder):
     for name in ('asked', 'answered'):
         with open(os.path.join(folder, name), 'w') as file:
-            for part in (every_command, generations, checks, reads):
+            for part in (every_command, generations, checks, older, reads):
                 file.write('\n'.join(getattr(part(), name)) + '\n')
 
 

@@ -52,6 +52,9 @@ From one store to another:
 Of the store itself:
   check                prints `ok` and the number of revisions where every record
                        is the one that is due; else the first damage
+  migrate              turns a store of the older form into the present one: the
+                       input is a key table, with the id of each key's name;
+                       prints how many keys and certificates it has then
 
 To try things on:
   generate N           makes a history of N revisions, 1 to 2000, with merges, in
@@ -76,10 +79,10 @@ Many commands at one opening of the store:
   stdio                done request by request; the input is requests, each `l`,
                        its words and `e`, a word its size in decimal, `:` and
                        its bytes, as l8:put_file3:abce. The last word of
-                       put_file, put_revision, commit and read, of merge and
-                       merge_heads with --resolve, is their input. The answer
-                       to request N, counted from 0, is N:m:SIZE:OUTPUT and
-                       N:l:1:STATUS
+                       put_file, put_revision, commit, read and migrate, of
+                       merge and merge_heads with --resolve, is their input.
+                       The answer to request N, counted from 0, is
+                       N:m:SIZE:OUTPUT and N:l:1:STATUS
 
 FILE is the id of a file, REV that of a revision: 40 lower-case hexadecimal
 digits, the SHA-1 of its bytes, of its text. PATH is components joined by `/`,
@@ -231,6 +234,16 @@ check
   texts of the revisions, the key names and the certificates make due. Nothing is
   written.
   Prints ok N, N the number of revisions; or, with status 8, the first damage.
+
+migrate <TABLE
+  Turns a store of the older form, whose certificates say the names of their
+  keys, into the present one: each goes under the id that the key table on
+  standard input gives the name, and the names of the table are kept; all of it,
+  or nothing. Until then every other command is refused OldStore.
+  Prints keys K, certs C, a line each.
+  Refused: the first of TextTooLong, NotText, BadStanza, BadOrder, Repeated (an
+  id or a name stands twice), NotOld (the store is new, or of the present form),
+  UnknownKey (with the least name of a key that the table lacks).
 
 generate N
   Makes a history of N revisions, 1 to 2000, in a store without any, all of it

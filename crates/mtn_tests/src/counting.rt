@@ -1,4 +1,5 @@
 // That `read` hashes the payloads of all packets by one call, and nothing besides. No clause says how often the ident is asked.
+ghost use Rattle.mtn_ports.specs.Ids.{sha1_makes_ids};
 ghost use Rattle.sha1.specs.Sha1.{sha1};
 
 use mtn_base::{Bytes, Id, NoMemory, Text};
@@ -23,6 +24,8 @@ struct Counting {
 
 impl Ident for Counting {
     ghost meaning = { λ _. sha1 };
+
+    ghost makes_ids = { λ _. sha1_makes_ids };
 
     fn pass(&self, _piece: usize) {}
 

@@ -1,0 +1,84 @@
+// That the runs of a check are worked on at the same time, in `run` as it is. No clause says so: a body that does one after the
+// other answers the same, and they do not meet.
+ghost use Rattle.mtn_ports.specs.Ids.{sha1_makes_ids};
+ghost use Rattle.sha1.specs.Sha1.{sha1};
+
+use crate::gate::{Meeting, MeetingGate};
+use mtn_base::{Bytes, Id, NoMemory, Text};
+use mtn_cli::run;
+use mtn_pieces::Gate;
+use mtn_ports::{Batch, Ident, MemKeeper, MemSink, MemSource, Sha1One};
+use std::alloc::Global;
+use std::sync::atomic::Ordering;
+use std::test::Fail;
+use std::thread::Threads;
+
+// SHA-1 whose pieces of work pass a gate.
+#[derive(Drop)]
+struct Meets<'a> {
+    gate: MeetingGate<'a>,
+}
+
+impl Ident for Meets<'_> {
+    ghost meaning = { λ _. sha1 };
+
+    ghost makes_ids = { λ _. sha1_makes_ids };
+
+    fn pass(&self, piece: usize) {
+        self.gate.pass(piece);
+    }
+
+    fn id(&self, text: &[u8]) -> Id {
+        Sha1One.id(text)
+    }
+
+    fn ids<R: Threads + Sync>(
+        &self,
+        rt: &R,
+        alloc: Global,
+        texts: &[Text],
+    ) -> Result<Vec<Id>, NoMemory> {
+        Sha1One.ids(rt, alloc, texts)
+    }
+}
+
+// The status of a command without a payload.
+fn ends<R: Threads + Sync, I: Ident>(
+    rt: &R,
+    alloc: Global,
+    ident: &I,
+    words: &[Bytes],
+    keeper: &mut MemKeeper,
+) -> Option<u8> {
+    let mut source = MemSource::new(Vec::new(alloc), Vec::new(alloc));
+    let mut sink = MemSink::new(alloc, 1000, Vec::new(alloc)).ok()?;
+    let status = run(rt, alloc, words, ident, &mut source, &mut sink, keeper);
+    Some(status.number())
+}
+
+// The status of a check of four runs of revisions.
+fn checked<R: Threads + Sync>(rt: &R, alloc: Global, meeting: &Meeting) -> Option<u8> {
+    let mut keeper = MemKeeper::new(Batch::new(alloc), Vec::new(alloc)).ok()?;
+    let mut words = Vec::new(alloc);
+    words
+        .push(Bytes::from_slice(alloc, b"generate").ok()?)
+        .ok()?;
+    words.push(Bytes::from_slice(alloc, b"128").ok()?).ok()?;
+    if ends(rt, alloc, &Sha1One, &words, &mut keeper)? != 0 {
+        return None;
+    }
+    words.clear();
+    words.push(Bytes::from_slice(alloc, b"check").ok()?).ok()?;
+    let ident = Meets {
+        gate: MeetingGate { meeting },
+    };
+    ends(rt, alloc, &ident, &words, &mut keeper)
+}
+
+#[test]
+fn runs_of_a_check_meet(rt: HostRuntime) -> Result<(), Fail> {
+    let meeting = Meeting::new();
+    assert_eq!(rt; checked(&rt, rt.alloc(), &meeting), Some(0));
+    assert_eq!(rt; meeting.met.load(Ordering::SeqCst), 0b1111);
+    Ok(())
+}
