@@ -78,8 +78,8 @@ with tempfile.TemporaryDirectory() as folder:
     put = session(store, b''.join(puts))
     ratio('put_file, 20,000 of 100 bytes', put, other_puts(folder), 2)
     asked, other = best(lambda _: session(store, b''.join(gets))), best(lambda _: other_gets(folder))
-    ratio('get_file, 20,000, with the opening of the store, which the kit checks whole', asked, other, 1)
-    ratio('get_file, 20,000, less a session of one', asked - best(lambda _: session(store, gets[0])), other, 1)
+    ratio('get_file, 20,000', asked, other, 1)
+    print(f'the same less a session of one request, which opens the store: {(asked - best(lambda _: session(store, gets[0]))) / other:.2f} times', flush=True)
 print(f'twice the files take {work(b"".join(puts)) / work(b"".join(puts[:FILES // 2])):.2f} times the work in memory', flush=True)
 
 def requests(commands):
