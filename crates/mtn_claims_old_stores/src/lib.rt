@@ -1,4 +1,4 @@
-//! The promises of `mtn_key_tables`, `mtn_old_stores` and `mtn_migrating`, call by call: key tables and older stores that are
+//! The promises of `read_keys`, `mtn_old_stores` and `mtn_migrating`, call by call: key tables and older stores that are
 //! read, and an older store that is migrated.
 //!
 //! Each function here restates the contract of one public call, in the same words, with the call as its body; it says nothing of

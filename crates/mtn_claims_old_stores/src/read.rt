@@ -5,7 +5,7 @@ ghost use Rattle.std.specs.Prelude.{◌≡◌, ◌⊎◌, ◌↔◌, ◌∷◌, 
 ghost use Rattle.mtn_basic_io.specs.Spelling.{AreStanzas};
 ghost use Rattle.mtn_history.specs.Errors.{IfDamage};
 ghost use Rattle.mtn_history.specs.Stands.{Stands};
-ghost use Rattle.mtn_key_tables.specs.KeyTables.{IsKeyTable, IsKeysFault, IsKeysText, header, stanza_of};
+ghost use Rattle.mtn_certs.specs.KeyTables.{IsKeyTable, IsKeysFault, IsKeysText, header, stanza_of};
 ghost use Rattle.mtn_model.specs.State.{State};
 ghost use Rattle.mtn_model.specs.Table.{Contents};
 ghost use Rattle.mtn_old_stores.specs.Older.{HoldsOld, IsLawfulOldCertificate, OldCertificate, OldState, StandsOld};
@@ -13,9 +13,8 @@ ghost use Rattle.mtn_old_stores.specs.Reading.{AreAllOld, FormDamage, IsOlder, O
 ghost use Rattle.mtn_ports.specs.Causes.{Rose};
 ghost use Rattle.mtn_ports.specs.Kept.{Stays};
 
-use mtn_certs::KeyName;
+use mtn_certs::{KeyName, KeyTextError};
 use mtn_history::StoreError;
-use mtn_key_tables::KeyTextError;
 use mtn_old_stores::OldCert;
 use mtn_ports::Keeper;
 use std::alloc::Global;
@@ -28,7 +27,7 @@ pub fn read_keys(alloc: Global, text: &[u8]) -> Result<Vec<KeyName>, KeyTextErro
     ensures table { IfOk result (λ keys. IsKeyTable keys.items) }
     ensures err { IfErr result (λ e. IsKeysFault text.now e) }
 {
-    mtn_key_tables::read_keys(alloc, text)
+    mtn_certs::read_keys(alloc, text)
 }
 
 /// As `is_older`.

@@ -7,7 +7,7 @@ use Rattle.mtn_basic_io.specs.declared.stanza.Value.{Value}
 use Rattle.mtn_basic_io.specs.declared.stanza.Value.TheVariants.{Text, Hex}
 use Rattle.mtn_basic_io.specs.Spelling.{LineText}
 use Rattle.mtn_certs.specs.declared.cert.KeyName.{KeyName}
-use Rattle.mtn_key_tables.specs.KeyTables.{stanza_of, header}
+use Rattle.mtn_certs.specs.KeyTables.{stanza_of, header}
 
 abbrev text_in : List Value → List ℕ
 text_in (Text t ∷ vs) = t

@@ -5,9 +5,9 @@ use Rattle.std.proofs.lemmas.Option.{same_Some}
 use Rattle.mtn_base.specs.declared.refusal.Cause.{Cause}
 use Rattle.mtn_base.specs.declared.refusal.Cause.TheVariants.{TextTooLong}
 use Rattle.mtn_certs.specs.declared.cert.KeyName.{KeyName}
-use Rattle.mtn_key_tables.specs.declared.error.KeyTextError.{KeyTextError}
-use Rattle.mtn_key_tables.specs.declared.error.KeyTextError.TheVariants as text
-use Rattle.mtn_key_tables.specs.Given.{IsTableOf, text_cause}
+use Rattle.mtn_certs.specs.declared.key_error.KeyTextError.{KeyTextError}
+use Rattle.mtn_certs.specs.declared.key_error.KeyTextError.TheVariants as text
+use Rattle.mtn_certs.specs.GivenTables.{IsTableOf, text_cause}
 use Rattle.mtn_key_table_laws.proofs.OneReading.{one_text, no_fault_of, one_fault}
 use Rattle.mtn_key_table_laws.proofs.SomeReading.{some_reading}
 

@@ -6,9 +6,9 @@ use Rattle.mtn_basic_io.specs.Begun.{IsPlace}
 use Rattle.mtn_basic_io.proofs.Again.{one_form}
 use Rattle.mtn_changes.specs.ChangesText.{IsNoText}
 use Rattle.mtn_certs.specs.declared.cert.KeyName.{KeyName}
-use Rattle.mtn_key_tables.specs.declared.error.KeyTextError.{KeyTextError}
-use Rattle.mtn_key_tables.specs.declared.error.KeyTextError.TheVariants.{NotText, BadStanza, BadOrder, Repeated, NoMemory}
-use Rattle.mtn_key_tables.specs.KeyTables.{stanza_of, header, is_repeat, IsKeyName, IsNothing, AreKeyNames, IsKeysText, IsFirstFault, IsLaterFault, StandsAt, IsKeysFault}
+use Rattle.mtn_certs.specs.declared.key_error.KeyTextError.{KeyTextError}
+use Rattle.mtn_certs.specs.declared.key_error.KeyTextError.TheVariants.{NotText, BadStanza, BadOrder, Repeated, NoMemory}
+use Rattle.mtn_certs.specs.KeyTables.{stanza_of, header, is_repeat, IsKeyName, IsNothing, AreKeyNames, IsKeysText, IsFirstFault, IsLaterFault, StandsAt, IsKeysFault}
 use Rattle.mtn_key_table_laws.proofs.Decoding.{one_key, no_header}
 
 first_of : {X : Type 0} (x y : X) (xs ys : List X) → x ∷ xs ≡ y ∷ ys → x ≡ y

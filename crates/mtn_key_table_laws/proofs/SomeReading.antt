@@ -6,10 +6,10 @@ use Rattle.mtn_basic_io.specs.Spelling.{LineText, AreStanzas, spelling}
 use Rattle.mtn_answers.proofs.Deciding.{tell_two}
 use Rattle.mtn_certs.specs.Certificates.{is_field}
 use Rattle.mtn_certs.specs.declared.cert.KeyName.{KeyName}
-use Rattle.mtn_key_tables.specs.declared.error.KeyTextError.{KeyTextError}
-use Rattle.mtn_key_tables.specs.declared.error.KeyTextError.TheVariants.{NotText, BadStanza, BadOrder, Repeated, NoMemory}
-use Rattle.mtn_key_tables.specs.KeyTables.{stanza_of, header, is_repeat, IsKeyName, IsRead, AreKeyNames, IsKeysText, IsFirstFault, IsLaterFault, StandsAt, IsKeysFault}
-use Rattle.mtn_key_tables.proofs.Texting.{more}
+use Rattle.mtn_certs.specs.declared.key_error.KeyTextError.{KeyTextError}
+use Rattle.mtn_certs.specs.declared.key_error.KeyTextError.TheVariants.{NotText, BadStanza, BadOrder, Repeated, NoMemory}
+use Rattle.mtn_certs.specs.KeyTables.{stanza_of, header, is_repeat, IsKeyName, IsRead, AreKeyNames, IsKeysText, IsFirstFault, IsLaterFault, StandsAt, IsKeysFault}
+use Rattle.mtn_certs.proofs.KeyTexting.{more}
 use Rattle.mtn_merge_laws.proofs.Telling.{tell_stanza, tell_test}
 use Rattle.mtn_merge_laws.proofs.Texts.{stanzas_or_place}
 use Rattle.mtn_key_table_laws.proofs.Decoding.{key_in, back}

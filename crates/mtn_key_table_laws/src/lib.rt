@@ -1,4 +1,4 @@
-//! Laws of key tables, over the definitions of `mtn_key_tables` alone. Nothing here runs.
+//! Laws of key tables, over the definitions of `mtn_certs` alone. Nothing here runs.
 //!
 //! The crates above rely on this: each payload is exactly one key table, or has exactly one first fault, so that a command
 //! that takes a key table has exactly one outcome.
@@ -7,7 +7,7 @@
 ghost use Rattle.std.specs.Prelude.{◌≡◌, ℕ, List, Result};
 ghost use Rattle.mtn_base.specs.declared.refusal.Cause.{Cause};
 ghost use Rattle.mtn_certs.specs.declared.cert.KeyName.{KeyName};
-ghost use Rattle.mtn_key_tables.specs.Given.{IsTableOf};
+ghost use Rattle.mtn_certs.specs.GivenTables.{IsTableOf};
 
 /// A payload comes to no more than one thing.
 pub fn one_table()

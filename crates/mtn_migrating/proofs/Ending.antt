@@ -13,8 +13,8 @@ use Rattle.mtn_history.specs.declared.errors.HistoryError.{HistoryError}
 use Rattle.mtn_history.specs.declared.errors.HistoryError.TheVariants.{Refused, Store}
 use Rattle.mtn_history.specs.declared.errors.StoreError.{StoreError}
 use Rattle.mtn_history.specs.declared.errors.StoreError.TheVariants.{NoMemory}
-use Rattle.mtn_key_tables.specs.Given.{IsTableOf}
-use Rattle.mtn_key_tables.specs.KeyTables.{IsKeyTable}
+use Rattle.mtn_certs.specs.GivenTables.{IsTableOf}
+use Rattle.mtn_certs.specs.KeyTables.{IsKeyTable}
 use Rattle.mtn_model.specs.State.{State}
 use Rattle.mtn_model.specs.Table.{Contents}
 use Rattle.mtn_ports.specs.Kept.{with_all}

@@ -16,7 +16,7 @@ use Rattle.mtn_history.specs.Records.{put_of}
 use Rattle.mtn_history.specs.declared.errors.HistoryError.{HistoryError}
 use Rattle.mtn_history.specs.declared.errors.HistoryError.TheVariants.{Refused, Store}
 use Rattle.mtn_history.specs.declared.errors.StoreError.TheVariants.{NoMemory}
-use Rattle.mtn_key_tables.specs.Given.{IsTableOf}
+use Rattle.mtn_certs.specs.GivenTables.{IsTableOf}
 use Rattle.mtn_ports.specs.declared.batch.Put.{Put}
 use Rattle.mtn_old_stores.specs.Older.{OldCertificate}
 use Rattle.mtn_old_stores.specs.Migrating.{id_named, made_by, migrating_puts}

@@ -1,13 +1,12 @@
 // The key table that a payload is.
 ghost use Rattle.std.specs.Prelude.{◌≡◌, Ok, IfErr, IfOk};
-ghost use Rattle.mtn_key_tables.specs.Given.{IsTableOf, text_cause};
-ghost use Rattle.mtn_key_tables.specs.KeyTables.{IsKeyTable};
+ghost use Rattle.mtn_certs.specs.GivenTables.{IsTableOf, text_cause};
+ghost use Rattle.mtn_certs.specs.KeyTables.{IsKeyTable};
 ghost use Rattle.mtn_migrating.specs.Working.{IsRefusedFor, IsUntabled};
 
 use mtn_base::{Cause, MAX_TEXT};
-use mtn_certs::KeyName;
+use mtn_certs::{KeyName, KeyTextError, read_keys};
 use mtn_history::{HistoryError, StoreError};
-use mtn_key_tables::{KeyTextError, read_keys};
 use std::alloc::Global;
 
 // What a text that spells no key table is refused for.

@@ -1,6 +1,6 @@
 //! Stores of the older form, turned into the present one.
 //!
-//! A *key table* gives each key that made a certificate an id (`mtn_key_tables`); what an older store becomes by it stands in
+//! A *key table* gives each key that made a certificate an id (`mtn_certs`); what an older store becomes by it stands in
 //! `mtn_old_stores`. A *migration* is the batch that makes it so, and the answer. The keeper is only asked.
 //!
 //! The crates above rely on this: over an older store [`migrate`] answers exactly what the payload comes to, and the batch put

@@ -10,7 +10,7 @@ use Rattle.mtn_base.specs.Ids.{by_id}
 use Rattle.mtn_base.specs.declared.id.Id.{Id}
 use Rattle.mtn_certs.specs.Certificates.{Certificate, IsIdBytes}
 use Rattle.mtn_certs.specs.declared.cert.KeyName.{KeyName}
-use Rattle.mtn_key_tables.specs.KeyTables.{IsKeyTable, has_id_of}
+use Rattle.mtn_certs.specs.KeyTables.{IsKeyTable, has_id_of}
 use Rattle.mtn_old_stores.specs.Older.{OldCertificate}
 use Rattle.mtn_old_stores.specs.Migrating.{id_named, made_by}
 

@@ -11,7 +11,7 @@ use Rattle.mtn_certs.specs.declared.cert.KeyName.{KeyName}
 use Rattle.mtn_history.specs.Certificates.{cert_key}
 use Rattle.mtn_history.specs.Meta.{version, version_key}
 use Rattle.mtn_history.specs.Stands.{StandsFor}
-use Rattle.mtn_key_tables.specs.KeyTables.{IsKeyName}
+use Rattle.mtn_certs.specs.KeyTables.{IsKeyName}
 use Rattle.mtn_model.specs.State.{Logged, State}
 use Rattle.mtn_model.specs.Table.{Contents, with_record}
 use Rattle.mtn_ports.specs.Kept.{with_all}

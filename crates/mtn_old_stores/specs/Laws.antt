@@ -4,7 +4,7 @@ use Rattle.mtn_base.specs.declared.id.Id.{Id}
 use Rattle.mtn_certs.specs.Certificates.{Certificate}
 use Rattle.mtn_certs.specs.declared.cert.KeyName.{KeyName}
 use Rattle.mtn_history.specs.Stands.{Stands, StandsFor}
-use Rattle.mtn_key_tables.specs.KeyTables.{IsKeyTable}
+use Rattle.mtn_certs.specs.KeyTables.{IsKeyTable}
 use Rattle.mtn_model.specs.State.{Holds, State}
 use Rattle.mtn_model.specs.Table.{Contents}
 use Rattle.mtn_ports.specs.Kept.{with_all}

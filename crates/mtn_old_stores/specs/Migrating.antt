@@ -9,7 +9,7 @@ use Rattle.mtn_certs.specs.declared.cert.KeyName.{KeyName}
 use Rattle.mtn_history.specs.Certificates.{cert_key}
 use Rattle.mtn_history.specs.Meta.{version, version_key}
 use Rattle.mtn_history.specs.Records.{put_of}
-use Rattle.mtn_key_tables.specs.KeyTables.{IsKeyTable}
+use Rattle.mtn_certs.specs.KeyTables.{IsKeyTable}
 use Rattle.mtn_model.specs.State.{State}
 use Rattle.mtn_ports.specs.Kept.{IsAbove}
 use Rattle.mtn_ports.specs.declared.batch.Put.{Put}

@@ -5,7 +5,7 @@ use Rattle.mtn_base.specs.declared.refusal.Cause.{Cause}
 use Rattle.mtn_base.specs.declared.refusal.Cause.TheVariants.{UnknownKey}
 use Rattle.mtn_certs.specs.declared.cert.KeyName.{KeyName}
 use Rattle.mtn_history.specs.Stands.{Stands}
-use Rattle.mtn_key_tables.specs.Given.{IsTableOf}
+use Rattle.mtn_certs.specs.GivenTables.{IsTableOf}
 use Rattle.mtn_model.specs.State.{State}
 use Rattle.mtn_model.specs.Table.{Contents}
 use Rattle.mtn_ports.specs.Kept.{IsAbove}

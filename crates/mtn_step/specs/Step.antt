@@ -27,7 +27,7 @@ use Rattle.mtn_generated.specs.Numbered.{summary_text}
 use Rattle.mtn_history_laws.specs.History.{Revision}
 use Rattle.mtn_exports.specs.Exports.{IsExported}
 use Rattle.mtn_imports.specs.Imports.{Kept, ReadsInput, kept_text}
-use Rattle.mtn_key_tables.specs.Given.{IsTableOf}
+use Rattle.mtn_certs.specs.GivenTables.{IsTableOf}
 use Rattle.mtn_model.specs.Outcome.{Outcome}
 use Rattle.mtn_model.specs.State.{State}
 use Rattle.mtn_model.specs.declared.status.Status.TheVariants as status

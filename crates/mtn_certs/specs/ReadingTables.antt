@@ -8,9 +8,9 @@ use Rattle.mtn_base.specs.Names.{bytes_cmp}
 use Rattle.mtn_base.specs.declared.id.Id.{Id}
 use Rattle.mtn_basic_io.specs.Spelling.{LineText}
 use Rattle.mtn_certs.specs.declared.cert.KeyName.{KeyName}
-use Rattle.mtn_key_tables.specs.declared.error.KeyTextError.{KeyTextError}
-use Rattle.mtn_key_tables.specs.declared.error.KeyTextError.TheVariants.{NotText, BadStanza, BadOrder, Repeated, NoMemory}
-use Rattle.mtn_key_tables.specs.KeyTables.{stanza_of, header, is_repeat, IsKeyName, AreKeyNames, IsNothing, IsFirstFault, IsLaterFault}
+use Rattle.mtn_certs.specs.declared.key_error.KeyTextError.{KeyTextError}
+use Rattle.mtn_certs.specs.declared.key_error.KeyTextError.TheVariants.{NotText, BadStanza, BadOrder, Repeated, NoMemory}
+use Rattle.mtn_certs.specs.KeyTables.{stanza_of, header, is_repeat, IsKeyName, AreKeyNames, IsNothing, IsFirstFault, IsLaterFault}
 
 -- the ids and the names of key names
 abbrev pub AreIds : BTreeSet Id → List KeyName → Type 0

@@ -8,10 +8,10 @@ use Rattle.mtn_base.proofs.Finding.{either_false}
 use Rattle.mtn_base.proofs.Sorting.{long_map}
 use Rattle.mtn_base.proofs.Dropping.{drop_step}
 use Rattle.mtn_certs.specs.declared.cert.KeyName.{KeyName}
-use Rattle.mtn_key_tables.specs.declared.error.KeyTextError.{KeyTextError}
-use Rattle.mtn_key_tables.specs.declared.error.KeyTextError.TheVariants.{NotText, BadStanza, BadOrder, Repeated, NoMemory}
-use Rattle.mtn_key_tables.specs.KeyTables.{stanza_of, header, has_id_of, has_name_of, is_repeat, IsKeyName, AreKeyNames, IsKeyTable, StandsAt}
-use Rattle.mtn_key_tables.specs.Reading.{IsNext, IsRefused, IsListFault}
+use Rattle.mtn_certs.specs.declared.key_error.KeyTextError.{KeyTextError}
+use Rattle.mtn_certs.specs.declared.key_error.KeyTextError.TheVariants.{NotText, BadStanza, BadOrder, Repeated, NoMemory}
+use Rattle.mtn_certs.specs.KeyTables.{stanza_of, header, has_id_of, has_name_of, is_repeat, IsKeyName, AreKeyNames, IsKeyTable, StandsAt}
+use Rattle.mtn_certs.specs.ReadingTables.{IsNext, IsRefused, IsListFault}
 
 none_left : {X : Type 0} (f : X → Bool) (xs ys : List X) → list_any f (xs ++ ys) ≡ false → list_any f xs ≡ false
 none_left f [] ys h = refl

@@ -17,7 +17,7 @@ pub enum KeyTextError {
 
 impl From<Wanting> for KeyTextError {
     ghost use Rattle.std.specs.Prelude.{◌≡◌};
-    ghost use Rattle.mtn_key_tables.specs.declared.error.KeyTextError.TheVariants.{NoMemory};
+    ghost use Rattle.mtn_certs.specs.declared.key_error.KeyTextError.TheVariants.{NoMemory};
 
     ghost from_gives = { λ _ e. e ≡ NoMemory };
 

@@ -9,8 +9,8 @@ use Rattle.mtn_certs.specs.Certificates.{is_field}
 use Rattle.mtn_certs.specs.declared.cert.KeyName.{KeyName}
 use Rattle.mtn_changes.specs.ChangesText.{IsNoText}
 use Rattle.mtn_changes.specs.Stanzas.{text_line, id_line}
-use Rattle.mtn_key_tables.specs.declared.error.KeyTextError.{KeyTextError}
-use Rattle.mtn_key_tables.specs.declared.error.KeyTextError.TheVariants.{NotText, BadStanza, BadOrder, Repeated, NoMemory}
+use Rattle.mtn_certs.specs.declared.key_error.KeyTextError.{KeyTextError}
+use Rattle.mtn_certs.specs.declared.key_error.KeyTextError.TheVariants.{NotText, BadStanza, BadOrder, Repeated, NoMemory}
 
 -- the first stanza
 abbrev pub header : List LineText

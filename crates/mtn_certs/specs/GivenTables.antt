@@ -5,9 +5,9 @@ use Rattle.mtn_base.specs.declared.refusal.Cause.{Cause}
 use Rattle.mtn_base.specs.declared.refusal.Cause.TheVariants.{TextTooLong, NotText, BadStanza, BadOrder, Repeated}
 use Rattle.mtn_basic_io.specs.Spelling.{AreStanzas}
 use Rattle.mtn_certs.specs.declared.cert.KeyName.{KeyName}
-use Rattle.mtn_key_tables.specs.declared.error.KeyTextError.{KeyTextError}
-use Rattle.mtn_key_tables.specs.declared.error.KeyTextError.TheVariants as text
-use Rattle.mtn_key_tables.specs.KeyTables.{header, stanza_of, IsKeysText, IsKeysFault}
+use Rattle.mtn_certs.specs.declared.key_error.KeyTextError.{KeyTextError}
+use Rattle.mtn_certs.specs.declared.key_error.KeyTextError.TheVariants as text
+use Rattle.mtn_certs.specs.KeyTables.{header, stanza_of, IsKeysText, IsKeysFault}
 
 -- the cause of a text's fault
 abbrev pub text_cause : KeyTextError → Option Cause

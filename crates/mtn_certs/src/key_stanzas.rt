@@ -1,11 +1,12 @@
 // What a stanza spells.
 ghost use Rattle.std.specs.Prelude.{◌≡◌, ◌↔◌, IfOk, IsTrue};
-ghost use Rattle.mtn_key_tables.specs.KeyTables.{IsRead, header};
+ghost use Rattle.mtn_certs.specs.KeyTables.{IsRead, header};
 
-use crate::lines::{id_of, text_of};
+use crate::cert::KeyName;
+use crate::field::is_field;
+use crate::key_lines::{id_of, text_of};
 use mtn_base::{Bytes, NoMemory};
 use mtn_basic_io::Stanza;
-use mtn_certs::{KeyName, is_field};
 use std::alloc::Global;
 
 /// The key name that a stanza spells; None exactly where it spells none.

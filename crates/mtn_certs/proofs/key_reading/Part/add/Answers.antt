@@ -4,10 +4,10 @@ use Rattle.std.specs.BTreeMap.{is_at}
 use Rattle.mtn_base.specs.Ids.{by_id}
 use Rattle.mtn_base.specs.Names.{bytes_cmp}
 use Rattle.mtn_certs.specs.declared.cert.KeyName.{KeyName}
-use Rattle.mtn_key_tables.specs.KeyTables.{IsRead}
-use Rattle.mtn_key_tables.specs.Reading.{AreIds, AreTheNames}
-use Rattle.mtn_key_tables.proofs.Fresh.{taken, not_taken, one_more, by_the_id, by_the_name, by_neither}
-use Rattle.mtn_key_tables.proofs.reading.Part.add.Goals as goal
+use Rattle.mtn_certs.specs.KeyTables.{IsRead}
+use Rattle.mtn_certs.specs.ReadingTables.{AreIds, AreTheNames}
+use Rattle.mtn_certs.proofs.FreshKeys.{taken, not_taken, one_more, by_the_id, by_the_name, by_neither}
+use Rattle.mtn_certs.proofs.key_reading.Part.add.Goals as goal
 
 pub returns-then-not-fresh_id-clause-err : goal.returns-then-not-fresh_id-clause-err
 returns-then-not-fresh_id-clause-err c = let r : IsRead c.args.stanza.now (Some c.in-Some.key) = subst (IsRead c.args.stanza.now) c.in-Some.is c.in_ok-key.ensures in (

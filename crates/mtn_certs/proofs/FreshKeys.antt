@@ -8,7 +8,7 @@ use Rattle.std.proofs.lemmas.List.Folds.{list_any-append}
 use Rattle.std.specs.BTreeSet.{BTreeSet, contains, Updates}
 use Rattle.std.specs.BTreeMap.{is_at}
 use Rattle.mtn_certs.specs.declared.cert.KeyName.{KeyName}
-use Rattle.mtn_key_tables.specs.KeyTables.{has_id_of, has_name_of, is_repeat}
+use Rattle.mtn_certs.specs.KeyTables.{has_id_of, has_name_of, is_repeat}
 
 or_swap : (a b : Bool) → cond a true b ≡ (b || (a || false))
 or_swap true true = refl

@@ -1,5 +1,5 @@
-use Rattle.mtn_key_tables.proofs.Texting.{next_so_far, refused}
-use Rattle.mtn_key_tables.proofs.reading.items_of.Goals as goal
+use Rattle.mtn_certs.proofs.KeyTexting.{next_so_far, refused}
+use Rattle.mtn_certs.proofs.key_reading.items_of.Goals as goal
 
 pub loop-at-preserved : goal.loop-at-preserved
 loop-at-preserved c = record {

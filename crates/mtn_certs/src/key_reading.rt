@@ -1,15 +1,15 @@
 // Texts of key tables.
 ghost use Rattle.std.specs.Prelude.{◌≡◌, [], ◌∷◌, map, IfOk, IfErr, OnOk};
 ghost use Rattle.mtn_basic_io.specs.Spelling.{AreStanzas};
-ghost use Rattle.mtn_key_tables.specs.KeyTables.{IsKeysText, IsKeysFault, IsKeyTable, header, stanza_of};
-ghost use Rattle.mtn_key_tables.specs.Reading.{IsPart, IsList, IsListFault, IsNext, IsRefused, IsFirstRefused};
+ghost use Rattle.mtn_certs.specs.KeyTables.{IsKeysText, IsKeysFault, IsKeyTable, header, stanza_of};
+ghost use Rattle.mtn_certs.specs.ReadingTables.{IsPart, IsList, IsListFault, IsNext, IsRefused, IsFirstRefused};
 
-use crate::error::KeyTextError;
-use crate::name::Name;
-use crate::stanzas::{is_header, key_of};
+use crate::cert::KeyName;
+use crate::key_error::KeyTextError;
+use crate::key_name::Name;
+use crate::key_stanzas::{is_header, key_of};
 use mtn_base::{Id, List};
 use mtn_basic_io::{ReadError, Stanza, read as read_stanzas};
-use mtn_certs::KeyName;
 use std::alloc::Global;
 use std::collections::BTreeSet;
 

@@ -1,2 +1,0 @@
-pub mod Texting
-pub mod Fresh

@@ -1,3 +1,0 @@
-pub mod KeyTables
-pub mod Given
-pub mod Reading
