@@ -27,4 +27,5 @@ mod verdict;
 
 pub use job::{CheckJob, Verdict};
 pub use pieces::check_pieces;
+pub use reading::{revision_of, roster_of};
 pub use verdict::check_one;
