@@ -1,0 +1,29 @@
+-- What is said of the records of a position whose job agrees.
+use Rattle.std.specs.Prelude.{◌<◌, ◌++◌, ℕ, List}
+use Rattle.mtn_check_laws.specs.FirstDamage.{IsDamageAt}
+use Rattle.mtn_check_laws.specs.Fronts.{Front, IsFrontAt}
+use Rattle.mtn_check_pieces.specs.Verdict.{IsAgreeing}
+use Rattle.mtn_check_pieces.specs.declared.job.CheckJob.{CheckJob}
+use Rattle.mtn_history.specs.declared.errors.Damage.{Damage}
+use Rattle.mtn_history.specs.declared.errors.Damage.TheVariants.{Bad}
+use Rattle.mtn_model.specs.Table.{Contents}
+use Rattle.mtn_records.specs.Fields.{number_text}
+use Rattle.mtn_check_records.specs.Reading.{IsReadAt, IsStepOf}
+use Rattle.mtn_check_records.specs.declared.hand.Fit.{Fit}
+use Rattle.mtn_check_records.specs.declared.hand.Fit.TheVariants.{Fits, OtherText, OtherLog, OtherRoster, Undecided}
+use Rattle.mtn_check_records.specs.declared.hand.Position.{Position}
+
+-- wherever the position was read behind a front, and its job agrees, its records lead to one revision more
+abbrev pub Leads : (List ℕ → List ℕ) → Position → CheckJob → Type 0
+Leads f x job = (c : Contents) (r : ℕ) (front : Front) → IsFrontAt f c r front → r < 2147483648 → IsReadAt c r front x job → IsAgreeing job → IsStepOf f c r front x job
+
+-- and there this is the first damage of the position
+abbrev pub Shows : (List ℕ → List ℕ) → Position → CheckJob → (ℕ → Damage) → Type 0
+Shows f x job d = (c : Contents) (r : ℕ) (front : Front) → IsFrontAt f c r front → r < 2147483648 → IsReadAt c r front x job → IsAgreeing job → IsDamageAt f c r front (d r)
+
+abbrev pub IsFitting : (List ℕ → List ℕ) → Position → CheckJob → Fit → Type 0
+IsFitting f x job Fits = Leads f x job
+IsFitting f x job OtherText = Shows f x job (λ r. Bad 3 x.entry.id.0 (number_text r ++ job.text))
+IsFitting f x job OtherLog = Shows f x job (λ r. Bad 4 (number_text r) x.log.items)
+IsFitting f x job OtherRoster = Shows f x job (λ r. Bad 5 (number_text r) x.roster.items)
+IsFitting f x job Undecided = Unit {0}
