@@ -1,0 +1,2 @@
+mod Lots
+mod Walks

@@ -1,0 +1,242 @@
+// Whether the positions of a lot are sound.
+ghost use Rattle.std.specs.Prelude.{◌≡◌, ◌≢◌, ◌≤◌, ◌++◌, ℕ, List, length, vec_len, IfOk, IfSome, IsTrue};
+ghost use Rattle.mtn_history.specs.Errors.{IfDamage};
+ghost use Rattle.mtn_records.specs.Fields.{number_text};
+ghost use Rattle.mtn_check_pieces.specs.Verdict.{AreVerdicts, IsAgreeing};
+ghost use Rattle.mtn_check_pieces.specs.declared.job.CheckJob.{CheckJob as Job};
+ghost use Rattle.mtn_check_records.specs.declared.hand.Position.{Position as At};
+ghost use Rattle.mtn_check_records.specs.Fitting.{IsFitting};
+ghost use Rattle.mtn_check_walk.specs.Lots.{AreFits, AreSound, Damages, IsShown};
+ghost use Rattle.mtn_check_walk.specs.Judging.{IsJudged};
+
+use mtn_base::NoMemory;
+use mtn_check_hands::Lot;
+use mtn_check_log::bad;
+use mtn_check_pieces::{CheckJob, Verdict, check_pieces};
+use mtn_check_records::{Fit, Position, fit_pieces, fits};
+use mtn_history::{Damage, LOG, ROSTERS, StoreError, TEXTS};
+use mtn_pieces::Gate;
+use mtn_ports::Ident;
+use std::alloc::Global;
+use std::thread::{Threads, join};
+
+/// What is found of a lot: how many positions are sound, from its first on; and the damage of the one behind them, where the answers
+/// on it tell it.
+#[derive(Drop)]
+pub struct Judged {
+    pub sound: usize,
+    pub damage: Option<StoreError>,
+}
+
+// Lets pieces pass as an ident does.
+#[derive(Drop)]
+struct IdentGate<'a, I> {
+    ident: &'a I,
+}
+
+impl<I: Ident> Gate for IdentGate<'_, I> {
+    fn pass(&self, piece: usize) {
+        self.ident.pass(piece);
+    }
+}
+
+// The verdict on each job.
+fn verdicts_on<R: Threads + Sync, I: Ident>(
+    rt: &R,
+    alloc: Global,
+    ident: &I,
+    pieces: usize,
+    jobs: &[CheckJob],
+) -> Result<Vec<Verdict>, NoMemory>
+    ensures { IfOk result (λ vs. AreVerdicts jobs.now vs.items) }
+{
+    check_pieces(rt, alloc, &IdentGate { ident }, pieces, jobs)
+}
+
+// What is said of the records of each position, one after the other.
+fn fit_in_turn<I: Ident>(
+    alloc: Global,
+    ident: &I,
+    positions: &[Position],
+    jobs: &[CheckJob],
+) -> Result<Vec<Fit>, NoMemory>
+    requires same { length positions.now ≡ length jobs.now }
+    ensures len { IfOk result (λ v. vec_len v ≡ length jobs.now) }
+    ensures fits { IfOk result (λ v. AreFits (I.meaning ident.now) positions.now jobs.now v.items) }
+{
+    let mut answers = Vec::with_capacity(alloc, jobs.len())?;
+    for (place, job) in jobs.iter().enumerate() {
+        answers.push(fits(alloc, ident, &positions[place], job)?)?;
+    }
+    Ok(answers)
+}
+
+// The same; with more pieces than one on threads of their own.
+fn fit_all<R: Threads + Sync, I: Ident>(
+    rt: &R,
+    alloc: Global,
+    ident: &I,
+    pieces: usize,
+    positions: &[Position],
+    jobs: &[CheckJob],
+) -> Result<Vec<Fit>, NoMemory>
+    requires same { length positions.now ≡ length jobs.now }
+    ensures len { IfOk result (λ v. vec_len v ≡ length jobs.now) }
+    ensures fits { IfOk result (λ v. AreFits (I.meaning ident.now) positions.now jobs.now v.items) }
+{
+    if pieces > 1 {
+        return fit_pieces(rt, alloc, ident, positions, jobs);
+    }
+    fit_in_turn(alloc, ident, positions, jobs)
+}
+
+// Whether a position is sound that has these answers.
+fn is_sound(verdict: Verdict, fit: Fit) -> bool
+    ensures { IsTrue result → (verdict ≡ Verdict.Agrees) × (fit ≡ Fit.Fits) }
+{
+    matches!(verdict, Verdict::Agrees) && matches!(fit, Fit::Fits)
+}
+
+// How many positions agree and fit, up to the first that does not.
+fn count_sound(verdicts: &[Verdict], answers: &[Fit]) -> usize
+    requires len { length answers.now ≡ length verdicts.now }
+    ensures within { result ≤ length verdicts.now }
+    ensures sound { (f : List ℕ → List ℕ) (xs : List At) (jobs : List Job) → AreVerdicts jobs verdicts.now → AreFits f xs jobs answers.now → AreSound f xs jobs result }
+{
+    for (place, verdict) in verdicts.iter().enumerate() {
+        if !is_sound(*verdict, answers[place]) {
+            return place;
+        }
+    }
+    verdicts.len()
+}
+
+// The record of a text.
+fn text_record(alloc: Global, job: &CheckJob) -> Result<Vec<u8>, NoMemory>
+    ensures { IfOk result (λ v. v.items ≡ number_text job.now.at ++ job.now.text) }
+{
+    let mut body = Vec::new(alloc);
+    body.extend_from_slice(&job.at.0.to_be_bytes())?;
+    body.extend_from_slice(job.text.as_slice())?;
+    Ok(body)
+}
+
+// The text's record is bad.
+fn bad_text(alloc: Global, position: &Position, job: &CheckJob) -> StoreError
+    ensures damaged { IfDamage result (λ d. d ≡ Damage.Bad 3 position.now.entry.id.0 (number_text job.now.at ++ job.now.text)) }
+    ensures failed { result ≢ StoreError.Failed }
+{
+    match text_record(alloc, job) {
+        Ok(body) => bad(alloc, TEXTS, &position.entry.id.0, &body),
+        Err(NoMemory) => StoreError::NoMemory,
+    }
+}
+
+// The damage of a position whose job agrees, if there is one.
+fn show(alloc: Global, position: &Position, job: &CheckJob, fit: Fit) -> Option<StoreError>
+    ensures shown { (f : List ℕ → List ℕ) → IsFitting f position.now job.now fit → IsAgreeing job.now → IfSome result (λ e. IfDamage e (Damages f position.now job.now)) }
+    ensures failed { IfSome result (λ e. e ≢ StoreError.Failed) }
+{
+    let at = job.at.0.to_be_bytes();
+    match fit {
+        Fit::OtherText => Some(bad_text(alloc, position, job)),
+        Fit::OtherLog => Some(bad(alloc, LOG, &at, &position.log)),
+        Fit::OtherRoster => Some(bad(alloc, ROSTERS, &at, &position.roster)),
+        Fit::Fits | Fit::Undecided => None,
+    }
+}
+
+// The damage of the position at a place, if the answers on it tell one.
+fn damage_at(
+    alloc: Global,
+    positions: &[Position],
+    jobs: &[CheckJob],
+    place: usize,
+    verdicts: &[Verdict],
+    answers: &[Fit],
+) -> Option<StoreError>
+    requires same { length positions.now ≡ length jobs.now }
+    requires verdicts { length verdicts.now ≡ length jobs.now }
+    requires answers { length answers.now ≡ length jobs.now }
+    ensures shown { (f : List ℕ → List ℕ) → AreVerdicts jobs.now verdicts.now → AreFits f positions.now jobs.now answers.now → IfSome result (IsShown f positions.now jobs.now place) }
+    ensures failed { IfSome result (λ e. e ≢ StoreError.Failed) }
+{
+    if place >= verdicts.len() {
+        return None;
+    }
+    match verdicts[place] {
+        Verdict::Agrees => show(alloc, &positions[place], &jobs[place], answers[place]),
+        Verdict::Differs => None,
+    }
+}
+
+// What the answers tell of a lot.
+fn found_in(
+    alloc: Global,
+    positions: &[Position],
+    jobs: &[CheckJob],
+    verdicts: &[Verdict],
+    answers: &[Fit],
+) -> Judged
+    requires same { length positions.now ≡ length jobs.now }
+    requires verdicts { length verdicts.now ≡ length jobs.now }
+    requires answers { length answers.now ≡ length jobs.now }
+    ensures within { result.sound ≤ length jobs.now }
+    ensures sound { (f : List ℕ → List ℕ) → AreVerdicts jobs.now verdicts.now → AreFits f positions.now jobs.now answers.now → AreSound f positions.now jobs.now result.sound }
+    ensures shown { (f : List ℕ → List ℕ) → AreVerdicts jobs.now verdicts.now → AreFits f positions.now jobs.now answers.now → IfSome result.damage (IsShown f positions.now jobs.now result.sound) }
+    ensures failed { IfSome result.damage (λ e. e ≢ StoreError.Failed) }
+{
+    let sound = count_sound(verdicts, answers);
+    let damage = damage_at(alloc, positions, jobs, sound, verdicts, answers);
+    Judged { sound, damage }
+}
+
+// Both answers on each position; with more pieces than one beside each other.
+fn answers_on<R: Threads + Sync, I: Ident>(
+    rt: &R,
+    alloc: Global,
+    ident: &I,
+    pieces: usize,
+    positions: &[Position],
+    jobs: &[CheckJob],
+) -> (Result<Vec<Verdict>, NoMemory>, Result<Vec<Fit>, NoMemory>)
+    requires same { length positions.now ≡ length jobs.now }
+    ensures verdicts { IfOk result.0 (λ vs. AreVerdicts jobs.now vs.items) }
+    ensures len { IfOk result.1 (λ v. vec_len v ≡ length jobs.now) }
+    ensures fits { IfOk result.1 (λ v. AreFits (I.meaning ident.now) positions.now jobs.now v.items) }
+{
+    if pieces < 2 {
+        let verdicts = verdicts_on(rt, alloc, ident, pieces, jobs);
+        return (verdicts, fit_all(rt, alloc, ident, pieces, positions, jobs));
+    }
+    join(
+        rt,
+        || -> Result<Vec<Verdict>, NoMemory>
+            ensures { IfOk result (λ vs. AreVerdicts jobs.entry.now vs.items) }
+        { verdicts_on(rt, alloc, ident, pieces, jobs) },
+        || -> Result<Vec<Fit>, NoMemory>
+            requires { length positions.now ≡ length jobs.now }
+            ensures len { IfOk result (λ v. vec_len v ≡ length jobs.entry.now) }
+            ensures fits { IfOk result (λ v. AreFits (I.meaning ident.entry.now) positions.entry.now jobs.entry.now v.items) }
+        { fit_all(rt, alloc, ident, pieces, positions, jobs) },
+    )
+}
+
+/// How many positions of a lot are sound, up to the first that may not be, and the damage of that one where its job agrees. The jobs
+/// are checked in so many pieces, each of which passes the ident; with more than one, the records are looked at on threads of their
+/// own. It takes memory for the answers and for what each piece has at hand of one position.
+pub fn judge<R: Threads + Sync, I: Ident>(
+    rt: &R,
+    alloc: Global,
+    ident: &I,
+    pieces: usize,
+    lot: &Lot,
+) -> Result<Judged, NoMemory>
+    requires same { length lot.now.positions.items ≡ length lot.now.jobs.items }
+    ensures { IfOk result (IsJudged (I.meaning ident.now) lot.now) }
+{
+    let (verdicts, answers) = answers_on(rt, alloc, ident, pieces, &lot.positions, &lot.jobs);
+    let verdicts = verdicts?;
+    let answers = answers?;
+    Ok(found_in(alloc, &lot.positions, &lot.jobs, &verdicts, &answers))
+}
