@@ -1,8 +1,8 @@
 #!/bin/bash
 # What a session of requests costs, into a new store file and over a store in memory, each as a multiple of another program in the
-# same run: 20,000 small files put and got against python's sqlite3 with one transaction for each, and a line of 2,000 revisions
-# with its files against `git fast-import`. Prints how much more work twice the requests are, too. The best of three counts; puts
-# into a file are taken once, since the other's take minutes. A request that puts something syncs the file once, where git syncs
+# same run: 20,000 small files put and then got in one session against python's sqlite3 with one transaction for each put, and a
+# line of 2,000 revisions with its files against `git fast-import`. Prints how much more work twice the requests are, too. The best
+# of three counts; what is put into a file and got in the same session is taken once, since the other's puts take minutes. A request that puts something syncs the file once, where git syncs
 # once in all; so the revisions are put into a file in memory as well, where no disk is waited for.
 cd "$(dirname "${BASH_SOURCE[0]}")/.." || exit 1
 printf '' | ./mtn - put_file >/dev/null || exit 1
@@ -26,6 +26,22 @@ def best(work, rounds=3):
         with tempfile.TemporaryDirectory() as folder:
             times.append(work(folder))
     return min(times)
+
+def answers(store, data, first):
+    """The times to the answer of that number, and from there to the last one, of a session."""
+    start = time.monotonic()
+    with tempfile.TemporaryFile() as requests:
+        requests.write(data)
+        requests.seek(0)
+        with subprocess.Popen([mtn, store, 'stdio'], stdin=requests, stdout=subprocess.PIPE) as out:
+            mark, seen, middle = b'%d:m:' % first, b'', None
+            while block := os.read(out.stdout.fileno(), 1 << 16):
+                seen = seen[-len(mark):] + block
+                if middle is None and mark in seen:
+                    middle = time.monotonic()
+                end = time.monotonic()
+            assert out.wait() == 0, out.returncode
+    return middle - start, end - middle
 
 def session(store, data):
     def run():
@@ -55,8 +71,7 @@ def open_sqlite(folder):
     records = sqlite3.connect(os.path.join(folder, 'other.db'), isolation_level=None)
     return records
 
-def other_puts(folder):
-    records = open_sqlite(folder)
+def other_puts(records):
     records.execute('CREATE TABLE kept (kind INTEGER, name BLOB, body BLOB, PRIMARY KEY (kind, name)) WITHOUT ROWID')
     def run():
         for body in bodies:
@@ -65,21 +80,24 @@ def other_puts(folder):
             records.execute('COMMIT')
     return clock(run)
 
-def other_gets(folder):
-    records = open_sqlite(folder)
+def other_gets(records):
     def run():
         for body in bodies:
             records.execute('SELECT body FROM kept WHERE kind = 2 AND name = ?', (bytes.fromhex(sha(body)),)).fetchone()
     return clock(run)
 
-# A store in a file and a database of the other, with these files, for the questions below.
+# Into a new store file in one session, the puts and then the gets; and into a new database over one connection. Then the gets in
+# sessions of their own, which open the store: the kit's database reads and checks the whole file there.
 with tempfile.TemporaryDirectory() as folder:
     store = os.path.join(folder, 's.mtn')
-    put = session(store, b''.join(puts))
-    ratio('put_file, 20,000 of 100 bytes', put, other_puts(folder), 2)
-    asked, other = best(lambda _: session(store, b''.join(gets))), best(lambda _: other_gets(folder))
-    ratio('get_file, 20,000', asked, other, 1)
-    print(f'the same less a session of one request, which opens the store: {(asked - best(lambda _: session(store, gets[0]))) / other:.2f} times', flush=True)
+    put, got = answers(store, b''.join(puts + gets), FILES)
+    records = open_sqlite(folder)
+    ratio('put_file, 20,000 of 100 bytes', put, other_puts(records), 2)
+    other = min(other_gets(records) for _ in range(3))
+    ratio('get_file, 20,000, in the same session', got, other, 1)
+    opened = best(lambda _: session(store, b''.join(gets)))
+    print(f'in a session of their own, with the opening of the store: {opened / other:.2f} times', flush=True)
+    print(f'the same less a session of one request, which opens the store: {(opened - best(lambda _: session(store, gets[0]))) / other:.2f} times', flush=True)
 print(f'twice the files take {work(b"".join(puts)) / work(b"".join(puts[:FILES // 2])):.2f} times the work in memory', flush=True)
 
 def requests(commands):
