@@ -1,5 +1,6 @@
 pub mod Ancestors
 pub mod Log
+pub mod Members
 pub mod Sets
 pub mod Places
 pub mod Walking

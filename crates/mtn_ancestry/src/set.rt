@@ -1,6 +1,7 @@
 // Sets of positions.
 ghost use Rattle.std.specs.Prelude.{◌≡◌, ◌↔◌, IsTrue, IfOk, Contains};
 ghost use Rattle.std.specs.List.Sorted.{IsStrictlyIncreasing};
+ghost use Rattle.mtn_ancestry.specs.Members.{members_of};
 
 use crate::Pos;
 use mtn_base::NoMemory;
@@ -8,21 +9,60 @@ use std::alloc::Global;
 use std::marker::Model;
 use std::sync::Arc;
 
-/// A set of positions, which contracts see as a list that ascends without repeats. Copies share it.
+/// A position alone, as most sets of marks have it, or a list that copies share.
+#[derive(Drop)]
+enum Members {
+    One([Pos; 1]),
+    Listed(Arc<Vec<Pos>>),
+}
+
+/// A set of positions, which contracts see as a list that ascends without repeats. Copies share the list, and one position alone
+/// takes no memory.
 #[derive(Drop)]
 pub struct PosSet {
-    items: Arc<Vec<Pos>>,
+    members: Members,
 }
 
 impl Model for PosSet {
     ghost use Rattle.std.specs.Prelude.{ℕ, List};
     ghost use Rattle.std.specs.List.Sorted.{IsStrictlyIncreasing};
+    ghost use Rattle.mtn_ancestry.specs.Members.{members_of};
 
     ghost Value = { List ℕ };
 
-    ghost view = { λ s. s.items.value.items };
+    ghost view = { λ s. members_of s.members };
 
-    ghost invariant = { λ s. IsStrictlyIncreasing s.items.value.items };
+    ghost invariant = { λ s. IsStrictlyIncreasing (members_of s.members) };
+}
+
+// The positions of a list: one alone in place.
+fn members_in(alloc: Global, items: Vec<Pos>) -> Result<Members, NoMemory>
+    ensures { IfOk result (λ m. members_of m ≡ items.items) }
+{
+    if let [one] = items.as_slice() {
+        return Ok(Members::One([*one]));
+    }
+    Ok(Members::Listed(Arc::new(alloc, items)?))
+}
+
+impl Members {
+    fn as_slice(&self) -> &[Pos]
+        ensures { result.now ≡ members_of self.now }
+    {
+        match self {
+            Members::One(one) => one.as_slice(),
+            Members::Listed(items) => items.as_slice(),
+        }
+    }
+
+    fn copy(&self) -> Result<Members, NoMemory>
+        ensures { IfOk result (λ m. members_of m ≡ members_of self.now) }
+    {
+        match self {
+            Members::One(one) => Ok(Members::One(*one)),
+            Members::Listed(items) => Ok(Members::Listed(Arc::try_clone(items)?)),
+        }
+    }
 }
 
 impl PosSet {
@@ -32,7 +72,7 @@ impl PosSet {
         ensures { IfOk result (λ s. s ≡ items.items) }
     {
         Ok(PosSet {
-            items: Arc::new(alloc, items)?,
+            members: members_in(alloc, items)?,
         })
     }
 
@@ -41,22 +81,22 @@ impl PosSet {
         ensures value { result.now ≡ self.now }
         ensures ascending { IsStrictlyIncreasing self.now }
     {
-        self.items.as_slice()
+        self.members.as_slice()
     }
 
     /// Whether the position is in the set, by a binary search. It takes no memory.
     pub fn has(&self, at: Pos) -> bool
         ensures { IsTrue result ↔ Contains self.now at }
     {
-        self.items.binary_search(&at).is_ok()
+        self.as_slice().binary_search(&at).is_ok()
     }
 
-    /// An equal set, which shares the list.
+    /// An equal set, which shares the list. Of one position alone it takes no memory.
     pub fn copy(&self) -> Result<PosSet, NoMemory>
         ensures { IfOk result (λ s. s ≡ self.now) }
     {
         Ok(PosSet {
-            items: Arc::try_clone(&self.items)?,
+            members: self.members.copy()?,
         })
     }
 }

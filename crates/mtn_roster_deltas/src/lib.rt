@@ -6,10 +6,10 @@
 //! marks, no others, and is sane.
 //!
 //! The crates above rely on this: [`rebuild`] answers the entries at the chain's end and the marked tree that they spell, and
-//! is `Bad` exactly where there is none; a chain with [`delta`]'s record behind it gives the new entries; what [`number`]
-//! gives spells the marked tree that it was given, whatever lists it was given: where two nodes would get one number it is a
-//! `Clash`. Where the known numbers are from 1 and below the next, one for each node, there is no clash, known nodes keep their
-//! numbers, and new ones get the next.
+//! is `Bad` exactly where there is none, as is [`marked_tree`] of entries that are lent; a chain with [`delta`]'s record behind it
+//! gives the new entries; what [`number`] gives spells the marked tree that it was given, whatever lists it was given: where two
+//! nodes would get one number it is a `Clash`. Where the known numbers are from 1 and below the next, one for each node, there is
+//! no clash, known nodes keep their numbers, and new ones get the next.
 //!
 //! Cost: rebuilding is one merge for each delta and one build of the tree; a delta is one walk over two lists; numbering is a
 //! look-up by name for each known entry, one walk, one sort of numbers and one look along them.
@@ -33,4 +33,4 @@ pub use chain::DEEPEST;
 pub use difference::delta;
 pub use error::NumberError;
 pub use numbering::number;
-pub use rebuilding::{entries_of, rebuild, rebuild_on};
+pub use rebuilding::{entries_of, marked_tree, rebuild, rebuild_on};

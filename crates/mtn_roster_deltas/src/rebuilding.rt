@@ -61,6 +61,18 @@ pub fn rebuild_on(
     with_tree(alloc, follow_all(alloc, entries, depth + 1, records)?)
 }
 
+/// The marked tree that entries spell. Bad exactly where they spell none. The entries are only looked at.
+pub fn marked_tree(alloc: Global, entries: &Numbered) -> Result<MarkedRoster, RecordError>
+    ensures spelled { IfOk result (Spells entries.now) }
+    ensures bad { IsErrOf result RecordError.Bad → (t : MarkedTree) → Spells entries.now t → ⊥ }
+{
+    let entries = entries.entries.as_slice();
+    if !entries_ascend(entries) {
+        return Err(RecordError::Bad);
+    }
+    spelled(alloc, entries)
+}
+
 /// The entries at the end of a chain alone. Bad exactly where it gives none.
 pub fn entries_of(alloc: Global, chain: Vec<RosterRecord>) -> Result<Numbered, RecordError>
     ensures ok { IfOk result (λ r. rebuilt chain.items ≡ Some r) }

@@ -32,8 +32,8 @@ found xs x (Err i) b inc =
 
 pub returns : goal.returns
 returns c =
-    let e : c.deref-2.result.now ≡ c.args.self.now = cc in
-    let inc : IsStrictlyIncreasing c.args.self.now = subst IsStrictlyIncreasing c.self.view_is c.self.invariant in
+    let e : c.as_slice.result.now ≡ c.args.self.now = c.as_slice.ensures.value in
+    let inc : IsStrictlyIncreasing c.args.self.now = c.as_slice.ensures.ascending in
     let b = subst (λ xs. IsBinarySearchResult (λ y. nat_cmp y c.args.at) xs c.binary_search.result) e c.binary_search.ensures.position in
     let f = found c.args.self.now c.args.at c.binary_search.result b inc in
     (λ t. f.0 (sym c.is_ok.ensures.value ∙ t), λ m. c.is_ok.ensures.value ∙ f.1 m)
