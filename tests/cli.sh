@@ -255,14 +255,27 @@ chmod 444 "$work/open/s.mtn"
 chmod 666 "$work/shut/s.mtn"
 chmod 777 "$work/open"
 chmod 555 "$work/shut"
-for words in put_file "get_file $abc" leaves; do
+for words in put_file "get_file $abc" leaves "merge $abc $nothing" "cert --key=$abc $abc branch main" check migrate stdio; do
     # shellcheck disable=SC2086
     shut "a store that may not be written: $words" 6 '' "$work/open/s.mtn" $words
     # shellcheck disable=SC2086
     shut "a store in a folder that may not be written: $words" 6 '' "$work/shut/s.mtn" $words
 done
 shut "a missing store in such a folder is asked" 0 '' "$work/shut/none.mtn" leaves
+shut "and checked" 0 'ok 0\n' "$work/shut/none.mtn" check
+shut "and not migrated" 1 'refused BadOrder 1\n' "$work/shut/none.mtn" migrate
 shut "and not made" 6 '' "$work/shut/none.mtn" put_file
+for words in "merge $abc $nothing" "cert --key=$abc $abc branch main" stdio; do
+    # shellcheck disable=SC2086
+    shut "nor for $words" 6 '' "$work/shut/none.mtn" $words
+done
+verdict "none is there" test ! -e "$work/shut/none.mtn"
+# A session of two requests, of which none is answered.
+printf 'l8:put_file3:abce l6:leavese' >"$work/requests"
+for folder in open shut; do
+    as_nobody "$work/mtn" "$work/$folder/s.mtn" stdio <"$work/requests" >"$work/out" 2>"$work/err"
+    verdict "a session over such a store, in the folder $folder" test $? = 6 -a ! -s "$work/out" -a ! -s "$work/err"
+done
 verdict "both stores are as they were" test "$(cat "$work/open/s.mtn" "$work/shut/s.mtn" | sha1sum)" = "$(cat "$work/made.mtn" "$work/made.mtn" | sha1sum)"
 
 # ---- a generated history
