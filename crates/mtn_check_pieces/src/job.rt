@@ -1,8 +1,10 @@
 // What is checked, and the answer.
+use crate::SharedRecord;
 use mtn_ancestry::Pos;
 use mtn_base::{Bytes, Id, List};
+use mtn_changes::Revision;
 use mtn_make_roster::Uncommon;
-use mtn_records::RosterRecord;
+use mtn_marking::MarkedRoster;
 
 /// A revision whose stored roster is checked: its text, its position and its id, the whole records of its parents' rosters in
 /// the order of the edges and that of its own; and, where it has two parents, what each has above it that the other lacks.
@@ -11,8 +13,8 @@ pub struct CheckJob {
     pub text: Bytes,
     pub at: Pos,
     pub id: Id,
-    pub parents: List<RosterRecord>,
-    pub stored: RosterRecord,
+    pub parents: List<SharedRecord>,
+    pub stored: SharedRecord,
     pub only_left: Uncommon,
     pub only_right: Uncommon,
 }
@@ -22,4 +24,12 @@ pub struct CheckJob {
 pub enum Verdict {
     Agrees,
     Differs,
+}
+
+/// The verdict on a job, and what its text and its stored record spell, for who looks at more of them.
+#[derive(Drop)]
+pub struct Spelled {
+    pub verdict: Verdict,
+    pub read: Option<Revision>,
+    pub stored: Option<MarkedRoster>,
 }

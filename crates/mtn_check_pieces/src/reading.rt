@@ -2,11 +2,12 @@
 ghost use Rattle.std.specs.Prelude.{◌≡◌, ◌↔◌, IfOk, IsTrue};
 ghost use Rattle.mtn_check_pieces.specs.Verdict.{IsOneOf, IsRevisionOf, IsWholeOf};
 
+use crate::SharedRecord;
 use mtn_base::NoMemory;
 use mtn_changes::{ChangeTextError, Revision, read_revision};
 use mtn_marking::MarkedRoster;
 use mtn_records::{RecordError, RosterRecord};
-use mtn_roster_deltas::rebuild;
+use mtn_roster_deltas::marked_tree;
 use std::alloc::Global;
 
 // Whether memory was wanting.
@@ -32,12 +33,14 @@ pub fn revision_of(alloc: Global, text: &[u8]) -> Result<Option<Revision>, NoMem
 }
 
 /// The roster that a whole record spells, if it is whole and spells one.
-pub fn roster_of(alloc: Global, roster: &RosterRecord) -> Result<Option<MarkedRoster>, NoMemory>
+pub fn roster_of(alloc: Global, roster: &SharedRecord) -> Result<Option<MarkedRoster>, NoMemory>
     ensures { IfOk result (IsOneOf (IsWholeOf roster.now)) }
 {
-    let chain = vec![in alloc; roster.copy(alloc)?]?;
-    match rebuild(alloc, chain) {
-        Ok((_entries, spelled)) => Ok(Some(spelled)),
+    let RosterRecord::Whole(entries) = roster.as_record() else {
+        return Ok(None);
+    };
+    match marked_tree(alloc, entries) {
+        Ok(spelled) => Ok(Some(spelled)),
         Err(RecordError::Bad) => Ok(None),
         Err(RecordError::NoMemory) => Err(NoMemory),
     }

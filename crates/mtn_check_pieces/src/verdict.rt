@@ -3,17 +3,16 @@ ghost use Rattle.std.specs.Prelude.{◌≡◌, ◌∷◌, [], IfOk};
 ghost use Rattle.mtn_changes.specs.RevisionText.{AreEdges};
 ghost use Rattle.mtn_changeset_laws.specs.Laws.{RenamesDiffer};
 ghost use Rattle.mtn_marking.specs.Marking.{Basis, AreFor, AreAllByRule, HaveBirths};
-ghost use Rattle.mtn_check_pieces.specs.Verdict.{IsAnswer, IsMadeOf, IsMadeWith, IsMarkedOn, IsVerdict};
+ghost use Rattle.mtn_check_pieces.specs.Verdict.{IsAnswer, IsMadeOf, IsMadeWith, IsMarkedOn, IsOneOf, IsRevisionOf, IsVerdict, IsWholeOf};
 
 use crate::reading::{revision_of, roster_of};
 use crate::same_marks::are_same_marks;
 use crate::same_trees::are_same_trees;
 use crate::trees::{edge_tree, merged_tree};
-use crate::{CheckJob, Verdict};
+use crate::{CheckJob, SharedRecord, Spelled, Verdict};
 use mtn_base::NoMemory;
-use mtn_changes::Edge;
+use mtn_changes::{Edge, Revision};
 use mtn_marking::{MarkMap, MarkedRoster, mark_one, mark_root, mark_two};
-use mtn_records::RosterRecord;
 use std::alloc::Global;
 
 // The verdict on stored marks and births, by those that marking gives.
@@ -115,7 +114,7 @@ fn on_merge(
 fn over_one(
     alloc: Global,
     job: &CheckJob,
-    parent: &RosterRecord,
+    parent: &SharedRecord,
     edges: &[Edge],
     stored: &MarkedRoster,
 ) -> Result<Verdict, NoMemory>
@@ -135,8 +134,8 @@ fn over_one(
 fn over_two(
     alloc: Global,
     job: &CheckJob,
-    left: &RosterRecord,
-    right: &RosterRecord,
+    left: &SharedRecord,
+    right: &SharedRecord,
     edges: &[Edge],
     stored: &MarkedRoster,
 ) -> Result<Verdict, NoMemory>
@@ -189,16 +188,46 @@ fn over_parents(
     }
 }
 
-/// Whether the stored roster, its marks and its births are those that the job's text makes of its parents' rosters. It costs
-/// what reading the text, rebuilding the rosters, applying and joining, and marking cost.
+// The verdict on a job whose text and stored record spell this, if they spell anything.
+fn over_spelled(
+    alloc: Global,
+    job: &CheckJob,
+    read: &Option<Revision>,
+    stored: &Option<MarkedRoster>,
+) -> Result<Verdict, NoMemory>
+    requires read { IsOneOf (IsRevisionOf job.now.text) read.now }
+    requires stored { IsOneOf (IsWholeOf job.now.stored) stored.now }
+    ensures { IfOk result (IsVerdict job.now) }
+{
+    let Some(revision) = read else {
+        return Ok(Verdict::Differs);
+    };
+    let Some(roster) = stored else {
+        return Ok(Verdict::Differs);
+    };
+    over_parents(alloc, job, revision.edges.as_slice(), roster)
+}
+
+/// The verdict on a job, with what its text and its stored record spell: none where one spells nothing, and the job differs. It
+/// costs what reading the text, rebuilding the rosters, applying and joining, and marking cost.
+pub fn check_spelled(alloc: Global, job: &CheckJob) -> Result<Spelled, NoMemory>
+    ensures verdict { IfOk result (λ s. IsVerdict job.now s.verdict) }
+    ensures read { IfOk result (λ s. IsOneOf (IsRevisionOf job.now.text) s.read) }
+    ensures stored { IfOk result (λ s. IsOneOf (IsWholeOf job.now.stored) s.stored) }
+{
+    let read = revision_of(alloc, job.text.as_slice())?;
+    let stored = roster_of(alloc, &job.stored)?;
+    let verdict = over_spelled(alloc, job, &read, &stored)?;
+    Ok(Spelled {
+        verdict,
+        read,
+        stored,
+    })
+}
+
+/// Whether the stored roster, its marks and its births are those that the job's text makes of its parents' rosters.
 pub fn check_one(alloc: Global, job: &CheckJob) -> Result<Verdict, NoMemory>
     ensures { IfOk result (IsVerdict job.now) }
 {
-    let Some(revision) = revision_of(alloc, job.text.as_slice())? else {
-        return Ok(Verdict::Differs);
-    };
-    let Some(stored) = roster_of(alloc, &job.stored)? else {
-        return Ok(Verdict::Differs);
-    };
-    over_parents(alloc, job, revision.edges.as_slice(), &stored)
+    Ok(check_spelled(alloc, job)?.verdict)
 }

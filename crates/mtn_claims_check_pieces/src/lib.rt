@@ -9,7 +9,7 @@ ghost use Rattle.mtn_check_pieces.specs.Verdict.{AreVerdicts, IsVerdict};
 
 use mtn_ancestry::Pos;
 use mtn_base::{List, NoMemory};
-use mtn_check_pieces::{CheckJob, Verdict};
+use mtn_check_pieces::{CheckJob, SharedRecord, Verdict};
 use mtn_pieces::Gate;
 use mtn_records::RosterRecord;
 use std::alloc::Global;

@@ -1,7 +1,7 @@
 // Jobs of a revision that makes the root directory, whose id is twenty bytes of 11.
 use mtn_ancestry::{Pos, PosSet};
 use mtn_base::{Bytes, Id, List};
-use mtn_check_pieces::CheckJob;
+use mtn_check_pieces::{CheckJob, SharedRecord};
 use mtn_make_roster::Uncommon;
 use mtn_records::{RosterRecord, read_roster};
 use std::alloc::Global;
@@ -34,7 +34,7 @@ pub fn job(alloc: Global, at: Pos) -> Option<CheckJob> {
         at,
         id: Id([0x11; 20]),
         parents: List::new(alloc),
-        stored: record(alloc)?,
+        stored: SharedRecord::new(alloc, record(alloc)?).ok()?,
         only_left: nothing(alloc)?,
         only_right: nothing(alloc)?,
     })
