@@ -1,5 +1,5 @@
 -- What is looked at of a position: its text, its parents, its tree, the numbers of its nodes, and the record that is due of them.
-use Rattle.std.specs.Prelude.{◌≡◌, ◌≤◌, ◌+◌, ◌⊎◌, ℕ, false, List, [], ◌∷◌, length, IsTrue, None}
+use Rattle.std.specs.Prelude.{◌≡◌, ◌≤◌, ◌+◌, ◌⊎◌, ℕ, false, List, [], ◌∷◌, length, All, Contains, IsTrue, None}
 use Rattle.std.specs.List.{AllZip}
 use Rattle.mtn_ancestry.specs.Log.{list_of}
 use Rattle.mtn_base.specs.declared.id.Id.{Id}
@@ -10,6 +10,7 @@ use Rattle.mtn_check_pieces.specs.Verdict.{IsRevisionOf, IsWholeOf}
 use Rattle.mtn_check_pieces.specs.declared.job.CheckJob.{CheckJob}
 use Rattle.mtn_marking.specs.Marking.{MarkedTree}
 use Rattle.mtn_put_revision.specs.Keeping.{IsRecordOn}
+use Rattle.mtn_records.specs.declared.entry.NumberedEntry.{NumberedEntry}
 use Rattle.mtn_records.specs.declared.record.RosterRecord.{RosterRecord}
 use Rattle.mtn_records.specs.declared.record.RosterRecord.TheVariants.{Whole, Delta}
 use Rattle.mtn_replay.specs.Making.{other_manifest, too_many, too_long}
@@ -51,6 +52,20 @@ pub record IsNumberedBy (t : MarkedTree) (known : List Entries) (next : ℕ) (en
   pub ascending : IsTrue (ascend entries)
   pub numbers : AreKnown known next → IsNumbering known next t entries
   pub next_free : AreKnown known next → free ≡ next + length (fresh known t.tree)
+
+-- among entries the node of this one has its number
+abbrev pub IsKnownIn : Entries → NumberedEntry → Type 0
+IsKnownIn es e = (f : NumberedEntry) × Contains es f × (f.node ≡ e.node) × (f.number ≡ e.number)
+
+-- the record is whole, and the node of each of its entries has its number among others
+abbrev pub KeepsBelow : RosterRecord → Entries → Type 0
+KeepsBelow (Whole entries) below = All (IsKnownIn below) entries
+KeepsBelow (Delta base depth gone changed) below = ⊥
+
+-- the same among those of the first list
+abbrev pub KeepsNumbers : RosterRecord → List Entries → Type 0
+KeepsNumbers r [] = ⊥
+KeepsNumbers r (below ∷ known) = KeepsBelow r below
 
 -- the record of the log has the number that is free then
 abbrev pub TellsNext : Position → MarkedTree → List Entries → Type 0

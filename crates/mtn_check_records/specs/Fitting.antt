@@ -2,13 +2,14 @@
 use Rattle.std.specs.Prelude.{◌<◌, ◌++◌, ℕ, List}
 use Rattle.mtn_check_laws.specs.FirstDamage.{IsDamageAt}
 use Rattle.mtn_check_laws.specs.Fronts.{Front, IsFrontAt}
-use Rattle.mtn_check_pieces.specs.Verdict.{IsAgreeing}
+use Rattle.mtn_check_pieces.specs.Verdict.{IsAgreeing, IsVerdict}
 use Rattle.mtn_check_pieces.specs.declared.job.CheckJob.{CheckJob}
 use Rattle.mtn_history.specs.declared.errors.Damage.{Damage}
 use Rattle.mtn_history.specs.declared.errors.Damage.TheVariants.{Bad}
 use Rattle.mtn_model.specs.Table.{Contents}
 use Rattle.mtn_records.specs.Fields.{number_text}
 use Rattle.mtn_check_records.specs.Reading.{IsReadAt, IsStepOf}
+use Rattle.mtn_check_records.specs.declared.hand.Answer.{Answer}
 use Rattle.mtn_check_records.specs.declared.hand.Fit.{Fit}
 use Rattle.mtn_check_records.specs.declared.hand.Fit.TheVariants.{Fits, OtherText, OtherLog, OtherRoster, Undecided}
 use Rattle.mtn_check_records.specs.declared.hand.Position.{Position}
@@ -27,3 +28,8 @@ IsFitting f x job OtherText = Shows f x job (λ r. Bad 3 x.entry.id.0 (number_te
 IsFitting f x job OtherLog = Shows f x job (λ r. Bad 4 (number_text r) x.log.items)
 IsFitting f x job OtherRoster = Shows f x job (λ r. Bad 5 (number_text r) x.roster.items)
 IsFitting f x job Undecided = Unit {0}
+
+-- Both answers on a position
+pub record AreAnswers (f : List ℕ → List ℕ) (x : Position) (job : CheckJob) (a : Answer) : Type 0 where
+  pub verdict : IsVerdict job a.verdict
+  pub fit : IsFitting f x job a.fit

@@ -29,7 +29,14 @@ fn over(
     requires spelled { IsWholeOf job.now.stored stored.now }
     ensures { IfOk result (IsFoundOver position.now job.now stored.now known.now.places.now (shown known.now.entries.now) known.now.depth) }
 {
-    let Some((entries, free)) = numbers_due(alloc, stored, known.entries, position.next)? else {
+    let Some((entries, free)) = numbers_due(
+        alloc,
+        job.stored.as_record(),
+        stored,
+        known.entries,
+        position.next,
+    )?
+    else {
         return Ok(Fit::Undecided);
     };
     if free != position.entry.next_node {
@@ -44,7 +51,7 @@ fn over(
     if written.depth != position.depth {
         return Ok(Fit::Undecided);
     }
-    if are_stored(alloc, &written.entries, &job.stored)? {
+    if are_stored(alloc, &written.entries, job.stored.as_record())? {
         Ok(Fit::Fits)
     } else {
         Ok(Fit::Undecided)
@@ -112,7 +119,10 @@ fn over_one(
     requires spelled { IsWholeOf job.now.stored stored.now }
     ensures { IfOk result (IsFoundWith position.now job.now stored.now (at ∷ []) job.now.parents) }
 {
-    let [RosterRecord::Whole(below)] = job.parents.as_slice() else {
+    let [parent] = job.parents.as_slice() else {
+        return Ok(Fit::Undecided);
+    };
+    let RosterRecord::Whole(below) = parent.as_record() else {
         return Ok(Fit::Undecided);
     };
     let places = [at];
@@ -138,7 +148,13 @@ fn over_two(
     requires spelled { IsWholeOf job.now.stored stored.now }
     ensures { IfOk result (IsFoundWith position.now job.now stored.now (first ∷ second ∷ []) job.now.parents) }
 {
-    let [RosterRecord::Whole(ours), RosterRecord::Whole(theirs)] = job.parents.as_slice() else {
+    let [left, right] = job.parents.as_slice() else {
+        return Ok(Fit::Undecided);
+    };
+    let RosterRecord::Whole(ours) = left.as_record() else {
+        return Ok(Fit::Undecided);
+    };
+    let RosterRecord::Whole(theirs) = right.as_record() else {
         return Ok(Fit::Undecided);
     };
     let places = [first, second];

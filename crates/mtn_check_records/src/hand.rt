@@ -1,7 +1,8 @@
 // What was read of a revision.
 use mtn_ancestry::Pos;
 use mtn_base::{Id, List};
-use mtn_records::{LogRecord, Numbered};
+use mtn_check_pieces::{SharedEntries, Verdict};
+use mtn_records::LogRecord;
 
 /// What is kept of a revision below: its id, the least number that no node has after it, how many deltas its record stands above a
 /// whole one, and the entries of its roster.
@@ -10,7 +11,7 @@ pub struct Hand {
     pub id: Id,
     pub next: u64,
     pub depth: u8,
-    pub entries: Numbered,
+    pub entries: SharedEntries,
 }
 
 /// A parent of a revision, beside the entries of its roster: where it stands, its id, and how many deltas its record stands above a
@@ -45,4 +46,11 @@ pub enum Fit {
     OtherLog,
     OtherRoster,
     Undecided,
+}
+
+/// The verdict on the job of a position, and what is said of its records, which is nothing where the job differs.
+#[derive(Clone, Copy)]
+pub struct Answer {
+    pub verdict: Verdict,
+    pub fit: Fit,
 }

@@ -1,5 +1,5 @@
 -- What is found beside the stored roster, and of the text.
-use Rattle.std.proofs.Common.{rules, List, ℕ, subst}
+use Rattle.std.proofs.Common.{rules}
 use Rattle.mtn_make_roster.proofs.Told.{ok_then}
 use Rattle.mtn_check_pieces.specs.Verdict.{IsRevisionOf}
 use Rattle.mtn_check_pieces.proofs.Answering.{some_at}
@@ -10,7 +10,6 @@ pub returns : goal.returns
 returns g c =
     let f = g.I.Ident.meaning c.args.ident.now in
     let read = c.in-Some.read in
-    let reads = subst (λ (t : List ℕ). IsRevisionOf t read) c.as_slice.ensures
-    (some_at (IsRevisionOf c.as_slice.result.now) c.in_ok-read.field-0 read c.in-Some.is c.in_ok-read.ensures) in
+    let reads = some_at (IsRevisionOf c.args.job.now.text) c.args.spelled.now.read read c.in-Some.is c.requires.read in
     let under = c.is_under_id.ensures.0 (search rules) in
     ok_then c.beside.result _ _ (λ fit is. found_all f c.args.position.now c.args.job.now read under reads (search rules) fit is) c.beside.ensures
