@@ -8,6 +8,7 @@ ghost use Rattle.mtn_check_records.specs.Reading.{IsHandOf};
 ghost use Rattle.mtn_check_hands.specs.Reading.{IsAnswer, front_with};
 
 use mtn_ancestry::Pos;
+use mtn_check_pieces::SharedEntries;
 use mtn_check_records::Hand;
 use mtn_history::{Draft, StoreError};
 use mtn_make_roster::Uncommon;
@@ -42,7 +43,8 @@ fn hand_of<K: Keeper>(alloc: Global, draft: &mut Draft<'_, K>, at: u64) -> Resul
     let log = draft.log_at(Pos(at))?;
     let rebuilt = draft.roster_at(Pos(at))?;
     let held = rebuilt.as_ref();
-    let entries = held.entries.copy(alloc)?;
+    let copied = held.entries.copy(alloc)?;
+    let entries = SharedEntries::new(alloc, copied)?;
     Ok(Hand {
         id: log.id,
         next: log.next_node,

@@ -28,7 +28,7 @@ pub struct Hands {
 }
 
 fn nodes_of(hand: &Hand) -> u64 {
-    hand.entries.entries.as_slice().len() as u64
+    hand.entries.as_numbered().entries.as_slice().len() as u64
 }
 
 impl Hands {

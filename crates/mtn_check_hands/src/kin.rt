@@ -16,11 +16,11 @@ use crate::records::Records;
 use mtn_ancestry::{ParentList, Pos, PosSet};
 use mtn_base::{Id, List, NoMemory};
 use mtn_check_log::get_shown;
+use mtn_check_pieces::SharedRecord;
 use mtn_check_records::{Hand, Parent};
 use mtn_history::{StoreError, TEXTS};
 use mtn_make_roster::Uncommon;
 use mtn_ports::Keeper;
-use mtn_records::RosterRecord;
 use std::alloc::Global;
 use std::collections::BTreeSet;
 
@@ -29,19 +29,19 @@ use std::collections::BTreeSet;
 #[derive(Drop)]
 pub struct Kin {
     pub parents: List<Parent>,
-    pub records: List<RosterRecord>,
+    pub records: List<SharedRecord>,
     pub only_left: Uncommon,
     pub only_right: Uncommon,
 }
 
-fn copy_of(alloc: Global, hand: &Hand) -> Result<Hand, NoMemory>
+fn copy_of(hand: &Hand) -> Result<Hand, NoMemory>
     ensures { IfOk result (λ h. h ≡ hand.now) }
 {
     Ok(Hand {
         id: hand.id,
         next: hand.next,
         depth: hand.depth,
-        entries: hand.entries.copy(alloc)?,
+        entries: hand.entries.copy()?,
     })
 }
 
@@ -62,7 +62,7 @@ fn hand_at<K: Keeper>(
         return Ok(None);
     }
     if let Some(hand) = hands.get(place) {
-        return Ok(Some(copy_of(alloc, hand)?));
+        return Ok(Some(copy_of(hand)?));
     }
     match ask_below(alloc, keeper, at, Asked::Kept(place))? {
         Some(Answer::Held(hand)) => Ok(Some(hand)),
@@ -120,7 +120,7 @@ fn kin_of_one(alloc: Global, place: u64, hand: Hand) -> Result<Kin, NoMemory>
         id: hand.id,
         depth: hand.depth,
     };
-    let whole = RosterRecord::Whole(hand.entries);
+    let whole = hand.entries.whole()?;
     Ok(Kin {
         parents: List::from_vec(vec![in alloc; parent]?),
         records: List::from_vec(vec![in alloc; whole]?),
@@ -152,8 +152,8 @@ fn kin_of_two(
         id: right.id,
         depth: right.depth,
     };
-    let whole = RosterRecord::Whole(left.entries);
-    let other = RosterRecord::Whole(right.entries);
+    let whole = left.entries.whole()?;
+    let other = right.entries.whole()?;
     Ok(Kin {
         parents: List::from_vec(vec![in alloc; first, second]?),
         records: List::from_vec(vec![in alloc; whole, other]?),

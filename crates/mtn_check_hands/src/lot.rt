@@ -9,7 +9,7 @@ ghost use Rattle.mtn_check_hands.specs.Reading.{AreWith, IsReadWith};
 use crate::hands::Hands;
 use crate::read::{Read, read_at};
 use mtn_base::NoMemory;
-use mtn_check_pieces::CheckJob;
+use mtn_check_pieces::{CheckJob, SharedRecord};
 use mtn_check_records::Position;
 use mtn_history::StoreError;
 use mtn_ports::Keeper;
@@ -52,8 +52,8 @@ impl Taken {
     }
 }
 
-fn nodes_in(record: &RosterRecord) -> u64 {
-    match record {
+fn nodes_in(record: &SharedRecord) -> u64 {
+    match record.as_record() {
         RosterRecord::Whole(entries) => entries.entries.as_slice().len() as u64,
         RosterRecord::Delta { .. } => 0,
     }

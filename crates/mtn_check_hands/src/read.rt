@@ -13,11 +13,10 @@ use crate::records::{Records, logged_at, records_at};
 use crate::stored::{Stored, stored_in};
 use mtn_ancestry::Pos;
 use mtn_base::NoMemory;
-use mtn_check_pieces::CheckJob;
+use mtn_check_pieces::{CheckJob, SharedEntries};
 use mtn_check_records::{Hand, Position};
 use mtn_history::StoreError;
 use mtn_ports::Keeper;
-use mtn_records::RosterRecord;
 use std::alloc::Global;
 
 /// A position, the job of its roster, and what is kept of its revision then.
@@ -63,7 +62,8 @@ fn put_together(
 ) -> Result<Read, NoMemory>
     ensures { IfOk result (λ read. read ≡ read_of at records next kin stored) }
 {
-    let entries = stored.entries.copy(alloc)?;
+    let entries = SharedEntries::new(alloc, stored.entries)?;
+    let whole = entries.whole()?;
     let hand = Hand {
         id: records.entry.id,
         next: records.entry.next_node,
@@ -75,7 +75,7 @@ fn put_together(
         at: Pos(at),
         id: records.entry.id,
         parents: kin.records,
-        stored: RosterRecord::Whole(stored.entries),
+        stored: whole,
         only_left: kin.only_left,
         only_right: kin.only_right,
     };

@@ -16,9 +16,12 @@ pub struct Stored {
 
 // The entries of the first parent.
 fn first_entries(kin: &Kin) -> Option<&Numbered> {
-    match kin.records.as_slice() {
-        [RosterRecord::Whole(entries), ..] => Some(entries),
-        _ => None,
+    let [first, ..] = kin.records.as_slice() else {
+        return None;
+    };
+    match first.as_record() {
+        RosterRecord::Whole(entries) => Some(entries),
+        RosterRecord::Delta { .. } => None,
     }
 }
 

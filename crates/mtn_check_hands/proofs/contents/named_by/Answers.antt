@@ -1,7 +1,5 @@
-use Rattle.std.proofs.Common.{◌∙◌, ap, rules, subst}
-use Rattle.std.proofs.lemmas.List.{take_all}
+use Rattle.std.proofs.Common.{◌∙◌}
 use Rattle.mtn_put_revision.proofs.Looking.{at_item}
-use Rattle.mtn_check_records.specs.Reading.{named_in}
 use Rattle.mtn_check_hands.proofs.Holding.{named_more}
 use Rattle.mtn_check_hands.proofs.contents.named_by.Goals as goal
 
