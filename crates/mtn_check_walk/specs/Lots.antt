@@ -4,9 +4,9 @@ use Rattle.mtn_check_laws.specs.FirstDamage.{IsDamageAt}
 use Rattle.mtn_check_laws.specs.Fronts.{Front, IsFrontAt}
 use Rattle.mtn_check_pieces.specs.Verdict.{IsAgreeing}
 use Rattle.mtn_check_pieces.specs.declared.job.CheckJob.{CheckJob}
-use Rattle.mtn_check_records.specs.Fitting.{IsFitting, Leads}
+use Rattle.mtn_check_records.specs.Fitting.{AreAnswers, Leads}
 use Rattle.mtn_check_records.specs.Reading.{IsReadAt}
-use Rattle.mtn_check_records.specs.declared.hand.Fit.{Fit}
+use Rattle.mtn_check_records.specs.declared.hand.Answer.{Answer}
 use Rattle.mtn_check_records.specs.declared.hand.Position.{Position}
 use Rattle.mtn_history.specs.Errors.{IfDamage}
 use Rattle.mtn_history.specs.declared.errors.Damage.{Damage}
@@ -18,9 +18,9 @@ pub record IsSound (f : List ℕ → List ℕ) (x : Position) (job : CheckJob) :
   pub agrees : IsAgreeing job
   pub leads : Leads f x job
 
--- the answers on the records of positions, where the stored rosters agree
-abbrev pub AreFits : (List ℕ → List ℕ) → List Position → List CheckJob → List Fit → Type 0
-AreFits f xs jobs fits = (i : ℕ) (x : Position) (job : CheckJob) (fit : Fit) → i < length jobs → IsFitting f (slice_index_or xs i x) (slice_index_or jobs i job) (slice_index_or fits i fit)
+-- the answers on positions
+abbrev pub AreAnswered : (List ℕ → List ℕ) → List Position → List CheckJob → List Answer → Type 0
+AreAnswered f xs jobs answers = (i : ℕ) (x : Position) (job : CheckJob) (a : Answer) → i < length jobs → AreAnswers f (slice_index_or xs i x) (slice_index_or jobs i job) (slice_index_or answers i a)
 
 -- so many positions of a lot, from its first on, are right
 abbrev pub AreSound : (List ℕ → List ℕ) → List Position → List CheckJob → ℕ → Type 0

@@ -2,23 +2,22 @@
 ghost use Rattle.std.specs.Prelude.{◌≡◌, ◌≢◌, ◌≤◌, ◌++◌, ℕ, List, length, vec_len, IfOk, IfSome, IsTrue};
 ghost use Rattle.mtn_history.specs.Errors.{IfDamage};
 ghost use Rattle.mtn_records.specs.Fields.{number_text};
-ghost use Rattle.mtn_check_pieces.specs.Verdict.{AreVerdicts, IsAgreeing};
+ghost use Rattle.mtn_check_pieces.specs.Verdict.{IsAgreeing};
 ghost use Rattle.mtn_check_pieces.specs.declared.job.CheckJob.{CheckJob as Job};
 ghost use Rattle.mtn_check_records.specs.declared.hand.Position.{Position as At};
 ghost use Rattle.mtn_check_records.specs.Fitting.{IsFitting};
-ghost use Rattle.mtn_check_walk.specs.Lots.{AreFits, AreSound, Damages, IsShown};
+ghost use Rattle.mtn_check_walk.specs.Lots.{AreAnswered, AreSound, Damages, IsShown};
 ghost use Rattle.mtn_check_walk.specs.Judging.{IsJudged};
 
 use mtn_base::NoMemory;
 use mtn_check_hands::Lot;
 use mtn_check_log::bad;
-use mtn_check_pieces::{CheckJob, Verdict, check_pieces};
-use mtn_check_records::{Fit, Position, fit_pieces, fits};
+use mtn_check_pieces::{CheckJob, Verdict};
+use mtn_check_records::{Answer, Fit, Position, judge_one, judge_pieces};
 use mtn_history::{Damage, LOG, ROSTERS, StoreError, TEXTS};
-use mtn_pieces::Gate;
 use mtn_ports::Ident;
 use std::alloc::Global;
-use std::thread::{Threads, join};
+use std::thread::Threads;
 
 /// What is found of a lot: how many positions are sound, from its first on; and the damage of the one behind them, where the answers
 /// on it tell it.
@@ -28,87 +27,62 @@ pub struct Judged {
     pub damage: Option<StoreError>,
 }
 
-// Lets pieces pass as an ident does.
-#[derive(Drop)]
-struct IdentGate<'a, I> {
-    ident: &'a I,
-}
-
-impl<I: Ident> Gate for IdentGate<'_, I> {
-    fn pass(&self, piece: usize) {
-        self.ident.pass(piece);
-    }
-}
-
-// The verdict on each job.
-fn verdicts_on<R: Threads + Sync, I: Ident>(
-    rt: &R,
-    alloc: Global,
-    ident: &I,
-    pieces: usize,
-    jobs: &[CheckJob],
-) -> Result<Vec<Verdict>, NoMemory>
-    ensures { IfOk result (λ vs. AreVerdicts jobs.now vs.items) }
-{
-    check_pieces(rt, alloc, &IdentGate { ident }, pieces, jobs)
-}
-
-// What is said of the records of each position, one after the other.
-fn fit_in_turn<I: Ident>(
+// Both answers on each position, one after the other.
+fn judge_in_turn<I: Ident>(
     alloc: Global,
     ident: &I,
     positions: &[Position],
     jobs: &[CheckJob],
-) -> Result<Vec<Fit>, NoMemory>
+) -> Result<Vec<Answer>, NoMemory>
     requires same { length positions.now ≡ length jobs.now }
     ensures len { IfOk result (λ v. vec_len v ≡ length jobs.now) }
-    ensures fits { IfOk result (λ v. AreFits (I.meaning ident.now) positions.now jobs.now v.items) }
+    ensures answers { IfOk result (λ v. AreAnswered (I.meaning ident.now) positions.now jobs.now v.items) }
 {
+    ident.pass(0);
     let mut answers = Vec::with_capacity(alloc, jobs.len())?;
     for (place, job) in jobs.iter().enumerate() {
-        answers.push(fits(alloc, ident, &positions[place], job)?)?;
+        answers.push(judge_one(alloc, ident, &positions[place], job)?)?;
     }
     Ok(answers)
 }
 
 // The same; with more pieces than one on threads of their own.
-fn fit_all<R: Threads + Sync, I: Ident>(
+fn answers_on<R: Threads + Sync, I: Ident>(
     rt: &R,
     alloc: Global,
     ident: &I,
     pieces: usize,
     positions: &[Position],
     jobs: &[CheckJob],
-) -> Result<Vec<Fit>, NoMemory>
+) -> Result<Vec<Answer>, NoMemory>
     requires same { length positions.now ≡ length jobs.now }
     ensures len { IfOk result (λ v. vec_len v ≡ length jobs.now) }
-    ensures fits { IfOk result (λ v. AreFits (I.meaning ident.now) positions.now jobs.now v.items) }
+    ensures answers { IfOk result (λ v. AreAnswered (I.meaning ident.now) positions.now jobs.now v.items) }
 {
     if pieces > 1 {
-        return fit_pieces(rt, alloc, ident, positions, jobs);
+        return judge_pieces(rt, alloc, ident, positions, jobs);
     }
-    fit_in_turn(alloc, ident, positions, jobs)
+    judge_in_turn(alloc, ident, positions, jobs)
 }
 
 // Whether a position is sound that has these answers.
-fn is_sound(verdict: Verdict, fit: Fit) -> bool
-    ensures { IsTrue result → (verdict ≡ Verdict.Agrees) × (fit ≡ Fit.Fits) }
+fn is_sound(answer: Answer) -> bool
+    ensures { IsTrue result → (answer.verdict ≡ Verdict.Agrees) × (answer.fit ≡ Fit.Fits) }
 {
-    matches!(verdict, Verdict::Agrees) && matches!(fit, Fit::Fits)
+    matches!(answer.verdict, Verdict::Agrees) && matches!(answer.fit, Fit::Fits)
 }
 
 // How many positions agree and fit, up to the first that does not.
-fn count_sound(verdicts: &[Verdict], answers: &[Fit]) -> usize
-    requires len { length answers.now ≡ length verdicts.now }
-    ensures within { result ≤ length verdicts.now }
-    ensures sound { (f : List ℕ → List ℕ) (xs : List At) (jobs : List Job) → AreVerdicts jobs verdicts.now → AreFits f xs jobs answers.now → AreSound f xs jobs result }
+fn count_sound(answers: &[Answer]) -> usize
+    ensures within { result ≤ length answers.now }
+    ensures sound { (f : List ℕ → List ℕ) (xs : List At) (jobs : List Job) → length answers.now ≡ length jobs → AreAnswered f xs jobs answers.now → AreSound f xs jobs result }
 {
-    for (place, verdict) in verdicts.iter().enumerate() {
-        if !is_sound(*verdict, answers[place]) {
+    for (place, answer) in answers.iter().enumerate() {
+        if !is_sound(*answer) {
             return place;
         }
     }
-    verdicts.len()
+    answers.len()
 }
 
 // The record of a text.
@@ -152,79 +126,40 @@ fn damage_at(
     positions: &[Position],
     jobs: &[CheckJob],
     place: usize,
-    verdicts: &[Verdict],
-    answers: &[Fit],
+    answers: &[Answer],
 ) -> Option<StoreError>
     requires same { length positions.now ≡ length jobs.now }
-    requires verdicts { length verdicts.now ≡ length jobs.now }
     requires answers { length answers.now ≡ length jobs.now }
-    ensures shown { (f : List ℕ → List ℕ) → AreVerdicts jobs.now verdicts.now → AreFits f positions.now jobs.now answers.now → IfSome result (IsShown f positions.now jobs.now place) }
+    ensures shown { (f : List ℕ → List ℕ) → AreAnswered f positions.now jobs.now answers.now → IfSome result (IsShown f positions.now jobs.now place) }
     ensures failed { IfSome result (λ e. e ≢ StoreError.Failed) }
 {
-    if place >= verdicts.len() {
+    if place >= answers.len() {
         return None;
     }
-    match verdicts[place] {
-        Verdict::Agrees => show(alloc, &positions[place], &jobs[place], answers[place]),
+    let answer = answers[place];
+    match answer.verdict {
+        Verdict::Agrees => show(alloc, &positions[place], &jobs[place], answer.fit),
         Verdict::Differs => None,
     }
 }
 
 // What the answers tell of a lot.
-fn found_in(
-    alloc: Global,
-    positions: &[Position],
-    jobs: &[CheckJob],
-    verdicts: &[Verdict],
-    answers: &[Fit],
-) -> Judged
+fn found_in(alloc: Global, positions: &[Position], jobs: &[CheckJob], answers: &[Answer]) -> Judged
     requires same { length positions.now ≡ length jobs.now }
-    requires verdicts { length verdicts.now ≡ length jobs.now }
     requires answers { length answers.now ≡ length jobs.now }
     ensures within { result.sound ≤ length jobs.now }
-    ensures sound { (f : List ℕ → List ℕ) → AreVerdicts jobs.now verdicts.now → AreFits f positions.now jobs.now answers.now → AreSound f positions.now jobs.now result.sound }
-    ensures shown { (f : List ℕ → List ℕ) → AreVerdicts jobs.now verdicts.now → AreFits f positions.now jobs.now answers.now → IfSome result.damage (IsShown f positions.now jobs.now result.sound) }
+    ensures sound { (f : List ℕ → List ℕ) → AreAnswered f positions.now jobs.now answers.now → AreSound f positions.now jobs.now result.sound }
+    ensures shown { (f : List ℕ → List ℕ) → AreAnswered f positions.now jobs.now answers.now → IfSome result.damage (IsShown f positions.now jobs.now result.sound) }
     ensures failed { IfSome result.damage (λ e. e ≢ StoreError.Failed) }
 {
-    let sound = count_sound(verdicts, answers);
-    let damage = damage_at(alloc, positions, jobs, sound, verdicts, answers);
+    let sound = count_sound(answers);
+    let damage = damage_at(alloc, positions, jobs, sound, answers);
     Judged { sound, damage }
 }
 
-// Both answers on each position; with more pieces than one beside each other.
-fn answers_on<R: Threads + Sync, I: Ident>(
-    rt: &R,
-    alloc: Global,
-    ident: &I,
-    pieces: usize,
-    positions: &[Position],
-    jobs: &[CheckJob],
-) -> (Result<Vec<Verdict>, NoMemory>, Result<Vec<Fit>, NoMemory>)
-    requires same { length positions.now ≡ length jobs.now }
-    ensures verdicts { IfOk result.0 (λ vs. AreVerdicts jobs.now vs.items) }
-    ensures len { IfOk result.1 (λ v. vec_len v ≡ length jobs.now) }
-    ensures fits { IfOk result.1 (λ v. AreFits (I.meaning ident.now) positions.now jobs.now v.items) }
-{
-    if pieces < 2 {
-        let verdicts = verdicts_on(rt, alloc, ident, pieces, jobs);
-        return (verdicts, fit_all(rt, alloc, ident, pieces, positions, jobs));
-    }
-    join(
-        rt,
-        || -> Result<Vec<Verdict>, NoMemory>
-            ensures { IfOk result (λ vs. AreVerdicts jobs.entry.now vs.items) }
-        { verdicts_on(rt, alloc, ident, pieces, jobs) },
-        || -> Result<Vec<Fit>, NoMemory>
-            requires { length positions.now ≡ length jobs.now }
-            ensures len { IfOk result (λ v. vec_len v ≡ length jobs.entry.now) }
-            ensures fits { IfOk result (λ v. AreFits (I.meaning ident.entry.now) positions.entry.now jobs.entry.now v.items) }
-        { fit_all(rt, alloc, ident, pieces, positions, jobs) },
-    )
-}
-
-/// How many positions of a lot are sound, up to the first that may not be, and the damage of that one where its job agrees. The jobs
-/// are checked in so many pieces, each of which passes the ident; with more than one, the records are looked at on threads of their
-/// own. It takes memory for the answers and for what each piece has at hand of one position.
+/// How many positions of a lot are sound, up to the first that may not be, and the damage of that one where its job agrees. With
+/// more pieces than one each position is judged in a piece of its own, which passes the ident. It takes memory for the answers and
+/// for what each piece has at hand of one position.
 pub fn judge<R: Threads + Sync, I: Ident>(
     rt: &R,
     alloc: Global,
@@ -235,8 +170,6 @@ pub fn judge<R: Threads + Sync, I: Ident>(
     requires same { length lot.now.positions.items ≡ length lot.now.jobs.items }
     ensures { IfOk result (IsJudged (I.meaning ident.now) lot.now) }
 {
-    let (verdicts, answers) = answers_on(rt, alloc, ident, pieces, &lot.positions, &lot.jobs);
-    let verdicts = verdicts?;
-    let answers = answers?;
-    Ok(found_in(alloc, &lot.positions, &lot.jobs, &verdicts, &answers))
+    let answers = answers_on(rt, alloc, ident, pieces, &lot.positions, &lot.jobs)?;
+    Ok(found_in(alloc, &lot.positions, &lot.jobs, &answers))
 }

@@ -1,10 +1,9 @@
-//! The walk along the log of a check, in lots of jobs. The check does not take this way yet: each roster is copied several times on
-//! it, since records are rebuilt by value, so that it takes longer than `mtn_check_lots`.
+//! The walk along the log of a check, in lots of jobs.
 //!
 //! A *lot* is some positions after one another, read with the rosters at hand (`mtn_check_hands`), and a *job* for the stored roster
 //! of each. A position is *sound* where its job agrees (`mtn_check_pieces`) and the rest of its records fit (`mtn_check_records`).
-//! Neither asks the keeper, nor for an order, so that the positions of a lot are judged beside one another, and the next lot is read
-//! meanwhile.
+//! Neither asks the keeper, nor for an order, so that the positions of a lot are judged beside one another, each in a piece that
+//! gives both answers, and the next lot is read meanwhile.
 //!
 //! [`walk_jobs`] answers what `mtn_check_log::walk_log` answers, for every number of pieces. It relies on this: behind the front of
 //! the records below it, what was read of a position that is sound leads to one revision more; and where the job of a position

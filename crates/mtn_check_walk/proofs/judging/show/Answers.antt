@@ -1,5 +1,5 @@
 -- What an answer says of a job that agrees is the damage that is shown.
-use Rattle.std.proofs.Common.{◌≡◌, ◌++◌, List, ℕ, ap, ◌∙◌, sym, subst}
+use Rattle.std.proofs.Common.{◌++◌, ap, ◌∙◌, subst}
 use Rattle.mtn_check_pieces.specs.declared.job.CheckJob.{CheckJob}
 use Rattle.mtn_check_records.specs.Fitting.{IsFitting}
 use Rattle.mtn_history.specs.declared.errors.Damage.TheVariants.{Bad}
