@@ -1,0 +1,12 @@
+//! The promises of the commands over a draft, of the words that spell one, and of how an answer is written, call by call.
+//!
+//! Each function here restates the contract of one public call of a crate below, in the same words, with the call as its body; it
+//! says nothing of its own. The edits of `must-fail/` put a wrong body in the place of a call, and each is refused: so a body that
+//! means something else does not meet what the crate promises.
+#![tactic(auto)]
+
+pub mod ask;
+pub mod commands;
+pub mod frame;
+pub mod step;
+pub mod words;
