@@ -73,7 +73,7 @@ pub fn takes_jobs<R: Threads + Sync, I: Ident, N: Told>(
     ensures len { IfOk result (λ v. vec_len v ≡ length jobs.now) }
     ensures taken { IfOk result (λ v. (i : ℕ) (d : Run) (b : Bool) → i < length jobs.now → IfSome N.told (λ c. IsTrue (slice_index_or v.items i b) → IsTakenRun (I.meaning ident.now) c (slice_index_or jobs.now i d))) }
 {
-    mtn_check_lots::takes_jobs(rt, alloc, ident, jobs)
+    mtn_check_lots::takes_jobs::<R, I, N>(rt, alloc, ident, jobs)
 }
 
 /// As `mtn_check_lots::load_lot`.
