@@ -1,6 +1,6 @@
 -- The line of a refusal, our choice: its name, and its fields with one space before each. Ids are forty digits, numbers are
 -- decimal, paths are quoted as in basic_io, and reasons stand by name.
-use Rattle.std.specs.Prelude.{ℕ, ◌==◌, List, [], ◌∷◌, ◌++◌, decimal, codes, if◌then◌else◌}
+use Rattle.std.specs.Prelude.{ℕ, ◌==◌, Bool, true, false, List, [], ◌∷◌, ◌++◌, decimal, codes, if◌then◌else◌}
 use Rattle.hex.specs.Hex.{encode_lower}
 use Rattle.mtn_base.specs.Paths.{path_text}
 use Rattle.mtn_base.specs.Quoted.{quoted}
@@ -129,6 +129,17 @@ cause_fields (UnknownKey name) = word_field name
 -- refusals of one packet among several say which
 abbrev pub packet_text : ℕ → List ℕ
 packet_text packet = if packet == 0 then [] else codes " InPacket" ++ number_field packet
+
+-- whether a path or a name is shown
+abbrev pub shows_text : Cause → Bool
+shows_text (Disagree _) = true
+shows_text (Revived _) = true
+shows_text (PathTooLong _) = true
+shows_text (NoSuchPath _) = true
+shows_text (NotAFile _) = true
+shows_text (KeyNamed _ _) = true
+shows_text (UnknownKey _) = true
+shows_text _ = false
 
 -- the line, LF included
 abbrev pub refusal_text : Refusal → List ℕ

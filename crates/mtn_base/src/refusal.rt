@@ -1,6 +1,6 @@
 // What a command refuses, and the line that it prints for it.
-ghost use Rattle.std.specs.Prelude.{◌≡◌, IfOk};
-ghost use Rattle.mtn_base.specs.Refusals.{why_name, packet_why_name, field_name, cause_name};
+ghost use Rattle.std.specs.Prelude.{◌≡◌, false, IfOk};
+ghost use Rattle.mtn_base.specs.Refusals.{why_name, packet_why_name, field_name, cause_name, shows_text};
 
 use crate::{Bytes, Id, NoMemory, Path};
 use std::alloc::Global;
@@ -181,63 +181,21 @@ impl Cause {
         ensures { IfOk result (λ cause. cause ≡ self.now) }
     {
         Ok(match self {
-            Cause::TextTooLong { length } => Cause::TextTooLong { length: *length },
-            Cause::NotText { place } => Cause::NotText { place: *place },
-            Cause::BadStanza { number } => Cause::BadStanza { number: *number },
-            Cause::BadOrder { number } => Cause::BadOrder { number: *number },
-            Cause::Repeated { number } => Cause::Repeated { number: *number },
-            Cause::BadEdge { number } => Cause::BadEdge { number: *number },
-            Cause::Collision { id } => Cause::Collision { id: *id },
-            Cause::LogFull { count } => Cause::LogFull { count: *count },
-            Cause::UnknownParent { id } => Cause::UnknownParent { id: *id },
-            Cause::BadChange { edge, number, why } => Cause::BadChange {
-                edge: *edge,
-                number: *number,
-                why: *why,
-            },
             Cause::Disagree { path } => Cause::Disagree {
                 path: path.copy(alloc)?,
             },
             Cause::Revived { path } => Cause::Revived {
                 path: path.copy(alloc)?,
             },
-            Cause::TooManyNodes { count } => Cause::TooManyNodes { count: *count },
             Cause::PathTooLong { path } => Cause::PathTooLong {
                 path: path.copy(alloc)?,
             },
-            Cause::UnknownFile { id } => Cause::UnknownFile { id: *id },
-            Cause::ManifestDiffers { computed } => Cause::ManifestDiffers {
-                computed: *computed,
-            },
-            Cause::UnknownRevision { id } => Cause::UnknownRevision { id: *id },
             Cause::NoSuchPath { path } => Cause::NoSuchPath {
                 path: path.copy(alloc)?,
             },
             Cause::NotAFile { path } => Cause::NotAFile {
                 path: path.copy(alloc)?,
             },
-            Cause::Related { older, newer } => Cause::Related {
-                older: *older,
-                newer: *newer,
-            },
-            Cause::UnknownNode { number } => Cause::UnknownNode { number: *number },
-            Cause::NotADirectory { number } => Cause::NotADirectory { number: *number },
-            Cause::NotAConflict { number } => Cause::NotAConflict { number: *number },
-            Cause::BadField { field } => Cause::BadField { field: *field },
-            Cause::NoBranch => Cause::NoBranch,
-            Cause::OneHead { id } => Cause::OneHead { id: *id },
-            Cause::BadPacket { number, why } => Cause::BadPacket {
-                number: *number,
-                why: *why,
-            },
-            Cause::IdMismatch { number, computed } => Cause::IdMismatch {
-                number: *number,
-                computed: *computed,
-            },
-            Cause::StoreNotEmpty { count } => Cause::StoreNotEmpty { count: *count },
-            Cause::BadRequest { number } => Cause::BadRequest { number: *number },
-            Cause::OldStore => Cause::OldStore,
-            Cause::NotOld => Cause::NotOld,
             Cause::KeyNamed { id, held } => Cause::KeyNamed {
                 id: *id,
                 held: held.copy(alloc)?,
@@ -245,7 +203,45 @@ impl Cause {
             Cause::UnknownKey { name } => Cause::UnknownKey {
                 name: name.copy(alloc)?,
             },
+            _ => self.copy_fixed(),
         })
+    }
+
+    // The same of a cause that shows neither a path nor a name: it takes no memory.
+    fn copy_fixed(&self) -> Cause
+        requires { shows_text self.now ≡ false }
+        ensures { result ≡ self.now }
+    {
+        match *self {
+            Cause::TextTooLong { length } => Cause::TextTooLong { length },
+            Cause::NotText { place } => Cause::NotText { place },
+            Cause::BadStanza { number } => Cause::BadStanza { number },
+            Cause::BadOrder { number } => Cause::BadOrder { number },
+            Cause::Repeated { number } => Cause::Repeated { number },
+            Cause::BadEdge { number } => Cause::BadEdge { number },
+            Cause::Collision { id } => Cause::Collision { id },
+            Cause::LogFull { count } => Cause::LogFull { count },
+            Cause::UnknownParent { id } => Cause::UnknownParent { id },
+            Cause::BadChange { edge, number, why } => Cause::BadChange { edge, number, why },
+            Cause::TooManyNodes { count } => Cause::TooManyNodes { count },
+            Cause::UnknownFile { id } => Cause::UnknownFile { id },
+            Cause::ManifestDiffers { computed } => Cause::ManifestDiffers { computed },
+            Cause::UnknownRevision { id } => Cause::UnknownRevision { id },
+            Cause::Related { older, newer } => Cause::Related { older, newer },
+            Cause::UnknownNode { number } => Cause::UnknownNode { number },
+            Cause::NotADirectory { number } => Cause::NotADirectory { number },
+            Cause::NotAConflict { number } => Cause::NotAConflict { number },
+            Cause::BadField { field } => Cause::BadField { field },
+            Cause::NoBranch => Cause::NoBranch,
+            Cause::OneHead { id } => Cause::OneHead { id },
+            Cause::BadPacket { number, why } => Cause::BadPacket { number, why },
+            Cause::IdMismatch { number, computed } => Cause::IdMismatch { number, computed },
+            Cause::StoreNotEmpty { count } => Cause::StoreNotEmpty { count },
+            Cause::BadRequest { number } => Cause::BadRequest { number },
+            Cause::OldStore => Cause::OldStore,
+            Cause::NotOld => Cause::NotOld,
+            _ => unreachable!(),
+        }
     }
 }
 

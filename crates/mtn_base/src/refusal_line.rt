@@ -2,9 +2,9 @@
 ghost use Rattle.std.specs.Prelude.{◌≡◌, ◌++◌, OnOk, OnErr};
 ghost use Rattle.std.specs.List.{flat_map};
 ghost use Rattle.mtn_base.specs.Quoted.{escaped_byte};
-ghost use Rattle.mtn_base.specs.Refusals.{word_field, number_field, id_field, path_field, cause_fields, packet_text, refusal_text};
+ghost use Rattle.mtn_base.specs.Refusals.{word_field, number_field, id_field, path_field, why_name, cause_fields, packet_text, refusal_text};
 
-use crate::{Cause, Id, NoMemory, Path, Refusal};
+use crate::{Cause, Id, NoMemory, Path, Refusal, Why};
 
 // One space and a word.
 fn push_word(out: &mut Vec<u8>, word: &str) -> Result<(), NoMemory>
@@ -66,6 +66,46 @@ fn push_escaped(out: &mut Vec<u8>, text: &[u8]) -> Result<(), NoMemory>
     Ok(())
 }
 
+// An id's digits and the bytes of a name, with one space before each.
+fn push_id_and_bytes(out: &mut Vec<u8>, id: &Id, bytes: &[u8]) -> Result<(), NoMemory>
+    ensures { OnOk result (out.new.items ≡ out.old.items ++ id_field id.now ++ word_field bytes.now) }
+{
+    push_id(out, id)?;
+    push_bytes(out, bytes)
+}
+
+// Two ids, with one space before each.
+fn push_two_ids(out: &mut Vec<u8>, first: &Id, second: &Id) -> Result<(), NoMemory>
+    ensures { OnOk result (out.new.items ≡ out.old.items ++ id_field first.now ++ id_field second.now) }
+{
+    push_id(out, first)?;
+    push_id(out, second)
+}
+
+// A number and an id's digits, with one space before each.
+fn push_number_and_id(out: &mut Vec<u8>, number: u64, id: &Id) -> Result<(), NoMemory>
+    ensures { OnOk result (out.new.items ≡ out.old.items ++ number_field number ++ id_field id.now) }
+{
+    push_number(out, number)?;
+    push_id(out, id)
+}
+
+// A number and a word, with one space before each.
+fn push_number_and_word(out: &mut Vec<u8>, number: u64, word: &str) -> Result<(), NoMemory>
+    ensures { OnOk result (out.new.items ≡ out.old.items ++ number_field number ++ word_field word.now) }
+{
+    push_number(out, number)?;
+    push_word(out, word)
+}
+
+// The edge, the number of a change in it, and why it fails, with one space before each.
+fn push_change(out: &mut Vec<u8>, edge: u64, number: u64, why: Why) -> Result<(), NoMemory>
+    ensures { OnOk result (out.new.items ≡ out.old.items ++ number_field edge ++ number_field number ++ word_field (why_name why)) }
+{
+    push_number(out, edge)?;
+    push_number_and_word(out, number, why.name())
+}
+
 // The fields, with one space before each.
 fn push_fields(out: &mut Vec<u8>, cause: &Cause) -> Result<(), NoMemory>
     ensures { OnOk result (out.new.items ≡ out.old.items ++ cause_fields cause.now) }
@@ -98,28 +138,12 @@ fn push_fields(out: &mut Vec<u8>, cause: &Cause) -> Result<(), NoMemory>
         | Cause::NoSuchPath { path }
         | Cause::NotAFile { path } => push_path(out, path),
         Cause::BadField { field } => push_word(out, field.name()),
-        Cause::KeyNamed { id, held } => {
-            push_id(out, id)?;
-            push_bytes(out, held.as_slice())
-        }
+        Cause::KeyNamed { id, held } => push_id_and_bytes(out, id, held.as_slice()),
         Cause::UnknownKey { name } => push_bytes(out, name.as_slice()),
-        Cause::Related { older, newer } => {
-            push_id(out, older)?;
-            push_id(out, newer)
-        }
-        Cause::IdMismatch { number, computed } => {
-            push_number(out, *number)?;
-            push_id(out, computed)
-        }
-        Cause::BadPacket { number, why } => {
-            push_number(out, *number)?;
-            push_word(out, why.name())
-        }
-        Cause::BadChange { edge, number, why } => {
-            push_number(out, *edge)?;
-            push_number(out, *number)?;
-            push_word(out, why.name())
-        }
+        Cause::Related { older, newer } => push_two_ids(out, older, newer),
+        Cause::IdMismatch { number, computed } => push_number_and_id(out, *number, computed),
+        Cause::BadPacket { number, why } => push_number_and_word(out, *number, why.name()),
+        Cause::BadChange { edge, number, why } => push_change(out, *edge, *number, *why),
     }
 }
 
