@@ -24,7 +24,8 @@ mod refusal_line;
 pub use id::Id;
 pub use ids::put_in_order;
 pub use limits::{
-    MAX_CHAIN, MAX_COMP, MAX_INPUT, MAX_KEY, MAX_LOG, MAX_NODES, MAX_PATH, MAX_TEXT, room_in_log,
+    LAST_NUMBER, MAX_CHAIN, MAX_COMP, MAX_FIELD, MAX_INPUT, MAX_KEY, MAX_LOG, MAX_NODES, MAX_PATH,
+    MAX_TEXT, room_in_log,
 };
 pub use list::{Bytes, List, Text};
 pub use name::NodeName;

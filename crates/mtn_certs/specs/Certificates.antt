@@ -4,11 +4,10 @@ use Rattle.std.specs.Prelude.{◌≡◌, ℕ, ◌≤◌, ◌==◌, ◌&&◌, ◌
 use Rattle.std.specs.List.{list_all}
 use Rattle.hex.specs.Hex.{IsBytes}
 use Rattle.mtn_base.specs.declared.id.Id.{Id}
-use Rattle.mtn_base.specs.declared.limits.TheConstants.{MAX_TEXT}
+use Rattle.mtn_base.specs.declared.limits.TheConstants.{MAX_FIELD, MAX_TEXT}
 use Rattle.mtn_base.specs.declared.refusal.Field.TheVariants.{Name}
 use Rattle.mtn_certs.specs.declared.cert.CertError.{CertError}
 use Rattle.mtn_certs.specs.declared.cert.CertError.TheVariants.{BadField, TextTooLong}
-use Rattle.mtn_certs.specs.declared.field.TheConstants.{MAX_FIELD}
 
 -- what somebody says of a revision: a name and a value, with the id of the key that made it and a signature
 pub record Certificate : Type 0 where

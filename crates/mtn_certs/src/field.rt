@@ -3,8 +3,7 @@ ghost use Rattle.std.specs.Prelude.{◌≡◌};
 ghost use Rattle.std.specs.List.{list_all};
 ghost use Rattle.mtn_certs.specs.Certificates.{is_field as field_test, is_field_byte as byte_test};
 
-/// The most bytes of a field.
-pub const MAX_FIELD: usize = 255;
+use mtn_base::MAX_FIELD;
 
 fn is_field_byte(byte: u8) -> bool
     ensures { result ≡ byte_test byte }

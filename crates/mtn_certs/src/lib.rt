@@ -28,7 +28,7 @@ mod order;
 mod text;
 
 pub use cert::{Cert, CertError, KeyName};
-pub use field::{MAX_FIELD, is_field};
+pub use field::is_field;
 pub use key_error::KeyTextError;
 pub use key_reading::read_keys;
 pub use laws::{key_names, lawful, one_order};

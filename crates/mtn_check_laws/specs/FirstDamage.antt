@@ -1,7 +1,7 @@
 -- What a check of a store looks at, in order, and the first damage that it finds. The layout and the order are our choice; which
 -- texts, files and certificates are lawful stands in `mtn_replay`, `mtn_model` and `mtn_certs`.
 use Rattle.std.specs.Prelude.{◌≡◌, ◌<◌, ◌≤◌, ◌⊎◌, ℕ, true, List, [], ◌++◌, length, Some, None, IsSome, slice_get}
-use Rattle.mtn_base.specs.declared.limits.TheConstants.{MAX_TEXT}
+use Rattle.mtn_base.specs.declared.limits.TheConstants.{MAX_LOG, MAX_TEXT}
 use Rattle.mtn_certs.specs.Certificates.{Certificate, IsIdBytes, is_field}
 use Rattle.mtn_history_laws.specs.History.{Revision}
 use Rattle.mtn_replay.specs.Lawful.{IsNext}
@@ -61,14 +61,14 @@ IsCertRecord front table key body = table ≡ 8 → IsCertOf front key body
 -- `count` is a number of revisions, in eight bytes
 pub record IsCount (c : Contents) (n : ℕ) : Type 0 where
   pub held : body_at c 1 count_key ≡ Some (number_text n)
-  pub limit : n ≤ 2147483648
+  pub limit : n ≤ MAX_LOG
 
 -- `count` is held and is none
 pub record WrongCount (c : Contents) (d : Damage) : Type 0 where
   pub body : List ℕ
   pub shown : d ≡ Bad 1 count_key body
   pub held : body_at c 1 count_key ≡ Some body
-  pub broken : (n : ℕ) → n ≤ 2147483648 → body ≡ number_text n → ⊥
+  pub broken : (n : ℕ) → n ≤ MAX_LOG → body ≡ number_text n → ⊥
 
 -- what is right before the walk along the log begins
 pub record IsBegun (f : List ℕ → List ℕ) (c : Contents) (n : ℕ) : Type 0 where

@@ -9,7 +9,7 @@ ghost use Rattle.mtn_check_lots.specs.Facts.{AreFacts};
 
 use crate::{Facts, Loaded};
 use mtn_ancestry::{ParentList, Pos};
-use mtn_base::{Id, NoMemory};
+use mtn_base::{Id, MAX_CHAIN, NoMemory};
 use mtn_changes::{Change, read_revision};
 use mtn_check_log::{get_shown, text_in};
 use mtn_history::{FILES, LOG, ROSTERS, StoreError, TEXTS};
@@ -17,9 +17,6 @@ use mtn_make_roster::new_content;
 use mtn_ports::Keeper;
 use mtn_records::read_log;
 use std::alloc::Global;
-
-// The most records of a roster's chain.
-const MAX_CHAIN: usize = 17;
 
 // Notes an answer to `get`.
 fn note(

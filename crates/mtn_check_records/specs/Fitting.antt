@@ -1,5 +1,6 @@
 -- What is said of the records of a position whose job agrees.
 use Rattle.std.specs.Prelude.{◌<◌, ◌++◌, ℕ, List}
+use Rattle.mtn_base.specs.declared.limits.TheConstants.{MAX_LOG}
 use Rattle.mtn_check_laws.specs.FirstDamage.{IsDamageAt}
 use Rattle.mtn_check_laws.specs.Fronts.{Front, IsFrontAt}
 use Rattle.mtn_check_pieces.specs.Verdict.{IsAgreeing, IsVerdict}
@@ -16,11 +17,11 @@ use Rattle.mtn_check_records.specs.declared.hand.Position.{Position}
 
 -- wherever the position was read behind a front, and its job agrees, its records lead to one revision more
 abbrev pub Leads : (List ℕ → List ℕ) → Position → CheckJob → Type 0
-Leads f x job = (c : Contents) (r : ℕ) (front : Front) → IsFrontAt f c r front → r < 2147483648 → IsReadAt c r front x job → IsAgreeing job → IsStepOf f c r front x job
+Leads f x job = (c : Contents) (r : ℕ) (front : Front) → IsFrontAt f c r front → r < MAX_LOG → IsReadAt c r front x job → IsAgreeing job → IsStepOf f c r front x job
 
 -- and there this is the first damage of the position
 abbrev pub Shows : (List ℕ → List ℕ) → Position → CheckJob → (ℕ → Damage) → Type 0
-Shows f x job d = (c : Contents) (r : ℕ) (front : Front) → IsFrontAt f c r front → r < 2147483648 → IsReadAt c r front x job → IsAgreeing job → IsDamageAt f c r front (d r)
+Shows f x job d = (c : Contents) (r : ℕ) (front : Front) → IsFrontAt f c r front → r < MAX_LOG → IsReadAt c r front x job → IsAgreeing job → IsDamageAt f c r front (d r)
 
 abbrev pub IsFitting : (List ℕ → List ℕ) → Position → CheckJob → Fit → Type 0
 IsFitting f x job Fits = Leads f x job

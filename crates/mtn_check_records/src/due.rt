@@ -2,6 +2,7 @@
 ghost use Rattle.std.specs.Prelude.{◌≡◌, ◌≤◌, ◌∷◌, ◌↔◌, [], length, IfOk, IsTrue};
 ghost use Rattle.std.specs.List.{AllZip};
 ghost use Rattle.mtn_ancestry.specs.Log.{list_of};
+ghost use Rattle.mtn_base.specs.declared.limits.TheConstants.{MAX_NODES};
 ghost use Rattle.mtn_check_pieces.specs.Verdict.{IsWholeOf};
 ghost use Rattle.mtn_roster_deltas.specs.Numbering.{shown};
 ghost use Rattle.mtn_check_records.specs.Due.{first_depth as depth_of, HasEntries, IsFoundBeside, IsFoundOver, IsFoundWith};
@@ -25,7 +26,7 @@ fn over(
     stored: &MarkedRoster,
     known: &KeptParents<'_>,
 ) -> Result<Fit, NoMemory>
-    requires nodes { length stored.now.tree ≤ 100000 }
+    requires nodes { length stored.now.tree ≤ MAX_NODES }
     requires spelled { IsWholeOf job.now.stored stored.now }
     ensures { IfOk result (IsFoundOver position.now job.now stored.now known.now.places.now (shown known.now.entries.now) known.now.depth) }
 {
@@ -66,7 +67,7 @@ fn over_known(
     stored: &MarkedRoster,
     known: &KeptParents<'_>,
 ) -> Result<Fit, NoMemory>
-    requires nodes { length stored.now.tree ≤ 100000 }
+    requires nodes { length stored.now.tree ≤ MAX_NODES }
     requires spelled { IsWholeOf job.now.stored stored.now }
     requires whole { AllZip HasEntries job.now.parents (shown known.now.entries.now) }
     requires depth { known.now.depth ≡ depth_of position.now.parents }
@@ -92,7 +93,7 @@ fn over_none(
     job: &CheckJob,
     stored: &MarkedRoster,
 ) -> Result<Fit, NoMemory>
-    requires nodes { length stored.now.tree ≤ 100000 }
+    requires nodes { length stored.now.tree ≤ MAX_NODES }
     requires spelled { IsWholeOf job.now.stored stored.now }
     ensures { IfOk result (IsFoundWith position.now job.now stored.now [] job.now.parents) }
 {
@@ -115,7 +116,7 @@ fn over_one(
     stored: &MarkedRoster,
     at: Pos,
 ) -> Result<Fit, NoMemory>
-    requires nodes { length stored.now.tree ≤ 100000 }
+    requires nodes { length stored.now.tree ≤ MAX_NODES }
     requires spelled { IsWholeOf job.now.stored stored.now }
     ensures { IfOk result (IsFoundWith position.now job.now stored.now (at ∷ []) job.now.parents) }
 {
@@ -144,7 +145,7 @@ fn over_two(
     first: Pos,
     second: Pos,
 ) -> Result<Fit, NoMemory>
-    requires nodes { length stored.now.tree ≤ 100000 }
+    requires nodes { length stored.now.tree ≤ MAX_NODES }
     requires spelled { IsWholeOf job.now.stored stored.now }
     ensures { IfOk result (IsFoundWith position.now job.now stored.now (first ∷ second ∷ []) job.now.parents) }
 {
@@ -174,7 +175,7 @@ fn over_parents(
     job: &CheckJob,
     stored: &MarkedRoster,
 ) -> Result<Fit, NoMemory>
-    requires nodes { length stored.now.tree ≤ 100000 }
+    requires nodes { length stored.now.tree ≤ MAX_NODES }
     requires spelled { IsWholeOf job.now.stored stored.now }
     ensures { IfOk result (IsFoundWith position.now job.now stored.now (places_of position.now.parents) job.now.parents) }
 {
@@ -221,7 +222,7 @@ pub fn records_fit(
     job: &CheckJob,
     stored: &MarkedRoster,
 ) -> Result<Fit, NoMemory>
-    requires nodes { length stored.now.tree ≤ 100000 }
+    requires nodes { length stored.now.tree ≤ MAX_NODES }
     requires spelled { IsWholeOf job.now.stored stored.now }
     ensures { IfOk result (IsFoundBeside position.now job.now stored.now) }
 {

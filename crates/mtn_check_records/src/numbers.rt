@@ -1,19 +1,17 @@
 // The numbers of the nodes.
 ghost use Rattle.std.specs.Prelude.{◌≡◌, ◌≤◌, All, length, IfOk, IfSome, IsTrue};
+ghost use Rattle.mtn_base.specs.declared.limits.TheConstants.{MAX_NODES};
 ghost use Rattle.mtn_roster_deltas.specs.Chain.{ascend, Entries};
 ghost use Rattle.mtn_roster_deltas.specs.Numbering.{shown};
 ghost use Rattle.mtn_check_pieces.specs.Verdict.{IsWholeOf};
 ghost use Rattle.mtn_check_records.specs.Due.{HasEntries, IsKnownIn, IsNumberedBy, KeepsBelow, KeepsNumbers, SaysNothing};
 
 use mtn_ancestry::Pos;
-use mtn_base::NoMemory;
+use mtn_base::{LAST_NUMBER, NoMemory};
 use mtn_marking::MarkedRoster;
 use mtn_records::{Numbered, NumberedEntry, RosterRecord};
 use mtn_roster_deltas::{NumberError, delta, number};
 use std::alloc::Global;
-
-// The greatest number that a log can have as its next: 100,000 for each of 2,147,483,648 revisions, from 1.
-const LAST_NUMBER: u64 = 214_748_364_800_001;
 
 // Whether two entries have one number and one node.
 fn has_number(entry: &NumberedEntry, other: &NumberedEntry) -> bool
@@ -127,7 +125,7 @@ pub fn numbers_due(
     known: &[&Numbered],
     next: u64,
 ) -> Result<Option<(Numbered, u64)>, NoMemory>
-    requires nodes { length stored.now.tree ≤ 100000 }
+    requires nodes { length stored.now.tree ≤ MAX_NODES }
     requires spelled { IsWholeOf held.now stored.now }
     ensures { IfOk result (λ o. IfSome o (λ r. IsNumberedBy stored.now (shown known.now) next r.0 r.1)) }
 {
@@ -147,7 +145,7 @@ fn new_numbers(
     known: &[&Numbered],
     next: u64,
 ) -> Result<Option<(Numbered, u64)>, NoMemory>
-    requires { length stored.now.tree ≤ 100000 }
+    requires { length stored.now.tree ≤ MAX_NODES }
     ensures { IfOk result (λ o. IfSome o (λ r. IsNumberedBy stored.now (shown known.now) next r.0 r.1)) }
 {
     if next > LAST_NUMBER {

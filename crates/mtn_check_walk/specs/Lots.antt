@@ -1,5 +1,6 @@
 -- What is found of the positions of a lot.
 use Rattle.std.specs.Prelude.{◌<◌, ℕ, List, length, slice_index_or}
+use Rattle.mtn_base.specs.declared.limits.TheConstants.{MAX_LOG}
 use Rattle.mtn_check_laws.specs.FirstDamage.{IsDamageAt}
 use Rattle.mtn_check_laws.specs.Fronts.{Front, IsFrontAt}
 use Rattle.mtn_check_pieces.specs.Verdict.{IsAgreeing}
@@ -28,7 +29,7 @@ AreSound f xs jobs n = (i : ℕ) (x : Position) (job : CheckJob) → i < n → I
 
 -- this is the first damage of a position, wherever it was read behind a front
 abbrev pub Damages : (List ℕ → List ℕ) → Position → CheckJob → Damage → Type 0
-Damages f x job d = (c : Contents) (r : ℕ) (front : Front) → IsFrontAt f c r front → r < 2147483648 → IsReadAt c r front x job → IsDamageAt f c r front d
+Damages f x job d = (c : Contents) (r : ℕ) (front : Front) → IsFrontAt f c r front → r < MAX_LOG → IsReadAt c r front x job → IsDamageAt f c r front d
 
 -- an error shows that of the position at a place of the lot
 pub record IsShown (f : List ℕ → List ℕ) (xs : List Position) (jobs : List CheckJob) (n : ℕ) (e : StoreError) : Type 0 where

@@ -20,7 +20,6 @@ mod top;
 mod works;
 
 pub use laws::one_outcome;
-pub use mtn_frame::MAX_INPUT;
 pub use mtn_model::Status;
 pub use mtn_words::{Command, OptionWord, WordsError, step_words};
 pub use top::{are_words, run};

@@ -3,6 +3,7 @@
 use Rattle.std.specs.Prelude.{◌≡◌, ◌≢◌, ◌≤◌, ◌+◌, ◌⊎◌, ◌++◌, ◌∷◌, [], ℕ, List, length, take, Bool, true, false, Option, Some, ⊤}
 use Rattle.std.specs.Bool.{OnTrue}
 use Rattle.std.specs.Io.KnownBytes.{Appends}
+use Rattle.mtn_base.specs.declared.limits.TheConstants.{MAX_INPUT}
 use Rattle.mtn_base.specs.declared.refusal.Refusal.{Refusal}
 use Rattle.mtn_base.specs.Refusals.{refusal_text}
 use Rattle.mtn_model.specs.Table.{Contents}
@@ -196,7 +197,7 @@ pub record NoFault (before after : Counts) : Type 0 where
 
 -- where nothing failed and the input is within its limit, all is done and answered, or memory is wanting
 abbrev pub Completes : {S : Type 0} → (Contents → S → Type 0) → (Job → S → Outcome S → Type 0) → (List ℕ → Script → Type 0) → Bool → Told → Told → Counts → Counts → Status → Type 0
-Completes {S} Stands Is IsScript reads before after counts0 counts1 result = (s : S) (input w : List ℕ) (d : Contents) → Tells Stands reads before s input w → after.contents ≡ Some d → NoFault counts0 counts1 → length input ≤ 268435456 →
+Completes {S} Stands Is IsScript reads before after counts0 counts1 result = (s : S) (input w : List ℕ) (d : Contents) → Tells Stands reads before s input w → after.contents ≡ Some d → NoFault counts0 counts1 → length input ≤ MAX_INPUT →
     Done Stands Is (IsScript input) s reads before after d result ⊎ (result ≡ status.NoMemory)
 
 -- a crash leaves what it might have left before, or records that stand for the state after some of the jobs

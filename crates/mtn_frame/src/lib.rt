@@ -30,9 +30,9 @@ mod works;
 
 pub use laws::{one_reading, single_command};
 pub use one::{deliver, put_all};
-pub use payload::{MAX_INPUT, ReadStop};
+pub use payload::ReadStop;
 pub use raw::takes_last;
-pub use requests::{MAX_WORD, Request, RequestStop, read_requests};
+pub use requests::{Request, RequestStop, read_requests};
 pub use script::{Form, Job, Script};
 pub use session::goes_on;
 pub use top::{feed, is_session, run_frame};

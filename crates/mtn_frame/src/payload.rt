@@ -1,14 +1,13 @@
 // Reading a source to its end.
 ghost use Rattle.std.specs.Prelude.{◌≡◌, ◌≤◌, ◌<◌, true, length, IfOk, IsErrOf};
+ghost use Rattle.mtn_base.specs.declared.limits.TheConstants.{MAX_INPUT};
 ghost use Rattle.mtn_ports.specs.Causes.{Rose};
 ghost use Rattle.std.specs.Io.KnownBytes.{Consumes, IsAtEnd};
 ghost use Rattle.mtn_frame.specs.Limit.{Stops, TakesPiece};
 
+use mtn_base::MAX_INPUT;
 use mtn_ports::Source;
 use std::alloc::{AllocError, Global};
-
-/// The most bytes of input of one run.
-pub const MAX_INPUT: usize = 268_435_456;
 
 // How many bytes a source is asked for at once.
 const PIECE: usize = 65_536;
@@ -50,7 +49,7 @@ pub fn read_payload<S: Source>(alloc: Global, source: &mut S) -> Result<Vec<u8>,
 
 // Appends the next bytes of the source, and answers how many; 0 is the end.
 fn read_piece<S: Source>(source: &mut S, payload: &mut Vec<u8>) -> Result<usize, ReadStop>
-    requires { length payload.old.items ≤ 268435456 }
+    requires { length payload.old.items ≤ MAX_INPUT }
     ensures piece { TakesPiece (S.left source.old) (S.left source.new) payload.old.items payload.new.items result }
     ensures later { S.faults source.old ≤ S.faults source.new }
     ensures failed { IsErrOf result ReadStop.Failed → Rose (S.faults source.old) (S.faults source.new) }

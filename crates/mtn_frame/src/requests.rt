@@ -7,11 +7,8 @@ ghost use Rattle.mtn_frame.specs.declared.requests.Request.{Request};
 ghost use Rattle.mtn_frame.specs.Requests.{ReadsList, Ends, Behind, IsAll, Takes, TakesBytes, Begins, AreWordsAt, IsWordAt, IsGap, IsSmall, SizeOf, Follows, is_gap as gap_byte, is_digit as digit_byte, word_text};
 ghost use Rattle.std.specs.List.{All, flat_map, prefix_len};
 
-use mtn_base::{Bytes, List, NoMemory};
+use mtn_base::{Bytes, List, MAX_INPUT, NoMemory};
 use std::alloc::{AllocError, Global};
-
-/// The most bytes of input of one run, and of a word.
-pub const MAX_WORD: usize = 268_435_456;
 
 /// The words of a request.
 #[derive(Drop)]
@@ -48,7 +45,7 @@ fn size_of(alloc: Global, digits: &[u8]) -> Result<Option<usize>, NoMemory>
     let Ok(size) = text.parse::<usize>() else {
         return Ok(None);
     };
-    if size > MAX_WORD {
+    if size > MAX_INPUT {
         return Ok(None);
     }
     let written = size.to_string(alloc)?;

@@ -10,6 +10,7 @@
 
 ghost use Rattle.std.specs.Prelude.{◌≡◌, ◌≢◌, ◌⊎◌, ◌<◌, ◌≤◌, ◌-◌, ◌^◌, ℕ, suc, List, [], length, None, Ok, Err};
 ghost use Rattle.mtn_base.specs.declared.id.Id.{Id};
+ghost use Rattle.mtn_base.specs.declared.limits.TheConstants.{MAX_LOG};
 ghost use Rattle.mtn_base.specs.declared.refusal.Cause.TheVariants.{Collision};
 ghost use Rattle.mtn_changeset_laws.specs.Changes.{first_fault, tree_after};
 ghost use Rattle.mtn_changeset_laws.specs.Laws.{NoneBornIn};
@@ -54,8 +55,8 @@ pub fn attributes_apply()
 /// Nothing but a collision stops a generation over a lawful state with an empty log, where the ident makes ids (`stops`): it comes
 /// to all revisions, or to a collision (`comes`).
 pub fn only_collisions_stop()
-    ensures stops { (f : List ℕ → List ℕ) (n : ℕ) (s : State) (stop : Stop) → MakesIds f → IsLawful f s → length s.log ≡ 0 → n ≤ 2147483648 → Generates f n s (Err stop) →
+    ensures stops { (f : List ℕ → List ℕ) (n : ℕ) (s : State) (stop : Stop) → MakesIds f → IsLawful f s → length s.log ≡ 0 → n ≤ MAX_LOG → Generates f n s (Err stop) →
         (id : Id) × (stop ≡ Refused (Collision id)) }
-    ensures comes { (f : List ℕ → List ℕ) (n : ℕ) (s : State) → MakesIds f → IsLawful f s → length s.log ≡ 0 → n ≤ 2147483648 →
+    ensures comes { (f : List ℕ → List ℕ) (n : ℕ) (s : State) → MakesIds f → IsLawful f s → length s.log ≡ 0 → n ≤ MAX_LOG →
         ((g : Grown) × Generates f n s (Ok g)) ⊎ ((id : Id) × Generates f n s (Err (Refused (Collision id)))) }
 {}

@@ -12,6 +12,7 @@
 ghost use Rattle.std.specs.Prelude.{◌≡◌, ◌≢◌, ◌<◌, ◌≤◌, ◌/◌, ◌^◌, ℕ, suc, false, List, [], ◌∷◌, length, Some, None};
 ghost use Rattle.mtn_base.specs.Paths.{path_text};
 ghost use Rattle.mtn_base.specs.declared.id.Id.{Id};
+ghost use Rattle.mtn_base.specs.declared.limits.TheConstants.{MAX_LOG, MAX_TEXT};
 ghost use Rattle.mtn_changes.specs.declared.change.Change.TheVariants.{Patch, Set};
 ghost use Rattle.mtn_changeset_laws.specs.Changes.{tree_after};
 ghost use Rattle.mtn_conflicts.specs.Result.{result_of};
@@ -70,17 +71,17 @@ pub fn formed_trees_are_within_limits()
     ensures paths { (f : List ℕ → List ℕ) (i m : ℕ) (t : Tree) → i < 2 ^ 64 → IsSane t → IsFormed f i m t → too_long t ≡ None }
 {}
 
-/// The text of a merge whose trees are of the form is within its limit of 64 MiB.
+/// The text of a merge whose trees are of the form is within its limit.
 pub fn merge_texts_are_short()
     ensures { (f : List ℕ → List ℕ) (h : List Revision) (a b : Id) (i j k m n o : ℕ) (t : Tree) → MakesIds f → i < 2 ^ 64 → j < 2 ^ 64 → k < 2 ^ 64 → m < 2 ^ 64 → n < 2 ^ 64 → o < 2 ^ 64 →
         length a.0 ≡ 20 → length b.0 ≡ 20 → IsSane (parent_tree h (Some a)) → IsSane (parent_tree h (Some b)) → IsSane t →
-        IsFormed f i m (parent_tree h (Some a)) → IsFormed f j n (parent_tree h (Some b)) → IsFormed f k o t → length (merge_text f h a b t) ≤ 67108864 }
+        IsFormed f i m (parent_tree h (Some a)) → IsFormed f j n (parent_tree h (Some b)) → IsFormed f k o t → length (merge_text f h a b t) ≤ MAX_TEXT }
 {}
 
 /// Over a lawful state whose log has room, a merge of tips of the form comes to one tip of the form, with the names and contents of
 /// left and the attributes of right; or to a collision.
 pub fn merges_join_the_tips()
     ensures { (f : List ℕ → List ℕ) (s : State) (h : List Revision) (tips : Tips) (parent left right i m k n : ℕ) (answer : Answer) → MakesIds f → IsLawful f s → IsHistory f s.files s.log h →
-        length s.log < 2147483648 → AreAt h tips left right → AreTips h parent left right → i < 2 ^ 64 → m < 2 ^ 64 → k < 2 ^ 64 → n < 2 ^ 64 →
+        length s.log < MAX_LOG → AreAt h tips left right → AreTips h parent left right → i < 2 ^ 64 → m < 2 ^ 64 → k < 2 ^ 64 → n < 2 ^ 64 →
         IsFormed f i m (tree_at h left) → IsFormed f k n (tree_at h right) → MergesTips f Joins tips s answer → IsJoined f i n s answer }
 {}

@@ -1,6 +1,7 @@
 // Rosters by the ids of their revisions, and the ids of what marks name.
 ghost use Rattle.std.specs.Prelude.{◌≡◌, ◌<◌, ◌≤◌, ◌+◌, ◌∷◌, [], List, ℕ, length, Err, IfOk, IfErr, IfSome, OnOk};
 ghost use Rattle.std.specs.List.{AllZip};
+ghost use Rattle.mtn_base.specs.declared.limits.TheConstants.{MAX_CHAIN};
 ghost use Rattle.mtn_history_laws.specs.History.{IsPlaceOf};
 ghost use Rattle.mtn_model.specs.State.{State};
 ghost use Rattle.mtn_ports.specs.Causes.{Rose};
@@ -54,12 +55,12 @@ impl<'a, K: Keeper> Draft<'a, K> {
     /// Where a revision stands, and its roster with the marks; UnknownRevision where the log has no such id. It asks for the
     /// record of its text and, where the roster is not remembered, at most sixteen of rosters.
     pub fn roster_of(&mut self, id: Id) -> Result<(Pos, SharedRoster), HistoryError>
-        ensures asks { OnlyAsks K.contents K.leaves K.faults K.reads 18 self.old self.new }
+        ensures asks { OnlyAsks K.contents K.leaves K.faults K.reads (MAX_CHAIN + 2) self.old self.new }
 
         ensures found { (f : List ℕ → List ℕ) (s : State) (d : IsFounded f (K.contents self.new.keeper.now) self.old.pending s) → FindsRoster d.stands.history id result }
         ensures below { IfOk result (λ r. r.0 < self.old.pending.count) }
         ensures there { IfSome (K.contents self.new.keeper.now) (λ c. IfOk result (λ r. IsRosterThere (with_all c self.old.pending.batch) r.0)) }
-        ensures few { OnOk result (K.reads self.new.keeper.now ≤ K.reads self.old.keeper.now + 17) }
+        ensures few { OnOk result (K.reads self.new.keeper.now ≤ K.reads self.old.keeper.now + (MAX_CHAIN + 1)) }
         ensures damaged { IfSome (K.contents self.new.keeper.now) (λ c. IsCounted self.old.pending c → IfErr result (λ e. IfStoreDamage e (IsDamage (with_all c self.old.pending.batch)))) }
         ensures failed { result ≡ Err (HistoryError.Store StoreError.Failed) → Rose (K.faults self.old.keeper.now) (K.faults self.new.keeper.now) }
     {

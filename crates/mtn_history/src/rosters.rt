@@ -1,5 +1,6 @@
 // The rosters that records give.
 ghost use Rattle.std.specs.Prelude.{◌≡◌, ◌<◌, ◌≤◌, ◌+◌, List, ℕ, option_map, Err, IfOk, IfErr, IfSome, OnOk};
+ghost use Rattle.mtn_base.specs.declared.limits.TheConstants.{MAX_CHAIN};
 ghost use Rattle.mtn_marking.specs.Graph.{IsMarkedAt};
 ghost use Rattle.mtn_model.specs.State.{State};
 ghost use Rattle.mtn_ports.specs.Causes.{Rose};
@@ -13,10 +14,11 @@ ghost use Rattle.mtn_history.specs.Stands.{IsFounded};
 use crate::damaged::{bad, missing};
 use crate::{Draft, ROSTERS, StoreError};
 use mtn_ancestry::Pos;
+use mtn_base::MAX_CHAIN;
 use mtn_marking::MarkedRoster;
 use mtn_ports::Keeper;
 use mtn_records::{Numbered, RecordError, RosterRecord, read_roster};
-use mtn_roster_deltas::{DEEPEST, rebuild};
+use mtn_roster_deltas::rebuild;
 use std::rc::Rc;
 
 /// A roster as its records give it: its entries under their numbers, the roster with its marks, and how many deltas its
@@ -75,7 +77,7 @@ impl<'a, K: Keeper> Draft<'a, K> {
 
     // The records from a position down to a whole one. None where there are more than a chain may have.
     fn chain(&mut self, at: Pos) -> Result<Option<Chain>, StoreError>
-        ensures asks { OnlyAsks K.contents K.leaves K.faults K.reads 16 self.old self.new }
+        ensures asks { OnlyAsks K.contents K.leaves K.faults K.reads MAX_CHAIN self.old self.new }
 
         ensures read { IfSome (K.contents self.new.keeper.now) (λ c. IfOk result (λ chain. IsChainOf (with_all c self.old.pending.batch) at (option_map (λ x. (x.records.items, x.depth)) chain))) }
         ensures damaged { IfSome (K.contents self.new.keeper.now) (λ c. IfErr result (λ e. IfDamage e (UnmadeBelow (at + 1) (with_all c self.old.pending.batch)))) }
@@ -83,7 +85,7 @@ impl<'a, K: Keeper> Draft<'a, K> {
     {
         let mut chain = Vec::new(self.alloc());
         let mut next = at;
-        for depth in 0..RECORDS {
+        for depth in 0..MAX_CHAIN {
             let record = self.rostered(next)?;
             let base = base_of(&record);
             chain.push(record)?;
@@ -103,10 +105,10 @@ impl<'a, K: Keeper> Draft<'a, K> {
 
     // A revision's roster, rebuilt from its records.
     fn rebuilt_at(&mut self, at: Pos) -> Result<Rebuilt, StoreError>
-        ensures asks { OnlyAsks K.contents K.leaves K.faults K.reads 17 self.old self.new }
+        ensures asks { OnlyAsks K.contents K.leaves K.faults K.reads (MAX_CHAIN + 1) self.old self.new }
 
         ensures rebuilt { IfSome (K.contents self.new.keeper.now) (λ c. IfOk result (Rebuilds (with_all c self.old.pending.batch) at)) }
-        ensures few { OnOk result (K.reads self.new.keeper.now ≤ K.reads self.old.keeper.now + 16) }
+        ensures few { OnOk result (K.reads self.new.keeper.now ≤ K.reads self.old.keeper.now + MAX_CHAIN) }
         ensures damaged { IfSome (K.contents self.new.keeper.now) (λ c. IfErr result (λ e. IfDamage e (UnmadeBelow (at + 1) (with_all c self.old.pending.batch)))) }
         ensures failed { result ≡ Err StoreError.Failed → Rose (K.faults self.old.keeper.now) (K.faults self.new.keeper.now) }
     {
@@ -126,10 +128,10 @@ impl<'a, K: Keeper> Draft<'a, K> {
 
     // The same, and it is remembered.
     fn read_roster_at(&mut self, at: Pos) -> Result<Rc<Rebuilt>, StoreError>
-        ensures asks { OnlyAsks K.contents K.leaves K.faults K.reads 17 self.old self.new }
+        ensures asks { OnlyAsks K.contents K.leaves K.faults K.reads (MAX_CHAIN + 1) self.old self.new }
 
         ensures rebuilt { IfSome (K.contents self.new.keeper.now) (λ c. IfOk result (λ r. Rebuilds (with_all c self.old.pending.batch) at r.value)) }
-        ensures few { OnOk result (K.reads self.new.keeper.now ≤ K.reads self.old.keeper.now + 16) }
+        ensures few { OnOk result (K.reads self.new.keeper.now ≤ K.reads self.old.keeper.now + MAX_CHAIN) }
         ensures damaged { IfSome (K.contents self.new.keeper.now) (λ c. IfErr result (λ e. IfDamage e (UnmadeBelow (at + 1) (with_all c self.old.pending.batch)))) }
         ensures failed { result ≡ Err StoreError.Failed → Rose (K.faults self.old.keeper.now) (K.faults self.new.keeper.now) }
     {
@@ -143,11 +145,11 @@ impl<'a, K: Keeper> Draft<'a, K> {
     /// A revision's roster. One of those that were read or accepted last is remembered; else it asks for at most sixteen
     /// records. Over records that stand for a state it is that of the history.
     pub fn roster_at(&mut self, at: Pos) -> Result<Rc<Rebuilt>, StoreError>
-        ensures asks { OnlyAsks K.contents K.leaves K.faults K.reads 17 self.old self.new }
+        ensures asks { OnlyAsks K.contents K.leaves K.faults K.reads (MAX_CHAIN + 1) self.old self.new }
 
         ensures found { (f : List ℕ → List ℕ) (s : State) (d : IsFounded f (K.contents self.new.keeper.now) self.old.pending s) → at < self.old.pending.count → IfOk result (λ r. IsMarkedAt d.stands.history at r.value.roster) }
         ensures rebuilt { IfSome (K.contents self.new.keeper.now) (λ c. IfOk result (λ r. Rebuilds (with_all c self.old.pending.batch) at r.value)) }
-        ensures few { OnOk result (K.reads self.new.keeper.now ≤ K.reads self.old.keeper.now + 16) }
+        ensures few { OnOk result (K.reads self.new.keeper.now ≤ K.reads self.old.keeper.now + MAX_CHAIN) }
         ensures damaged { IfSome (K.contents self.new.keeper.now) (λ c. IfErr result (λ e. IfDamage e (UnmadeBelow (at + 1) (with_all c self.old.pending.batch)))) }
         ensures failed { result ≡ Err StoreError.Failed → Rose (K.faults self.old.keeper.now) (K.faults self.new.keeper.now) }
     {
@@ -157,9 +159,6 @@ impl<'a, K: Keeper> Draft<'a, K> {
         }
     }
 }
-
-// The most records of a chain: a whole one and the deltas above it.
-const RECORDS: u8 = DEEPEST + 1;
 
 // What a record stands on; None for a whole one.
 fn base_of(stored: &RosterRecord) -> Option<Pos>

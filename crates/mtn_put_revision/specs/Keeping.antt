@@ -4,6 +4,7 @@ use Rattle.mtn_ancestry.specs.Log.{list_of}
 use Rattle.mtn_ancestry.specs.declared.pos.ParentList.{ParentList}
 use Rattle.mtn_base.specs.Hex.{id_of}
 use Rattle.mtn_base.specs.declared.id.Id.{Id}
+use Rattle.mtn_base.specs.declared.limits.TheConstants.{MAX_TEXT}
 use Rattle.mtn_changes.specs.declared.change.Edge.{Edge}
 use Rattle.mtn_changes.specs.declared.change.Revision.{Revision as Spelled}
 use Rattle.mtn_roster_deltas.specs.Chain.{Entries, ascend, deepest}
@@ -93,7 +94,7 @@ pub record AreOn (h : List Revision) (fresh : NewRevision) (places : List ℕ) :
 
 -- a text within its limit, whose id is the ident's, that spells the revision; the log has room for it, and holds its parents
 pub record IsNew (f : List ℕ → List ℕ) (h : List Revision) (fresh : NewRevision) : Type 0 where
-  pub short : length fresh.text.now ≤ 67108864
+  pub short : length fresh.text.now ≤ MAX_TEXT
   pub id : f fresh.text.now ≡ fresh.id.0
   pub spells : Spells fresh.text.now fresh.read.now
   pub new : place_of h fresh.id ≡ None
@@ -107,7 +108,7 @@ pub record Accepts (f : List ℕ → List ℕ) (c : Contents) (s : State) (h : L
 
 -- the text within its limit, the ident's id of it, and the revision that it spells
 pub record IsSpelled (f : List ℕ → List ℕ) (fresh : NewRevision) : Type 0 where
-  pub short : length fresh.text.now ≤ 67108864
+  pub short : length fresh.text.now ≤ MAX_TEXT
   pub id : f fresh.text.now ≡ fresh.id.0
   pub spells : Spells fresh.text.now fresh.read.now
 

@@ -2,6 +2,7 @@
 use Rattle.std.specs.Prelude.{◌≡◌, ◌<◌, ◌≤◌, ℕ, None, List, [], ◌∷◌, ◌++◌, length, All, Contains, IsTrue}
 use Rattle.std.specs.List.Sorted.{IsStrictlyIncreasing}
 use Rattle.mtn_base.specs.declared.id.Id.{Id}
+use Rattle.mtn_base.specs.declared.limits.TheConstants.{MAX_LOG, MAX_NODES}
 use Rattle.mtn_changes.specs.declared.change.Edge.{Edge}
 use Rattle.mtn_entry_laws.specs.Entries.{HasLawfulEntries, HaveLawfulEntries}
 use Rattle.mtn_history_laws.specs.History.{Revision, IsGrown}
@@ -53,12 +54,12 @@ IsTyped (Delta base depth gone changed) = IsByte depth × AreTypedNumbers gone �
 pub record IsNextTree (h : List Revision) (v : Revision) (t : MarkedTree) : Type 0 where
   pub grown : IsGrown (h ++ v ∷ [])
   pub marked : IsMarkedAt (h ++ v ∷ []) (length h) t
-  pub few : length t.tree ≤ 100000
+  pub few : length t.tree ≤ MAX_NODES
   pub entries : HasLawfulEntries t.tree
 
 -- no tree that a history may have next, at this position, has these entries
 abbrev pub NoneHas : ℕ → Entries → Type 0
-NoneHas at entries = (h : List Revision) (v : Revision) (t : MarkedTree) → IsNextTree h v t → Spells entries t → length h ≡ at → at < 2147483648 → ⊥
+NoneHas at entries = (h : List Revision) (v : Revision) (t : MarkedTree) → IsNextTree h v t → Spells entries t → length h ≡ at → at < MAX_LOG → ⊥
 
 -- over no history of this length, with lawful entries, do the edges make this tree
 abbrev pub NoneMakes : ℕ → Id → List Edge → Basis → Tree → Type 0

@@ -1,5 +1,6 @@
 // The records of a new revision, put behind the others.
 ghost use Rattle.std.specs.Prelude.{◌≡◌, ◌<◌, ◌≤◌, [], All, List, ℕ, length, Ok, Err, false, IfOk, IfErr, IfSome, IsTrue, OnErr, ◌+◌};
+ghost use Rattle.mtn_base.specs.declared.limits.TheConstants.{MAX_LOG, MAX_NODES};
 ghost use Rattle.mtn_roster_deltas.specs.Numbering.{shown};
 ghost use Rattle.mtn_changes.specs.declared.change.Edge.{Edge};
 ghost use Rattle.mtn_history_laws.specs.History.{Revision};
@@ -34,8 +35,8 @@ pub fn keep<K: Keeper>(
     roster: MarkedRoster,
     known: &KeptParents<'_>,
 ) -> Result<bool, StoreError>
-    requires room { draft.old.pending.count < 2147483648 }
-    requires nodes { length roster.tree ≤ 100000 }
+    requires room { draft.old.pending.count < MAX_LOG }
+    requires nodes { length roster.tree ≤ MAX_NODES }
     requires few { length known.now.places.now ≤ 2 }
     requires below { All (λ p. p < draft.old.pending.count) known.now.places.now }
     requires unknown { known.now.places.now ≡ [] → shown known.now.entries.now ≡ [] }

@@ -1,5 +1,6 @@
 // A revision accepted over its parents, by how many there are.
 ghost use Rattle.std.specs.Prelude.{◌≡◌, ◌<◌, ◌≤◌, All, List, ℕ, [], ◌∷◌, length, None, Ok, Err, false, IfOk, IfErr, IfSome, IsTrue, OnOk, OnErr, ◌+◌};
+ghost use Rattle.mtn_base.specs.declared.limits.TheConstants.{MAX_LOG};
 ghost use Rattle.mtn_roster_deltas.specs.Numbering.{shown};
 ghost use Rattle.mtn_changes.specs.RevisionText.{AreEdges};
 ghost use Rattle.mtn_entry_laws.specs.Entries.{AreBounded};
@@ -50,7 +51,7 @@ fn over_tree<K: Keeper>(
 ) -> Result<bool, StoreError>
     requires edges { AreEdges fresh.now.read.now.edges }
     requires bounded { AreBounded fresh.now.read.now.edges }
-    requires room { draft.old.pending.count < 2147483648 }
+    requires room { draft.old.pending.count < MAX_LOG }
     requires few { length known.now.places.now ≤ 2 }
     requires below { All (λ p. p < draft.old.pending.count) known.now.places.now }
     requires unknown { known.now.places.now ≡ [] → shown known.now.entries.now ≡ [] }
@@ -89,7 +90,7 @@ fn over_plan<K: Keeper>(
 ) -> Result<bool, StoreError>
     requires edges { AreEdges fresh.now.read.now.edges }
     requires bounded { AreBounded fresh.now.read.now.edges }
-    requires room { draft.old.pending.count < 2147483648 }
+    requires room { draft.old.pending.count < MAX_LOG }
     requires few { length known.now.places.now ≤ 2 }
     requires below { All (λ p. p < draft.old.pending.count) known.now.places.now }
     requires unknown { known.now.places.now ≡ [] → shown known.now.entries.now ≡ [] }
@@ -125,7 +126,7 @@ fn over_edges<I: Ident, K: Keeper>(
 ) -> Result<(), HistoryError>
     requires edges { AreEdges fresh.now.read.now.edges }
     requires bounded { AreBounded fresh.now.read.now.edges }
-    requires room { draft.old.pending.count < 2147483648 }
+    requires room { draft.old.pending.count < MAX_LOG }
     requires few { length known.now.places.now ≤ 2 }
     requires below { All (λ p. p < draft.old.pending.count) known.now.places.now }
     requires root { known.now.places.now ≡ [] → Underlies [] fresh.now.read.now.edges basis.now fresh.now.id }
@@ -168,7 +169,7 @@ fn over<I: Ident, K: Keeper>(
 ) -> Result<(), HistoryError>
     requires edges { AreEdges fresh.now.read.now.edges }
     requires bounded { AreBounded fresh.now.read.now.edges }
-    requires room { draft.old.pending.count < 2147483648 }
+    requires room { draft.old.pending.count < MAX_LOG }
     requires few { length known.now.places.now ≤ 2 }
     requires below { All (λ p. p < draft.old.pending.count) known.now.places.now }
     requires root { known.now.places.now ≡ [] → Underlies [] fresh.now.read.now.edges basis.now fresh.now.id }
@@ -210,7 +211,7 @@ fn over_one<I: Ident, K: Keeper>(
 ) -> Result<(), HistoryError>
     requires edges { AreEdges fresh.now.read.now.edges }
     requires bounded { AreBounded fresh.now.read.now.edges }
-    requires room { draft.old.pending.count < 2147483648 }
+    requires room { draft.old.pending.count < MAX_LOG }
     requires one { places.now ≡ at ∷ [] }
     requires below { at < draft.old.pending.count }
     requires parents { (f : List ℕ → List ℕ) (s : State) → (d : IsFounded f (K.contents draft.old.keeper.now) draft.old.pending s) →
@@ -262,7 +263,7 @@ fn over_two<I: Ident, K: Keeper>(
 ) -> Result<(), HistoryError>
     requires edges { AreEdges fresh.now.read.now.edges }
     requires bounded { AreBounded fresh.now.read.now.edges }
-    requires room { draft.old.pending.count < 2147483648 }
+    requires room { draft.old.pending.count < MAX_LOG }
     requires two { places.now ≡ left ∷ right ∷ [] }
     requires below { (left < draft.old.pending.count) × (right < draft.old.pending.count) }
     requires parents { (f : List ℕ → List ℕ) (s : State) → (d : IsFounded f (K.contents draft.old.keeper.now) draft.old.pending s) →
@@ -313,7 +314,7 @@ pub fn over_places<I: Ident, K: Keeper>(
 ) -> Result<(), HistoryError>
     requires edges { AreEdges fresh.now.read.now.edges }
     requires bounded { AreBounded fresh.now.read.now.edges }
-    requires room { draft.old.pending.count < 2147483648 }
+    requires room { draft.old.pending.count < MAX_LOG }
     requires few { length places.now ≤ 2 }
     requires below { All (λ p. p < draft.old.pending.count) places.now }
     requires root { places.now ≡ [] → All (λ e. e.parent ≡ None) fresh.now.read.now.edges }

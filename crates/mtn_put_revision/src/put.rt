@@ -1,5 +1,6 @@
 // The calls `put_revision` and `put_revision_as`.
 ghost use Rattle.std.specs.Prelude.{◌≡◌, ◌≤◌, List, ℕ, length, Some, None, Err, IfErr, IfSome, OnOk, OnErr, ◌+◌};
+ghost use Rattle.mtn_base.specs.declared.limits.TheConstants.{MAX_TEXT};
 ghost use Rattle.mtn_changes.specs.RevisionText.{AreEdges};
 ghost use Rattle.mtn_entry_laws.specs.Entries.{AreBounded};
 ghost use Rattle.mtn_replay.specs.Making.{place_of, refusal_of, unknown_parent};
@@ -21,15 +22,12 @@ ghost use Rattle.mtn_put_revision.specs.Reads.{IsBoundOf, IsFor};
 
 use crate::over::{NewRevision, over_places};
 use crate::places::places_of;
-use mtn_base::{Cause, Id, MAX_TEXT};
+use mtn_base::{Cause, Id, MAX_LOG, MAX_TEXT};
 use mtn_changes::{ChangeTextError, read_revision};
 use mtn_history::{Draft, HistoryError, StoreError};
 use mtn_ports::{Ident, Keeper};
 use mtn_roster::Roster;
 use std::alloc::Global;
-
-/// The most revisions of a log.
-pub const MAX_LOG: u64 = 2_147_483_648;
 
 // What a text that spells no revision is refused for.
 fn unread(error: ChangeTextError) -> HistoryError
@@ -164,7 +162,7 @@ fn put_new<I: Ident, K: Keeper>(
     text: &[u8],
     planned: Option<Roster>,
 ) -> Result<(), HistoryError>
-    requires short { length text.now ≤ 67108864 }
+    requires short { length text.now ≤ MAX_TEXT }
     requires id { id.0 ≡ I.meaning ident.now text.now }
     requires new { (f : List ℕ → List ℕ) (c : Contents) (s : State) → K.contents draft.old.keeper.now ≡ Some c → IsDraft f c draft.old.pending s → text_under s.log id.0 ≡ None }
     requires planned { (s : State) → (d : IsFounded (I.meaning ident.now) (K.contents draft.old.keeper.now) draft.old.pending s) →

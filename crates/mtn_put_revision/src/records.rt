@@ -1,6 +1,7 @@
 // The records of a new revision.
 ghost use Rattle.std.specs.Prelude.{◌≡◌, ◌<◌, ◌≤◌, All, List, ℕ, length, Ok, None, Err, IfOk, IfErr, IfSome, IsTrue, ◌+◌};
 ghost use Rattle.mtn_ancestry.specs.Log.{list_of};
+ghost use Rattle.mtn_base.specs.declared.limits.TheConstants.{LAST_NUMBER};
 ghost use Rattle.mtn_roster_deltas.specs.Chain.{ascend};
 ghost use Rattle.mtn_roster_deltas.specs.Numbering.{shown};
 ghost use Rattle.mtn_model.specs.State.{State};
@@ -18,15 +19,12 @@ ghost use Rattle.mtn_put_revision.specs.Writing.{AllAscend, IsTyped, NoneHas};
 
 use crate::typed::typed_record;
 use mtn_ancestry::{ParentList, Pos};
-use mtn_base::{Bytes, Id, List as Items, NoMemory};
+use mtn_base::{Bytes, Id, LAST_NUMBER, List as Items, NoMemory};
 use mtn_history::{Draft, StoreError};
 use mtn_ports::Keeper;
 use mtn_records::{LogRecord, Numbered, RosterRecord, is_record_at, write_log, write_roster};
 use mtn_roster_deltas::{DEEPEST, delta};
 use std::alloc::Global;
-
-/// The greatest number that a log can have as its next: 100,000 for each of 2,147,483,648 revisions, from 1.
-const LAST_NUMBER: u64 = 214_748_364_800_001;
 
 /// The parents of a new revision: their positions in the order of the edges, the entries of each, and how deep the record of
 /// the first stands.
@@ -42,7 +40,7 @@ pub fn next_number<K: Keeper>(draft: &mut Draft<'_, K>) -> Result<u64, StoreErro
     ensures same_reference { draft.new.keeper.ghost_name ≡ draft.old.keeper.ghost_name }
     ensures stays { Stays K.contents K.leaves K.faults draft.old.keeper.now draft.new.keeper.now }
     ensures pending { draft.new.pending ≡ draft.old.pending }
-    ensures room { IfOk result (λ n. n ≤ 214748364800001) }
+    ensures room { IfOk result (λ n. n ≤ LAST_NUMBER) }
     ensures first { draft.old.pending.count ≡ 0 → IfOk result (λ n. n ≡ 1) }
     ensures next { (f : List ℕ → List ℕ) (s : State) → (d : IsFounded f (K.contents draft.new.keeper.now) draft.old.pending s) →
         IfOk result (λ n. n ≡ next_of d.stands.kept) }

@@ -2,6 +2,7 @@
 -- limits are our choice.
 use Rattle.std.specs.Prelude.{◌≡◌, ◌≤◌, ◌<◌, ◌⊎◌, ℕ, List, [], ◌∷◌, ◌++◌, length, bytes_eq, if◌then◌else◌, Option, Some, None}
 use Rattle.mtn_base.specs.Hex.{id_of}
+use Rattle.mtn_base.specs.declared.limits.TheConstants.{MAX_TEXT}
 use Rattle.mtn_base.specs.declared.refusal.Cause.{Cause}
 use Rattle.mtn_base.specs.declared.refusal.Cause.TheVariants.{TextTooLong, NotText, BadStanza, BadOrder, Repeated, BadEdge, Collision}
 use Rattle.mtn_changes.specs.declared.change.Revision.{Revision as Spelled}
@@ -35,14 +36,14 @@ abbrev pub logged_beside : Option (List ℕ) → (List ℕ → List ℕ) → Sta
 logged_beside (Some held) f s text = s
 logged_beside None f s text = record s { log = s.log ++ record { id = f text; text = text } ∷ [] }
 
--- the text is longer than 64 MiB
+-- the text is longer than its limit
 pub record IsTooLong (text : List ℕ) (refusal : Option Cause) : Type 0 where
-  pub long : 67108864 < length text
+  pub long : MAX_TEXT < length text
   pub is : refusal ≡ Some (TextTooLong (length text))
 
 -- it spells no revision
 pub record IsUnread (text : List ℕ) (refusal : Option Cause) : Type 0 where
-  pub short : length text ≤ 67108864
+  pub short : length text ≤ MAX_TEXT
   pub fault : ChangeTextError
   pub faulty : IsRevisionFault text fault
   pub cause : Cause
@@ -51,7 +52,7 @@ pub record IsUnread (text : List ℕ) (refusal : Option Cause) : Type 0 where
 
 -- it spells one, and the history of the log decides
 pub record IsDecided (f : List ℕ → List ℕ) (s : State) (text : List ℕ) (refusal : Option Cause) (t : State) : Type 0 where
-  pub short : length text ≤ 67108864
+  pub short : length text ≤ MAX_TEXT
   pub read : Spelled
   pub spells : Spells text read
   pub history : List Revision

@@ -2,6 +2,7 @@
 use Rattle.std.specs.Prelude.{◌≡◌, ◌≤◌, ℕ, List, length, take, Some, None, IsSome, slice_get}
 use Rattle.std.specs.FinMap.{get}
 use Rattle.mtn_base.specs.Hex.{id_of}
+use Rattle.mtn_base.specs.declared.limits.TheConstants.{MAX_TEXT}
 use Rattle.mtn_basic_io.specs.Spelling.{AreStanzas}
 use Rattle.mtn_certs.specs.Certificates.{Certificate}
 use Rattle.mtn_changes.specs.declared.change.Revision.{Revision as Spelled}
@@ -17,10 +18,10 @@ pub record Spells (text : List ℕ) (r : Spelled) : Type 0 where
   pub reads : IsRevisionText text r
   pub stanzas : AreStanzas (revision_stanzas r)
 
--- A text of the log, and the revision that it makes of the history before it: within its limit of 64 MiB, of a new id
+-- A text of the log, and the revision that it makes of the history before it: within its limit, of a new id
 -- that is the ident's, and accepted by every rule
 pub record IsNext (f : List ℕ → List ℕ) (files : Table) (h : List Revision) (l : Logged) (v : Revision) : Type 0 where
-  pub short : length l.text ≤ 67108864
+  pub short : length l.text ≤ MAX_TEXT
   pub id : f l.text ≡ l.id
   pub fresh : place_of h (id_of l.id) ≡ None
   pub read : Spelled

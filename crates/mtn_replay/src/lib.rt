@@ -17,6 +17,7 @@ ghost use Rattle.mtn_certs.specs.Certificates.{Certificate, IsIdBytes, IsLawfulC
 ghost use Rattle.mtn_model.specs.State.{Logged, State};
 ghost use Rattle.mtn_model.specs.Table.{Table};
 ghost use Rattle.mtn_base.specs.declared.id.Id.{Id};
+ghost use Rattle.mtn_base.specs.declared.limits.TheConstants.{MAX_LOG};
 ghost use Rattle.mtn_replay.specs.Making.{place_of, is_above};
 ghost use Rattle.mtn_replay.specs.Certificates.{cert_refusal, with_cert, with_key};
 ghost use Rattle.mtn_replay.specs.Lawful.{IsHistory, IsLawful, IsNext, Keeps};
@@ -39,7 +40,7 @@ pub fn above_tells()
 
 /// A revision is accepted only where the log has room for it.
 pub fn log_is_short()
-    ensures { (f : List ℕ → List ℕ) (files : Table) (log : List Logged) (h : List Revision) → IsHistory f files log h → length log ≤ 2147483648 }
+    ensures { (f : List ℕ → List ℕ) (files : Table) (log : List Logged) (h : List Revision) → IsHistory f files log h → length log ≤ MAX_LOG }
 {}
 
 /// An accepted text makes the history longer by one; more files leave it as it is.

@@ -4,12 +4,13 @@ ghost use Rattle.mtn_roster_deltas.specs.Chain.{ascend, applied, after_record, a
 
 use crate::merge::{drop_gone, merged};
 use crate::order::{are_there, entries_ascend, numbers_ascend};
+use mtn_base::MAX_CHAIN;
 use mtn_records::{NumberedEntry, RecordError, RosterRecord};
 use std::alloc::Global;
 use std::collections::VecDeque;
 
 /// The most deltas above a whole record.
-pub const DEEPEST: u8 = 15;
+pub const DEEPEST: u8 = MAX_CHAIN - 1;
 
 /// The entries after a delta.
 fn apply(

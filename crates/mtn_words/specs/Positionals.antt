@@ -8,6 +8,7 @@ use Rattle.mtn_base.specs.Comps.{is_dots, is_plain_byte}
 use Rattle.mtn_base.specs.Hex.{read_id}
 use Rattle.mtn_base.specs.Paths.{pieces_of}
 use Rattle.mtn_base.specs.declared.id.Id.{Id}
+use Rattle.mtn_base.specs.declared.limits.TheConstants.{MAX_COMP}
 use Rattle.mtn_words.specs.Words.{each_of}
 
 -- no word
@@ -23,7 +24,7 @@ one_id (_ ∷ _ ∷ _) = None
 
 -- the bytes of a component
 abbrev pub is_comp : List ℕ → Bool
-is_comp text = nat_lt 0 (length text) && (not (is_dots text) && (nat_le (length text) 255 && (list_all is_plain_byte text && is_utf8 text)))
+is_comp text = nat_lt 0 (length text) && (not (is_dots text) && (nat_le (length text) MAX_COMP && (list_all is_plain_byte text && is_utf8 text)))
 
 -- the path that a word spells: its pieces between slashes, each of which is a component
 abbrev pub path_in : List ℕ → List (List ℕ) → Option (List (List ℕ))
