@@ -211,26 +211,117 @@ for round in $(seq 20); do verdict "killed, round $round" killed; done
 
 asked="get_file $abc;get_revision $abc;get_manifest_of $abc;get_roster $abc;get_content_changed $abc a;get_corresponding_path $abc a $abc;show_conflicts $abc $abc;parents $abc;children $abc;ancestors $abc;descendents $abc;common_ancestors $abc;erase_ancestors;toposort;ancestry_difference $abc;leaves;roots;graph;certs $abc;heads main;branches;packets $abc;check"
 
-# asks_nothing WORD..: over a missing store a command that only asks answers as over an empty one, and makes no file.
-asks_nothing() {
+# makes_none WORD..: over a missing store the answer is the same as over an empty one, and no file is made. The input is $work/in.
+makes_none() {
     local over_empty over_missing
-    over_empty=$(./mtn - "$@"; echo "status $?")
-    over_missing=$(./mtn "$work/missing.mtn" "$@"; echo "status $?")
-    [ "$over_empty" = "$over_missing" ] && [ ! -e "$work/missing.mtn" ] && [ ! -e "$work/missing.mtn-wal" ]
+    over_empty=$(./mtn - "$@" <"$work/in"; echo "status $?")
+    over_missing=$(./mtn "$work/missing.mtn" "$@" <"$work/in"; echo "status $?")
+    [ "$over_empty" = "$over_missing" ] && ! compgen -G "$work/missing.mtn*" >/dev/null
 }
+# makes WORD..: the answer is that of success, as over an empty store, and the file has a record.
+makes() {
+    local over_empty over_missing
+    over_empty=$(./mtn - "$@" <"$work/in"; echo "status $?")
+    over_missing=$(./mtn "$work/missing.mtn" "$@" <"$work/in"; echo "status $?")
+    [ "$over_empty" = "$over_missing" ] && [ "${over_missing##*status }" = 0 ] && asks "$work/missing.mtn" 'SELECT count(*) > 0 FROM kept' 1
+    local held=$?
+    rm -f "$work"/missing.mtn*
+    return $held
+}
+: >"$work/in"
 while IFS= read -r words; do
     # shellcheck disable=SC2086
-    verdict "a missing store: $words" asks_nothing $words
+    verdict "a missing store: $words" makes_none $words
 done <<<"${asked//;/$'\n'}"
+# Commands that keep nothing this time, each behind its input.
+while IFS='|' read -r input words; do
+    printf "$input" >"$work/in"
+    # shellcheck disable=SC2086
+    verdict "a missing store: $words, over '$input'" makes_none $words
+done <<END
+|put_revision
+no text|put_revision
+format_version "1"|put_revision
+|merge $abc $nothing
+no text|merge --resolve $abc $nothing
+|merge_heads --author=a --date=d --key=$abc main
+no text|merge_heads --author=a --date=d --key=$abc --resolve main
+|cert --key=$abc $abc branch main
+|cert --key=$abc --sig=x $abc branch main
+no text|commit --author=a --branch=b --changelog=c --date=d --key=$abc
+|key $abc [
+|read
+x|read
+[fdata $abc]\\nYWJ\\n[end]\\n|read
+[fdata $abc]\\nYWJj\\n[end]\\n[rdata $abc]\\nYWJj\\n[end]\\n|read
+|migrate
+no text|migrate
+|stdio
+l6:leavese l5:graphe l8:branchese l5:checke|stdio
+l8:get_file40:${abc}e l5:merge40:${abc}40:${nothing}e l12:put_revision7:no texte l4:read1:xe l4:read0:e|stdio
+l8:put_file3:abce l6:leaves|stdio
+END
+head -c 67108865 /dev/zero >"$work/in"
+verdict "a missing store: put_file of too many bytes" makes_none put_file
+verdict "and put_revision" makes_none put_revision
+while IFS='|' read -r input words; do
+    printf "$input" >"$work/in"
+    # shellcheck disable=SC2086
+    verdict "a missing store is made: $words, over '$input'" makes $words
+done <<END
+|put_file
+abc|put_file
+|key $abc me
+[fdata $abc]\\nYWJj\\n[end]\\n|read
+|generate 1
+l6:leavese l4:read1:xe l8:put_file3:abce l8:get_file40:${abc}e|stdio
+END
+rm -f "$work/in"
 row "a missing folder is asked too" 0 '' '' "$work/no/such/folder.mtn" leaves
 row "and nothing is kept there" 6 x '' "$work/no/such/folder.mtn" put_file
+row "a refusal is answered there" 1 '' 'refused BadOrder 1\n' "$work/no/such/folder.mtn" put_revision
 row "a file makes a missing store" 0 abc "$abc\n" "$work/made.mtn" put_file
-row "a refused merge too" 1 '' "refused UnknownRevision $abc\n" "$work/unmerged.mtn" merge "$abc" "$abc"
-row "a refused certificate too" 1 '' "refused UnknownRevision $abc\n" "$work/uncertified.mtn" cert --key="$abc" "$abc" branch main
-row "and a branch without heads" 1 '' 'refused NoBranch\n' "$work/headless.mtn" merge_heads --author=a --date=d --key="$abc" main
-row "refused packets too" 1 x 'refused BadPacket 1 Truncated\n' "$work/unread.mtn" read
-row "a refused revision too" 1 '' 'refused BadOrder 1\n' "$work/refused.mtn" put_revision
-verdict "the stores were made" test -e "$work/made.mtn" -a -e "$work/refused.mtn"
+row "a refused merge makes none" 1 '' "refused UnknownRevision $abc\n" "$work/unmerged.mtn" merge "$abc" "$abc"
+row "nor does a refused certificate" 1 '' "refused UnknownRevision $abc\n" "$work/uncertified.mtn" cert --key="$abc" "$abc" branch main
+row "nor a branch without heads" 1 '' 'refused NoBranch\n' "$work/headless.mtn" merge_heads --author=a --date=d --key="$abc" main
+row "nor do refused packets" 1 x 'refused BadPacket 1 Truncated\n' "$work/unread.mtn" read
+row "nor a refused revision" 1 '' 'refused BadOrder 1\n' "$work/refused.mtn" put_revision
+verdict "one store was made" test -e "$work/made.mtn" -a ! -e "$work/unmerged.mtn" -a ! -e "$work/uncertified.mtn" -a ! -e "$work/headless.mtn" -a ! -e "$work/unread.mtn" -a ! -e "$work/refused.mtn"
+
+# A command over a missing store that still reads its input while a second one makes the store.
+mkfifo "$work/slow"
+./mtn "$work/both.mtn" put_file <"$work/slow" >"$work/first" 2>&1 &
+first=$!
+exec 8>"$work/slow"
+sleep 2
+row "a missing store is not locked by a command that reads" 0 abc "$abc\n" "$work/both.mtn" put_file
+printf 'later' >&8
+exec 8>&-
+wait "$first"
+verdict "that command does not work on what was made meanwhile" test $? = 6 -a ! -s "$work/first"
+verdict "and leaves it" asks "$work/both.mtn" 'SELECT count(*) FROM kept' 3
+row "tried again, it is done" 0 later "$(printf later | sha1sum | cut -d' ' -f1)\n" "$work/both.mtn" put_file
+
+# Eight commands at once over a missing store: each is done or finds the store busy, one at least is done, and what was done is there.
+at_once() {
+    local each ended kept=0
+    rm -f "$work"/race.*
+    for each in 1 2 3 4 5 6 7 8; do
+        (printf $each | ./mtn "$work/race.mtn" put_file >/dev/null; echo $? >"$work/race.$each") &
+    done
+    wait
+    for each in 1 2 3 4 5 6 7 8; do
+        ended=$(cat "$work/race.$each")
+        if [ "$ended" = 0 ]; then
+            kept=$((kept + 1))
+            [ "$(./mtn "$work/race.mtn" get_file "$(printf $each | sha1sum | cut -d' ' -f1)")" = $each ] || return 1
+        elif [ "$ended" != 6 ]; then
+            return 1
+        fi
+    done
+    [ "$kept" -gt 0 ] && asks "$work/race.mtn" 'SELECT count(*) FROM kept WHERE kind = 2' "$kept"
+}
+for round in 1 2 3 4 5; do verdict "eight at once, round $round" at_once; done
 
 # as_nobody WORD..: without the rights of root, whom no mode stops.
 as_nobody() {
@@ -265,10 +356,12 @@ shut "a missing store in such a folder is asked" 0 '' "$work/shut/none.mtn" leav
 shut "and checked" 0 'ok 0\n' "$work/shut/none.mtn" check
 shut "and not migrated" 1 'refused BadOrder 1\n' "$work/shut/none.mtn" migrate
 shut "and not made" 6 '' "$work/shut/none.mtn" put_file
-for words in "merge $abc $nothing" "cert --key=$abc $abc branch main" stdio; do
+for words in "merge $abc $nothing" "cert --key=$abc $abc branch main"; do
     # shellcheck disable=SC2086
-    shut "nor for $words" 6 '' "$work/shut/none.mtn" $words
+    shut "a refusal is answered there: $words" 1 "refused UnknownRevision $abc\n" "$work/shut/none.mtn" $words
 done
+shut "and a session without requests" 0 '' "$work/shut/none.mtn" stdio
+shut "but no key is named" 6 '' "$work/shut/none.mtn" key "$abc" me
 verdict "none is there" test ! -e "$work/shut/none.mtn"
 # A session of two requests, of which none is answered.
 printf 'l8:put_file3:abce l6:leavese' >"$work/requests"

@@ -4,10 +4,10 @@
 pub const HELP: &str = "\
 mtn STORE COMMAND [WORD..]
 
-STORE is the file that holds the store, or `-` for an empty store in memory. A
-command that keeps something makes the file where there is none; one that only
-asks answers then as over an empty store. The input of a command is standard
-input, its output standard output. The word `--` ends the options of a command.
+STORE is the file that holds the store, or `-` for an empty store in memory.
+Where there is no such file, a command is done as over an empty store, and the
+file is made once something is kept. The input of a command is standard input,
+its output standard output. The word `--` ends the options of a command.
 
 Commands:
   put_file             keeps the input as a file; prints its id
@@ -337,7 +337,7 @@ pub const STATUSES: &str = "\
 
 6 the store failed
   Nothing is written, and the store is as it was. One of:
-  - another command has the store open: try again;
+  - another command has the store open, or has just made it: try again;
   - STORE is a folder;
   - STORE is a file that is no store (`sqlite3 STORE .schema` shows what it is);
   - its folder is not there;

@@ -1,21 +1,18 @@
 //! The program: `mtn STORE WORD..` runs one command over a store.
 //!
-//! STORE is a file, or `-` for an empty store in memory; where the file is not there, a command that keeps nothing then is done
-//! over one too. The payload is standard input, the answer standard output, the exit status the number of the answer's
+//! STORE is a file, or `-` for an empty store in memory; where the file is not there, it is made by the first command that keeps
+//! something. The payload is standard input, the answer standard output, the exit status the number of the answer's
 //! status. Nothing is printed to standard error. The proofs here say that the program is safe and ends; what a command
 //! does is said by the clauses of `mtn_cli::run`.
 #![tactic(auto)]
 
-mod asking;
 mod help;
 mod line;
 mod store;
 
-use asking::keeps_nothing;
 use line::{Line, line_of};
 use mtn_base::{Bytes, NoMemory};
 use mtn_cli::{Status, are_words};
-use std::fs;
 use std::process::ExitCode;
 use std::thread::Threads;
 use store::{in_file, in_memory};
@@ -28,12 +25,7 @@ fn print(rt: &HostRuntime, text: &str, status: Status) -> Status {
     }
 }
 
-// Whether there is certainly no file of this name.
-fn is_missing(rt: &HostRuntime, path: &str) -> bool {
-    matches!(fs::exists(rt, path), Ok(false))
-}
-
-// A command over the store that is named; words outside the grammar open none, and one that keeps nothing in a new store makes none.
+// A command over the store that is named; words outside the grammar open none.
 fn command<T: Threads + Sync>(
     threads: &T,
     rt: &HostRuntime,
@@ -42,7 +34,6 @@ fn command<T: Threads + Sync>(
 ) -> Status {
     match are_words(rt.alloc(), words) {
         Ok(true) if store == "-" => in_memory(threads, rt, words),
-        Ok(true) if keeps_nothing(words) && is_missing(rt, store) => in_memory(threads, rt, words),
         Ok(true) => in_file(threads, rt, store, words),
         Ok(false) => print(rt, "usage", Status::Usage),
         Err(NoMemory) => Status::NoMemory,

@@ -1,10 +1,10 @@
 // A command over the store that the first word names.
 use mtn_base::Bytes;
 use mtn_cli::{Status, run};
-use mtn_keeper::SqliteKeeper;
+use mtn_keeper::{DatabaseFile, LazyKeeper};
 use mtn_pieces::{FreeGate, Sha1Many};
 use mtn_ports::{Batch, KeepError, Keeper, MemKeeper, StdSink, StdSource};
-use sqlite::{Connection, Error, ErrorCode};
+use std::fs;
 use std::thread::Threads;
 
 // In how many pieces the ids of many texts are computed.
@@ -19,27 +19,42 @@ pub fn in_memory<T: Threads + Sync>(threads: &T, rt: &HostRuntime, words: &[Byte
     }
 }
 
-/// A command over a store in a file, which is made where there is none. Closing folds the log of
-/// changes into the file; where that fails they stay in the log, and the next opening finds them.
+/// A command over a store in a file. Closing folds the log of changes into the file; where that fails they stay in the log,
+/// and the next opening finds them.
 pub fn in_file<T: Threads + Sync>(
     threads: &T,
     rt: &HostRuntime,
     path: &str,
     words: &[Bytes],
 ) -> Status {
-    let connection = match Connection::open(rt, path) {
-        Ok(connection) => connection,
-        Err(Error::SqliteFailure(ErrorCode::OutOfMemory)) => return Status::NoMemory,
-        Err(_) => return Status::StoreFault,
-    };
-    let mut keeper = match SqliteKeeper::new(connection) {
+    let mut keeper = match keeper_at(rt, path) {
         Ok(keeper) => keeper,
         Err(KeepError::NoMemory) => return Status::NoMemory,
         Err(KeepError::Failed) => return Status::StoreFault,
     };
     let status = over(threads, rt, words, &mut keeper);
-    let _ = keeper.into_connection().close();
+    if let Some(connection) = keeper.into_connection() {
+        let _ = connection.close();
+    }
     status
+}
+
+// The keeper over a file, which is opened at once where it may be there.
+fn keeper_at<'a>(
+    rt: &'a HostRuntime,
+    path: &'a str,
+) -> Result<LazyKeeper<DatabaseFile<'a>>, KeepError> {
+    let file = DatabaseFile { rt, path };
+    if is_missing(rt, path) {
+        Ok(LazyKeeper::missing(file))
+    } else {
+        LazyKeeper::open(file)
+    }
+}
+
+// Whether there is certainly no file of this name.
+fn is_missing(rt: &HostRuntime, path: &str) -> bool {
+    matches!(fs::exists(rt, path), Ok(false))
 }
 
 fn over<T: Threads + Sync, K: Keeper>(

@@ -1,6 +1,6 @@
 // What is asked of the connection, each in a function of its own and with no clause: nothing is claimed yet
 // of what a database holds.
-use crate::statements::{MAKE, NEXT_RECORD, OTHERS, OURS, PUT};
+use crate::statements::{ANY, MAKE, NEXT_RECORD, OTHERS, OURS, PUT};
 use mtn_ports::{Batch, Put};
 use sqlite::{Alter, Connection, Error, ErrorCode, Transaction, params};
 use sqlite_value::value::ValueRef;
@@ -22,6 +22,15 @@ pub(crate) fn make_table<S: Alter>(connection: &mut Connection<S>) -> Result<(),
 // How many objects of the database a text finds that is given the text of our table.
 fn count_objects<S: Alter>(connection: &mut Connection<S>, text: &str) -> Result<i64, Error> {
     connection.query_row(text, params![MAKE])?.get(0)
+}
+
+// Whether the table has a record.
+pub(crate) fn has_record<S: Alter>(connection: &mut Connection<S>) -> Result<bool, Error> {
+    match connection.query_row(ANY, &[]) {
+        Ok(_) => Ok(true),
+        Err(Error::QueryReturnedNoRows) => Ok(false),
+        Err(error) => Err(error),
+    }
 }
 
 // Replaces `out` by the bytes that a text finds for a kind and a name, and answers whether it found any.

@@ -2,7 +2,7 @@
 ghost use Rattle.std.specs.Prelude.{◌≡◌, ◌≤◌, None, ⊤, IfOk, IsErrOf};
 ghost use Rattle.mtn_ports.specs.Causes.{Rose};
 
-use crate::database::{make_table, put_all, read_bytes, read_record};
+use crate::database::{has_record, make_table, put_all, read_bytes, read_record};
 use crate::statements::{GET, NEXT};
 use mtn_ports::{Batch, KeepError, Keeper};
 use sqlite::{Alter, Connection, Error, ErrorCode};
@@ -41,6 +41,14 @@ impl<S: Alter + Drop> SqliteKeeper<S> {
         self.connection
     }
 
+    // Whether there is no record. It is no read of one, and its failure is counted by the caller.
+    pub(crate) fn is_empty(&mut self) -> Result<bool, KeepError> {
+        match has_record(&mut self.connection) {
+            Ok(found) => Ok(!found),
+            Err(error) => Err(cause_of(error)),
+        }
+    }
+
     // Counts a refusal, except want of memory.
     fn refuse(&mut self, error: Error) -> KeepError
         ensures failed { result ≡ KeepError.Failed → Rose self.old.faults self.new.faults }
@@ -55,7 +63,7 @@ impl<S: Alter + Drop> SqliteKeeper<S> {
     }
 }
 
-fn cause_of(error: Error) -> KeepError {
+pub(crate) fn cause_of(error: Error) -> KeepError {
     match error {
         Error::SqliteFailure(ErrorCode::OutOfMemory) => KeepError::NoMemory,
         _ => KeepError::Failed,

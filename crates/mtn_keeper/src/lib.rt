@@ -11,7 +11,11 @@
 #![tactic(auto)]
 
 mod database;
+mod file;
 mod keeper;
+mod lazy;
 mod statements;
 
+pub use file::DatabaseFile;
 pub use keeper::SqliteKeeper;
+pub use lazy::{LazyKeeper, Opener};

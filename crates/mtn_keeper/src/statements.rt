@@ -9,6 +9,9 @@ pub(crate) const OURS: &str = "SELECT count(*) FROM sqlite_schema WHERE sql = ?1
 
 pub(crate) const OTHERS: &str = "SELECT count(*) FROM sqlite_schema WHERE sql <> ?1";
 
+// Any record.
+pub(crate) const ANY: &str = "SELECT kind FROM kept LIMIT 1";
+
 // The body under a name.
 pub(crate) const GET: &str = "SELECT body FROM kept WHERE kind = ?1 AND name = ?2";
 

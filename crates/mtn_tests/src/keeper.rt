@@ -1,9 +1,9 @@
 ghost use Rattle.std.specs.Prelude.{◌<◌, length, IsTrue, IfOk};
 ghost use Rattle.sqlite_disk.specs.Memory.{memory_is_usable};
 
-use mtn_keeper::SqliteKeeper;
+use mtn_keeper::{LazyKeeper, Opener, SqliteKeeper};
 use mtn_ports::{Batch, KeepError, Keeper};
-use sqlite::{Connection, Error, FileStore, Files, Options};
+use sqlite::{Connection, Error, FileStore, Files, MemStore, Options};
 use sqlite_disk::Memory;
 use std::alloc::Global;
 use std::test::Fail;
@@ -151,6 +151,70 @@ fn a_database_of_others_is_refused(rt: HostRuntime) -> Result<(), Fail> {
         ("BEGIN", true),
     ] {
         assert_eq!(rt; is_refused(rt.alloc(), text)?, want, "{text}");
+    }
+    Ok(())
+}
+
+// The text of the table of a store.
+const TABLE: &str =
+    "CREATE TABLE kept (kind INTEGER NOT NULL, name BLOB NOT NULL, body BLOB NOT NULL, PRIMARY KEY (kind, name)) STRICT";
+
+// A database in memory, in which a text is run when it is opened.
+#[derive(Drop)]
+struct Running {
+    alloc: Global,
+    text: &'static str,
+}
+
+impl Opener for Running {
+    type Store = MemStore;
+
+    fn open(&self) -> Result<Connection<MemStore>, Error> {
+        let mut connection = Connection::open_in_memory(self.alloc)?;
+        connection.execute_batch(self.text)?;
+        Ok(connection)
+    }
+}
+
+// Whether a keeper over a missing database, after these questions, has opened it.
+fn is_opened_by_asking(alloc: Global) -> Result<bool, KeepError> {
+    let mut keeper = LazyKeeper::missing(Running { alloc, text: TABLE });
+    let found = has(alloc, &mut keeper, 2, b"key", b"abc")?;
+    let ended = ends(alloc, &mut keeper, 2, b"")?;
+    Ok(found || !ended || keeper.into_connection().is_some())
+}
+
+#[test]
+fn a_missing_database_is_opened_at_its_first_batch(rt: HostRuntime) -> Result<(), Fail> {
+    let alloc = rt.alloc();
+    assert!(rt; !done(is_opened_by_asking(alloc))?);
+    let mut keeper = LazyKeeper::missing(Running { alloc, text: TABLE });
+    done(put(alloc, &mut keeper, 2, b"key", b"abc"))?;
+    assert!(rt; done(has(alloc, &mut keeper, 2, b"key", b"abc"))?);
+    done(put(alloc, &mut keeper, 2, b"other", b""))?;
+    assert!(rt; done(goes_on(alloc, &mut keeper, 2, b"key", b"other"))?);
+    assert!(rt; keeper.into_connection().is_some());
+    Ok(())
+}
+
+// Whether a first batch is refused where this text was run in the database meanwhile.
+fn is_late(alloc: Global, text: &'static str) -> bool {
+    let mut keeper = LazyKeeper::missing(Running { alloc, text });
+    let ended = put(alloc, &mut keeper, 2, b"key", b"abc");
+    matches!(ended, Err(KeepError::Failed)) && keeper.into_connection().is_none()
+}
+
+#[test]
+fn a_database_with_a_record_by_the_first_batch_is_refused(rt: HostRuntime) -> Result<(), Fail> {
+    for (text, want) in [
+        (TABLE, false),
+        (
+            "CREATE TABLE kept (kind INTEGER NOT NULL, name BLOB NOT NULL, body BLOB NOT NULL, PRIMARY KEY (kind, name)) STRICT; INSERT INTO kept VALUES (9, x'01', x'')",
+            true,
+        ),
+        ("CREATE TABLE other (a INTEGER) STRICT", true),
+    ] {
+        assert_eq!(rt; is_late(rt.alloc(), text), want, "{text}");
     }
     Ok(())
 }
