@@ -4,8 +4,10 @@
 //! A name stands once in its kind, and names are ordered byte by byte. A batch is one transaction.
 //!
 //! The layers above rely on this: `Failed` comes only where the count of faults rose in that call, a key that
-//! `next` or `next_record` gives stands above the one that was asked for, and a read raises `reads` by at most one. It tells no
-//! contents, so nothing is claimed of what a body or a key is.
+//! `next` or `next_record` gives stands above the one that was asked for, and a read raises `reads` by at most one. An open database
+//! tells no contents, so nothing is claimed of what a body or a key is.
+//!
+//! A database that is not there is opened, and so made, at the first batch. Until then the keeper tells that it has no records.
 //!
 //! Cost: a read or a put is one search in an index; a body is copied once out of the database's row.
 #![tactic(auto)]
