@@ -16,12 +16,12 @@ use Rattle.mtn_base.specs.Comps.{IsComp, AreComps}
 use Rattle.mtn_base.specs.Names.{bytes_cmp, path_cmp}
 use Rattle.mtn_changes.specs.declared.change.Change.{Change}
 use Rattle.mtn_changes.specs.declared.change.Change.TheVariants.{Delete, Rename, AddDir, AddFile, Patch, Clear, Set}
-use Rattle.mtn_changes.specs.declared.slot.Slot.{Slot}
+use Rattle.mtn_changes.specs.declared.target.Target.{Target}
 use Rattle.mtn_changes.specs.Changes.{IsChange, IsKey, rank}
 use Rattle.mtn_changes.specs.ChangesText.{AreChanges}
-use Rattle.mtn_changes.specs.Slots.{slot_of, slot_cmp, AreApart}
+use Rattle.mtn_changes.specs.Targets.{target_of, target_cmp, AreApart}
 use Rattle.mtn_changes.specs.Sorting.{place_of, place_cmp, IsSortedAs, AreUnsorted}
-use Rattle.mtn_changes.proofs.Places.{slot_total}
+use Rattle.mtn_changes.proofs.Places.{target_total}
 use Rattle.mtn_changes.proofs.Sorted.{at, one_at, count_more, sorted_lawful}
 use Rattle.mtn_changes.proofs.Unsorted.{equal}
 use Rattle.mtn_roster.specs.declared.entry.Entry.{Entry}
@@ -45,9 +45,9 @@ pub all_of_splits : {X : Type 0} (P : X → Type 0) (xs : List X) → ((x : X) �
 all_of_splits P [] h = All-nil P
 all_of_splits P (x ∷ xs) h = All-from_get_or P (x ∷ xs) x (λ i lt. let t = taken (x ∷ xs) i lt in subst P (sym (t.3 x)) (h t.0 t.2))
 
--- slots that compare alike are one
-pub exact_slots : (s t : Slot) → slot_cmp s t ≡ Equal → s ≡ t
-exact_slots s t h =
+-- targets that compare alike are one
+pub exact_targets : (s t : Target) → target_cmp s t ≡ Equal → s ≡ t
+exact_targets s t h =
     let a = parts (nat_cmp s.kind t.kind) _ h in
     let b = parts (path_cmp s.path t.path) (bytes_cmp s.key t.key) a.1 in
     λ i. record { kind = nat_cmp-IsAntisymmetric s.kind t.kind a.0 i; path = exact_paths s.path t.path b.0 i; key = exact_bytes s.key t.key b.1 i }
@@ -77,7 +77,7 @@ set_of (Patch p a b) h = absurd cc
 set_of (Clear p k) h = absurd cc
 
 -- but for a set the rank is the kind of what changes
-rank_of : (c : Change) → is_set c ≡ false → rank c ≡ (slot_of c).kind
+rank_of : (c : Change) → is_set c ≡ false → rank c ≡ (target_of c).kind
 unfolding is_set
 rank_of (Set p k v) h = absurd cc
 rank_of (Delete p) h = refl
@@ -87,7 +87,7 @@ rank_of (AddFile p c) h = refl
 rank_of (Patch p a b) h = refl
 rank_of (Clear p k) h = refl
 
-clear_of : (c : Change) → is_set c ≡ false → (slot_of c).kind ≡ 6 → (p : List (List ℕ)) × (k : List ℕ) × (c ≡ Clear p k)
+clear_of : (c : Change) → is_set c ≡ false → (target_of c).kind ≡ 6 → (p : List (List ℕ)) × (k : List ℕ) × (c ≡ Clear p k)
 unfolding is_set
 clear_of (Set p k v) h e = absurd cc
 clear_of (Delete p) h e = absurd (omega (arith, e))
@@ -101,7 +101,7 @@ clear_of (Clear p k) h e = (p, k, refl)
 abbrev NoClash : List Change → Type 0
 NoClash cs = (p : List (List ℕ)) (k v : List ℕ) → Split cs (Clear p k) → Split cs (Set p k v) → ⊥
 
-ranks_part : (c d : Change) → slot_of c ≡ slot_of d → rank c ≡ rank d → place_of c ≡ place_of d
+ranks_part : (c d : Change) → target_of c ≡ target_of d → rank c ≡ rank d → place_of c ≡ place_of d
 ranks_part c d e r = λ i. record { kind = r i; path = (e i).path; key = (e i).key }
 
 two_sets : (c d : Change) → is_set c ≡ true → is_set d ≡ true → rank c ≡ rank d
@@ -110,39 +110,39 @@ two_sets c d a b =
     let y = set_of d b in
     ap rank x.3 ∙ ap rank (sym y.3)
 
-clash : (cs : List Change) → NoClash cs → (c d : Change) → Split cs c → Split cs d → slot_of c ≡ slot_of d → is_set c ≡ true → is_set d ≡ false → ⊥
+clash : (cs : List Change) → NoClash cs → (c d : Change) → Split cs c → Split cs d → target_of c ≡ target_of d → is_set c ≡ true → is_set d ≡ false → ⊥
 clash cs none c d sc sd e a b =
     let x = set_of c a in
-    let kind : (slot_of d).kind ≡ 6 = ap (λ (s : Slot). s.kind) (sym e ∙ ap slot_of x.3) in
+    let kind : (target_of d).kind ≡ 6 = ap (λ (s : Target). s.kind) (sym e ∙ ap target_of x.3) in
     let y = clear_of d b kind in
-    let slots : slot_of (Set x.0 x.1 x.2) ≡ slot_of (Clear y.0 y.1) = ap slot_of (sym x.3) ∙ e ∙ ap slot_of y.2 in
-    let paths : x.0 ≡ y.0 = ap (λ (s : Slot). s.path) slots in
-    let keys : x.1 ≡ y.1 = ap (λ (s : Slot). s.key) slots in
+    let targets : target_of (Set x.0 x.1 x.2) ≡ target_of (Clear y.0 y.1) = ap target_of (sym x.3) ∙ e ∙ ap target_of y.2 in
+    let paths : x.0 ≡ y.0 = ap (λ (s : Target). s.path) targets in
+    let keys : x.1 ≡ y.1 = ap (λ (s : Target). s.key) targets in
     none x.0 x.1 x.2 (subst (Split cs) (y.2 ∙ (λ i. Clear (sym paths i) (sym keys i))) sd) (subst (Split cs) x.3 sc)
 
 -- two that change one thing have one place
-one_place : (cs : List Change) → NoClash cs → (c d : Change) → Split cs c → Split cs d → slot_of c ≡ slot_of d → place_of c ≡ place_of d
+one_place : (cs : List Change) → NoClash cs → (c d : Change) → Split cs c → Split cs d → target_of c ≡ target_of d → place_of c ≡ place_of d
 one_place cs none c d sc sd e = ranks_part c d e (by (is_set c) (is_set d) refl refl)
   where
     by : (a b : Bool) → is_set c ≡ a → is_set d ≡ b → rank c ≡ rank d
     by true true x y = two_sets c d x y
     by true false x y = absurd (clash cs none c d sc sd e x y)
     by false true x y = absurd (clash cs none d c sd sc (sym e) y x)
-    by false false x y = rank_of c x ∙ ap (λ (s : Slot). s.kind) e ∙ sym (rank_of d y)
+    by false false x y = rank_of c x ∙ ap (λ (s : Target). s.kind) e ∙ sym (rank_of d y)
 
 not_less : (c d : Change) → place_of c ≡ place_of d → place_cmp c d ≡ Less → ⊥
-not_less c d e h = let z : place_cmp c d ≡ Equal = ap (slot_cmp (place_of c)) (sym e) ∙ tied_itself slot_total (place_of c) in absurd cc
+not_less c d e h = let z : place_cmp c d ≡ Equal = ap (target_cmp (place_of c)) (sym e) ∙ tied_itself target_total (place_of c) in absurd cc
 
-none_counted : (s : Slot) (cs : List Change) → ((d : Change) → Split cs d → at s d ≡ false) → count_by (at s) cs ≡ 0
+none_counted : (s : Target) (cs : List Change) → ((d : Change) → Split cs d → at s d ≡ false) → count_by (at s) cs ≡ 0
 none_counted s [] h = refl
 none_counted s (d ∷ cs) h =
     let here : one_at s d ≡ 0 = ap (λ (b : Bool). cond b 1 0) (h d (head d cs)) in
     let rest : count_by (at s) cs ≡ 0 = none_counted s cs (λ c t. h c (later d cs c t)) in
     omega (arith, count_more s d cs, here, rest)
 
-counts : (cs : List Change) → rises slot_cmp (map place_of cs) ≡ true → NoClash cs → (s : Slot) → count_by (at s) cs ≤ 1
+counts : (cs : List Change) → rises target_cmp (map place_of cs) ≡ true → NoClash cs → (s : Target) → count_by (at s) cs ≤ 1
 counts [] up none s = omega arith
-counts (c ∷ cs) up none s = by (at s c) refl (counts cs (rest_rises slot_cmp place_of c cs up) (λ p k v t u. none p k v (later c cs _ t) (later c cs _ u)) s)
+counts (c ∷ cs) up none s = by (at s c) refl (counts cs (rest_rises target_cmp place_of c cs up) (λ p k v t u. none p k v (later c cs _ t) (later c cs _ u)) s)
   where
     other : at s c ≡ true → (d : Change) → Split cs d → at s d ≡ false
     other h d t = told_so (at s d) refl
@@ -150,8 +150,8 @@ counts (c ∷ cs) up none s = by (at s c) refl (counts cs (rest_rises slot_cmp p
         told_so : (b : Bool) → at s d ≡ b → b ≡ false
         told_so false g = refl
         told_so true g =
-            let e : slot_of c ≡ slot_of d = exact_slots (slot_of c) s (equal _ h) ∙ sym (exact_slots (slot_of d) s (equal _ g)) in
-            absurd (not_less c d (one_place (c ∷ cs) none c d (head c cs) (later c cs d t) e) (above slot_cmp place_of c cs up d t))
+            let e : target_of c ≡ target_of d = exact_targets (target_of c) s (equal _ h) ∙ sym (exact_targets (target_of d) s (equal _ g)) in
+            absurd (not_less c d (one_place (c ∷ cs) none c d (head c cs) (later c cs d t) e) (above target_cmp place_of c cs up d t))
 
     by : (b : Bool) → at s c ≡ b → count_by (at s) cs ≤ 1 → count_by (at s) (c ∷ cs) ≤ 1
     by true h most =
@@ -198,8 +198,8 @@ module _ (old new : Tree) (so : IsSane old) (sn : IsSane new) where
 
   pub in_place_order : IsSorted place_cmp (between old new)
   in_place_order k d le lt =
-      let less = less_at slot_cmp place_of slot_total (between old new) k (k + 1) d (ascends old new so sn) (omega arith) lt in
-      ap is_lt (slot_total.antisymm (place_of (get_or (between old new) (k + 1) d)) (place_of (get_or (between old new) k d))) ∙ ap (λ o. is_lt (ordering_reverse o)) less
+      let less = less_at target_cmp place_of target_total (between old new) k (k + 1) d (ascends old new so sn) (omega arith) lt in
+      ap is_lt (target_total.antisymm (place_of (get_or (between old new) (k + 1) d)) (place_of (get_or (between old new) k d))) ∙ ap (λ o. is_lt (ordering_reverse o)) less
 
   module _ (spell_old : IsSpellable old) (spell_new : IsSpellable new) where
     change_of : (c : Change) → IsOne old new c → IsChange c
@@ -230,30 +230,30 @@ module _ (old new : Tree) (so : IsSane old) (sn : IsSane new) where
     lawful = sorted_lawful (between old new) (between old new) unsorted (record { same = IsPermutation-refl (between old new); ordered = in_place_order })
 
 -- the order of a list without two of one place is the only one
-abbrev same_place : Slot → Slot → Bool
-same_place s t = is_eq (slot_cmp s t)
+abbrev same_place : Target → Target → Bool
+same_place s t = is_eq (target_cmp s t)
 
 abbrev twin : Change → Change → Bool
 twin c d = same_place (place_of c) (place_of d)
 
-place_is : (s t : Slot) → same_place s t ≡ true → s ≡ t
-place_is s t h = exact_slots s t (equal _ h)
+place_is : (s t : Target) → same_place s t ≡ true → s ≡ t
+place_is s t h = exact_targets s t (equal _ h)
 
-place_self : (s : Slot) → same_place s s ≡ true
-place_self s = ap is_eq (tied_itself slot_total s)
+place_self : (s : Target) → same_place s s ≡ true
+place_self s = ap is_eq (tied_itself target_total s)
 
 twin_flips : (c d : Change) → twin c d ≡ twin d c
-twin_flips c d = flips (slot_cmp (place_of c) (place_of d)) ∙ ap is_eq (sym (slot_total.antisymm (place_of d) (place_of c)))
+twin_flips c d = flips (target_cmp (place_of c) (place_of d)) ∙ ap is_eq (sym (target_total.antisymm (place_of d) (place_of c)))
   where
     flips : (o : Ordering) → is_eq o ≡ is_eq (ordering_reverse o)
     flips Less = refl
     flips Equal = refl
     flips Greater = refl
 
-pub only_order : (es ks : List Change) → rises slot_cmp (map place_of es) ≡ true → IsSortedAs es ks → ks ≡ es
+pub only_order : (es ks : List Change) → rises target_cmp (map place_of es) ≡ true → IsSortedAs es ks → ks ≡ es
 only_order es ks up is =
-    let differ = IsDistinct-IsPermutation twin twin_flips es ks is.same (rising_differ slot_cmp place_of slot_total same_place place_is place_self exact_slots es up) in
-    one_sorted slot_cmp place_of slot_total ks es (rising_by slot_cmp place_of slot_total ks (strictly differ)) up (goes ks es (IsPermutation-sym es ks is.same)) (goes es ks is.same)
+    let differ = IsDistinct-IsPermutation twin twin_flips es ks is.same (rising_differ target_cmp place_of target_total same_place place_is place_self exact_targets es up) in
+    one_sorted target_cmp place_of target_total ks es (rising_by target_cmp place_of target_total ks (strictly differ)) up (goes ks es (IsPermutation-sym es ks is.same)) (goes es ks is.same)
   where
     strictly : IsDistinct twin ks → (k : ℕ) (d : Change) → k + 1 < length ks → true ≡ is_lt (place_cmp (get_or ks k d) (get_or ks (k + 1) d))
     strictly differ k d lt = by (place_cmp (get_or ks k d) (get_or ks (k + 1) d)) refl
@@ -266,7 +266,7 @@ only_order es ks up is =
             let z : true ≡ false = sym same ∙ other in
             absurd cc
         by Greater e =
-            let flip : place_cmp (get_or ks (k + 1) d) (get_or ks k d) ≡ Less = slot_total.antisymm (place_of (get_or ks (k + 1) d)) (place_of (get_or ks k d)) ∙ ap ordering_reverse e in
+            let flip : place_cmp (get_or ks (k + 1) d) (get_or ks k d) ≡ Less = target_total.antisymm (place_of (get_or ks (k + 1) d)) (place_of (get_or ks k d)) ∙ ap ordering_reverse e in
             let low : is_lt (place_cmp (get_or ks (k + 1) d) (get_or ks k d)) ≡ false = is.ordered k d (omega arith) lt in
             let z : true ≡ false = ap is_lt (sym flip) ∙ low in
             absurd cc

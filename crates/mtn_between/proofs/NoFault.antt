@@ -13,8 +13,8 @@ use Rattle.mtn_base.specs.declared.refusal.Why.{Why}
 use Rattle.mtn_base.specs.declared.refusal.Why.TheVariants.{NoRoot}
 use Rattle.mtn_changes.specs.declared.change.Change.{Change}
 use Rattle.mtn_changes.specs.declared.change.Change.TheVariants.{Delete, Rename, AddDir, AddFile, Patch, Clear, Set}
-use Rattle.mtn_changes.specs.Slots.{slot_of}
-use Rattle.mtn_changes.proofs.Places.{slot_total}
+use Rattle.mtn_changes.specs.Targets.{target_of}
+use Rattle.mtn_changes.proofs.Places.{target_total}
 use Rattle.mtn_changes.proofs.Sorted.{at, one_at, count_more}
 use Rattle.mtn_roster.specs.declared.entry.Body.{Body}
 use Rattle.mtn_roster.specs.declared.entry.Body.TheVariants.{Dir, File}
@@ -62,23 +62,23 @@ module _ (old : Tree) (cs : List Change) (ok : Passes old cs) where
   no_fault = no_fault_from [] cs refl
 
 -- what is apart does not stand before itself
-counted : (cs : List Change) (c : Change) → Split cs c → 1 ≤ count_by (at (slot_of c)) cs
+counted : (cs : List Change) (c : Change) → Split cs c → 1 ≤ count_by (at (target_of c)) cs
 counted [] c s = absurd (no_split c s)
 counted (d ∷ cs) c s = elim (split_cons d cs c s) [
   | inl e ↦
-      let one : one_at (slot_of c) d ≡ 1 = ap (λ (x : Change). one_at (slot_of c) x) e ∙ ap (λ (b : Bool). cond b 1 0) (ap is_eq (tied_itself slot_total (slot_of c))) in
-      omega (arith, one, count_more (slot_of c) d cs)
-  | inr u ↦ omega (arith, counted cs c u, count_more (slot_of c) d cs)
+      let one : one_at (target_of c) d ≡ 1 = ap (λ (x : Change). one_at (target_of c) x) e ∙ ap (λ (b : Bool). cond b 1 0) (ap is_eq (tied_itself target_total (target_of c))) in
+      omega (arith, one, count_more (target_of c) d cs)
+  | inr u ↦ omega (arith, counted cs c u, count_more (target_of c) d cs)
 ]
 
-counted_twice : (before rest : List Change) (c : Change) → Split before c → 2 ≤ count_by (at (slot_of c)) (before ++ c ∷ rest)
+counted_twice : (before rest : List Change) (c : Change) → Split before c → 2 ≤ count_by (at (target_of c)) (before ++ c ∷ rest)
 counted_twice [] rest c s = absurd (no_split c s)
 counted_twice (d ∷ before) rest c s = elim (split_cons d before c s) [
   | inl e ↦
-      let one : one_at (slot_of c) d ≡ 1 = ap (λ (x : Change). one_at (slot_of c) x) e ∙ ap (λ (b : Bool). cond b 1 0) (ap is_eq (tied_itself slot_total (slot_of c))) in
-      let more : 1 ≤ count_by (at (slot_of c)) (before ++ c ∷ rest) = counted (before ++ c ∷ rest) c (record { before = before; rest = rest; is = refl }) in
-      omega (arith, one, more, count_more (slot_of c) d (before ++ c ∷ rest))
-  | inr u ↦ omega (arith, counted_twice before rest c u, count_more (slot_of c) d (before ++ c ∷ rest))
+      let one : one_at (target_of c) d ≡ 1 = ap (λ (x : Change). one_at (target_of c) x) e ∙ ap (λ (b : Bool). cond b 1 0) (ap is_eq (tied_itself target_total (target_of c))) in
+      let more : 1 ≤ count_by (at (target_of c)) (before ++ c ∷ rest) = counted (before ++ c ∷ rest) c (record { before = before; rest = rest; is = refl }) in
+      omega (arith, one, more, count_more (target_of c) d (before ++ c ∷ rest))
+  | inr u ↦ omega (arith, counted_twice before rest c u, count_more (target_of c) d (before ++ c ∷ rest))
 ]
 
 below_is : (n : NodeName) (s : Slot) → is_below n s ≡ true → (name : List ℕ) × (s ≡ Below n name)
@@ -252,8 +252,8 @@ module _ (old new : Tree) (so : IsSane old) (sn : IsSane new) (kinds : KindsAgre
           let sd : Split cs d = subst (λ l. Split l d) (sym s.is) (in_left s.before (c ∷ s.rest) d u) in
           let same : d ≡ c = one_change q d c sd s h aims in
           let two = counted_twice s.before s.rest c (subst (Split s.before) same u) in
-          let most = apart old new so sn (slot_of c) in
-          let is : count_by (at (slot_of c)) cs ≡ count_by (at (slot_of c)) (s.before ++ c ∷ s.rest) = ap (count_by (at (slot_of c))) s.is in
+          let most = apart old new so sn (target_of c) in
+          let is : count_by (at (target_of c)) cs ≡ count_by (at (target_of c)) (s.before ++ c ∷ s.rest) = ap (count_by (at (target_of c))) s.is in
           omega (arith, two, most, is)
 
   -- the target of a change is free

@@ -10,8 +10,8 @@ use Rattle.mtn_base.specs.Names.{bytes_cmp, path_cmp, same_bytes, same_id}
 use Rattle.mtn_base.specs.declared.id.Id.{Id}
 use Rattle.mtn_changes.specs.declared.change.Change.{Change}
 use Rattle.mtn_changes.specs.declared.change.Change.TheVariants.{Delete, Rename, AddDir, AddFile, Patch, Clear, Set}
-use Rattle.mtn_changes.specs.declared.slot.Slot.{Slot}
-use Rattle.mtn_changes.specs.Slots.{slot_cmp}
+use Rattle.mtn_changes.specs.declared.target.Target.{Target}
+use Rattle.mtn_changes.specs.Targets.{target_cmp}
 use Rattle.mtn_changes.specs.Sorting.{place_of}
 use Rattle.mtn_roster.specs.declared.entry.Attr.{Attr}
 use Rattle.mtn_roster.specs.declared.entry.Entry.{Entry}
@@ -30,21 +30,21 @@ use Rattle.mtn_between.proofs.Standing.{of_flat_map, held_in}
 use Rattle.mtn_between.proofs.Rising.{rises_append, rises_flat, rises_filter}
 
 -- a place in the order
-abbrev at : ℕ → List (List ℕ) → List ℕ → Slot
+abbrev at : ℕ → List (List ℕ) → List ℕ → Target
 at r p k = record { kind = r; path = p; key = k }
 
 -- by paths, where the kinds are one
-by_paths : (r : ℕ) (p q : List (List ℕ)) (k l : List ℕ) → nat_cmp r r ≡ Equal → path_cmp p q ≡ Less → slot_cmp (at r p k) (at r q l) ≡ Less
+by_paths : (r : ℕ) (p q : List (List ℕ)) (k l : List ℕ) → nat_cmp r r ≡ Equal → path_cmp p q ≡ Less → target_cmp (at r p k) (at r q l) ≡ Less
 by_paths r p q k l e h = ap (λ o. ordering_then o (ordering_then (path_cmp p q) (bytes_cmp k l))) e ∙ ap (λ o. ordering_then o (bytes_cmp k l)) h
 
 -- by keys, where the paths are one
-by_keys : (r : ℕ) (p : List (List ℕ)) (k l : List ℕ) → nat_cmp r r ≡ Equal → bytes_cmp k l ≡ Less → slot_cmp (at r p k) (at r p l) ≡ Less
+by_keys : (r : ℕ) (p : List (List ℕ)) (k l : List ℕ) → nat_cmp r r ≡ Equal → bytes_cmp k l ≡ Less → target_cmp (at r p k) (at r p l) ≡ Less
 by_keys r p k l e h =
     ap (λ o. ordering_then o (ordering_then (path_cmp p p) (bytes_cmp k l))) e
     ∙ ap (λ o. ordering_then o (bytes_cmp k l)) (tied_itself paths_total p) ∙ h
 
 -- by kinds
-by_kinds : (r n : ℕ) (s t : Slot) → s.kind ≡ r → t.kind ≡ n → nat_cmp r n ≡ Less → slot_cmp s t ≡ Less
+by_kinds : (r n : ℕ) (s t : Target) → s.kind ≡ r → t.kind ≡ n → nat_cmp r n ≡ Less → target_cmp s t ≡ Less
 by_kinds r n s t e g h = ap (λ o. ordering_then o (ordering_then (path_cmp s.path t.path) (bytes_cmp s.key t.key))) ((λ i. nat_cmp (e i) (g i)) ∙ h)
 
 module _ (old new : Tree) where
@@ -118,44 +118,44 @@ place_set p before a c h = by a.value h
 
 -- a part that has one change for a node at most
 filtered : (t : Tree) (r : ℕ) (g : Entry → Option Change) → nat_cmp r r ≡ Equal → ((e : Entry) (c : Change) → g e ≡ Some c → place_of c ≡ at r (path_of t e) []) →
-    rises slot_cmp (map place_of (filter_map g (by_path t))) ≡ true
+    rises target_cmp (map place_of (filter_map g (by_path t))) ≡ true
 filtered t r g e place =
-    rises_filter path_cmp (path_of t) slot_cmp place_of g (by_path t) (ordered-rises path_cmp (path_of t) paths_total t)
-    (λ x z y w h a b. (λ i. slot_cmp (place x y a i) (place z w b i)) ∙ by_paths r (path_of t x) (path_of t z) [] [] e h)
+    rises_filter path_cmp (path_of t) target_cmp place_of g (by_path t) (ordered-rises path_cmp (path_of t) paths_total t)
+    (λ x z y w h a b. (λ i. target_cmp (place x y a i) (place z w b i)) ∙ by_paths r (path_of t x) (path_of t z) [] [] e h)
 
 -- what stands in such a part
 filtered_kind : (t : Tree) (r : ℕ) (g : Entry → Option Change) → ((e : Entry) (c : Change) → g e ≡ Some c → place_of c ≡ at r (path_of t e) []) →
     (c : Change) → Split (filter_map g (by_path t)) c → (place_of c).kind ≡ r
-filtered_kind t r g place c s = let x = of_filter_map g (by_path t) c s in ap (λ (q : Slot). q.kind) (place x.0 c x.2)
+filtered_kind t r g place c s = let x = of_filter_map g (by_path t) c s in ap (λ (q : Target). q.kind) (place x.0 c x.2)
 
 -- a part that has changes of keys
 keyed_part : (t : Tree) (r : ℕ) (attrs : Entry → List Attr) (g : Entry → Attr → Option Change) → nat_cmp r r ≡ Equal →
     ((f : Entry) → Split (by_path t) f → are_keyed (attrs f) ≡ true) → ((f : Entry) (a : Attr) (c : Change) → g f a ≡ Some c → place_of c ≡ at r (path_of t f) a.key) →
-    rises slot_cmp (map place_of (flat_map (λ f. filter_map (g f) (attrs f)) (by_path t))) ≡ true
+    rises target_cmp (map place_of (flat_map (λ f. filter_map (g f) (attrs f)) (by_path t))) ≡ true
 keyed_part t r attrs g e keys place =
-    rises_flat path_cmp (path_of t) slot_cmp place_of (λ f. filter_map (g f) (attrs f)) (by_path t) (ordered-rises path_cmp (path_of t) paths_total t)
-    (λ f s. rises_filter bytes_cmp (λ (a : Attr). a.key) slot_cmp place_of (g f) (attrs f) (keys f s)
-    (λ x z y w h a b. (λ i. slot_cmp (place f x y a i) (place f z w b i)) ∙ by_keys r (path_of t f) x.key z.key e h))
+    rises_flat path_cmp (path_of t) target_cmp place_of (λ f. filter_map (g f) (attrs f)) (by_path t) (ordered-rises path_cmp (path_of t) paths_total t)
+    (λ f s. rises_filter bytes_cmp (λ (a : Attr). a.key) target_cmp place_of (g f) (attrs f) (keys f s)
+    (λ x z y w h a b. (λ i. target_cmp (place f x y a i) (place f z w b i)) ∙ by_keys r (path_of t f) x.key z.key e h))
     (λ x z y w h a b.
     let u = of_filter_map (g x) (attrs x) y a in
     let v = of_filter_map (g z) (attrs z) w b in
-    (λ i. slot_cmp (place x u.0 y u.2 i) (place z v.0 w v.2 i)) ∙ by_paths r (path_of t x) (path_of t z) u.0.key v.0.key e h)
+    (λ i. target_cmp (place x u.0 y u.2 i) (place z v.0 w v.2 i)) ∙ by_paths r (path_of t x) (path_of t z) u.0.key v.0.key e h)
 
 keyed_kind : (t : Tree) (r : ℕ) (attrs : Entry → List Attr) (g : Entry → Attr → Option Change) → ((f : Entry) (a : Attr) (c : Change) → g f a ≡ Some c → place_of c ≡ at r (path_of t f) a.key) →
     (c : Change) → Split (flat_map (λ f. filter_map (g f) (attrs f)) (by_path t)) c → (place_of c).kind ≡ r
 keyed_kind t r attrs g place c s =
     let x = of_flat_map (λ f. filter_map (g f) (attrs f)) (by_path t) c s in
     let y = of_filter_map (g x.0) (attrs x.0) c x.2 in
-    ap (λ (q : Slot). q.kind) (place x.0 y.0 c y.2)
+    ap (λ (q : Target). q.kind) (place x.0 y.0 c y.2)
 
 -- all kinds of a list are below n
 abbrev AreBelow : ℕ → List Change → Type 0
 AreBelow n cs = (c : Change) → Split cs c → nat_cmp (place_of c).kind n ≡ Less
 
 -- one more part, of a kind above those before it
-more : (n : ℕ) (cs ds : List Change) → rises slot_cmp (map place_of cs) ≡ true → rises slot_cmp (map place_of ds) ≡ true → AreBelow n cs → ((c : Change) → Split ds c → (place_of c).kind ≡ n) →
-    rises slot_cmp (map place_of (cs ++ ds)) ≡ true
-more n cs ds up rest low kind = rises_append slot_cmp place_of cs ds up rest (λ c d s t. by_kinds (place_of c).kind n (place_of c) (place_of d) refl (kind d t) (low c s))
+more : (n : ℕ) (cs ds : List Change) → rises target_cmp (map place_of cs) ≡ true → rises target_cmp (map place_of ds) ≡ true → AreBelow n cs → ((c : Change) → Split ds c → (place_of c).kind ≡ n) →
+    rises target_cmp (map place_of (cs ++ ds)) ≡ true
+more n cs ds up rest low kind = rises_append target_cmp place_of cs ds up rest (λ c d s t. by_kinds (place_of c).kind n (place_of c) (place_of d) refl (kind d t) (low c s))
 
 below_more : (n m : ℕ) (cs ds : List Change) → AreBelow m cs → ((c : Change) → Split ds c → (place_of c).kind ≡ n) → nat_cmp n m ≡ Less → AreBelow m (cs ++ ds)
 below_more n m cs ds low kind h c s = elim (of_append cs ds c s) [ inl a ↦ low c a | inr b ↦ ap (λ r. nat_cmp r m) (kind c b) ∙ h ]
@@ -231,24 +231,24 @@ module _ (old new : Tree) (so : IsSane old) (sn : IsSane new) where
   below_7 : AreBelow 7 (deletes ++ renames ++ dirs ++ files ++ patches ++ clears)
   below_7 = below_more 6 7 (deletes ++ renames ++ dirs ++ files ++ patches) clears (below_6 7 refl refl refl refl refl) kind6 refl
 
-  up_2 : rises slot_cmp (map place_of (deletes ++ renames)) ≡ true
+  up_2 : rises target_cmp (map place_of (deletes ++ renames)) ≡ true
   up_2 = more 2 deletes renames (filtered old 1 (deleting old new) refl (place_delete old new)) (filtered old 2 (renaming old new) refl (place_rename old new)) (below_2 2 refl) kind2
 
-  up_3 : rises slot_cmp (map place_of (deletes ++ renames ++ dirs)) ≡ true
+  up_3 : rises target_cmp (map place_of (deletes ++ renames ++ dirs)) ≡ true
   up_3 = more 3 (deletes ++ renames) dirs up_2 (filtered new 3 (adding_dir old new) refl (place_dir old new)) (below_3 3 refl refl) kind3
 
-  up_4 : rises slot_cmp (map place_of (deletes ++ renames ++ dirs ++ files)) ≡ true
+  up_4 : rises target_cmp (map place_of (deletes ++ renames ++ dirs ++ files)) ≡ true
   up_4 = more 4 (deletes ++ renames ++ dirs) files up_3 (filtered new 4 (adding_file old new) refl (place_file old new)) (below_4 4 refl refl refl) kind4
 
-  up_5 : rises slot_cmp (map place_of (deletes ++ renames ++ dirs ++ files ++ patches)) ≡ true
+  up_5 : rises target_cmp (map place_of (deletes ++ renames ++ dirs ++ files ++ patches)) ≡ true
   up_5 = more 5 (deletes ++ renames ++ dirs ++ files) patches up_4 (filtered new 5 (patching old new) refl (place_patch old new)) (below_5 5 refl refl refl refl) kind5
 
-  up_6 : rises slot_cmp (map place_of (deletes ++ renames ++ dirs ++ files ++ patches ++ clears)) ≡ true
+  up_6 : rises target_cmp (map place_of (deletes ++ renames ++ dirs ++ files ++ patches ++ clears)) ≡ true
   up_6 = more 6 (deletes ++ renames ++ dirs ++ files ++ patches) clears up_5
       (keyed_part new 6 (attrs_before old) (λ f. clearing_key (path_of new f) f.attrs) refl (λ f s. keys_before f) (λ f. place_clear (path_of new f) f.attrs))
       (below_6 6 refl refl refl refl refl) kind6
 
-  pub ascends : rises slot_cmp (map place_of (between old new)) ≡ true
+  pub ascends : rises target_cmp (map place_of (between old new)) ≡ true
   ascends = more 7 (deletes ++ renames ++ dirs ++ files ++ patches ++ clears) sets up_6
       (keyed_part new 7 (λ f. f.attrs) (λ f. setting_key (path_of new f) (attrs_before old f)) refl (λ f s. keyed new sn f (held_in new sn f s)) (λ f. place_set (path_of new f) (attrs_before old f)))
       below_7 kind7

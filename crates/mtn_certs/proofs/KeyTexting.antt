@@ -11,7 +11,7 @@ use Rattle.mtn_certs.specs.declared.cert.KeyName.{KeyName}
 use Rattle.mtn_certs.specs.declared.key_error.KeyTextError.{KeyTextError}
 use Rattle.mtn_certs.specs.declared.key_error.KeyTextError.TheVariants.{NotText, BadStanza, BadOrder, Repeated, NoMemory}
 use Rattle.mtn_certs.specs.KeyTables.{stanza_of, header, has_id_of, has_name_of, is_repeat, IsKeyName, AreKeyNames, IsKeyTable, StandsAt}
-use Rattle.mtn_certs.specs.ReadingTables.{IsNext, IsRefused, IsListFault}
+use Rattle.mtn_certs.specs.ReadingTables.{IsNextKeyName, IsRefused, IsListFault}
 
 none_left : {X : Type 0} (f : X → Bool) (xs ys : List X) → list_any f (xs ++ ys) ≡ false → list_any f xs ≡ false
 none_left f [] ys h = refl
@@ -79,7 +79,7 @@ pub record SoFar (stanzas : List (List LineText)) (at : ℕ) (keys : List KeyNam
   pub lawful : AreKeyNames [] keys
   pub read : take at stanzas ≡ header ∷ map stanza_of keys
 
-pub next_so_far : (ss : List (List LineText)) (at : ℕ) (s : List LineText) (keys next : List KeyName) → at < length ss → s ≡ get_or ss at s → SoFar ss at keys → IsNext keys s next → SoFar ss (at + 1) next
+pub next_so_far : (ss : List (List LineText)) (at : ℕ) (s : List LineText) (keys next : List KeyName) → at < length ss → s ≡ get_or ss at s → SoFar ss at keys → IsNextKeyName keys s next → SoFar ss (at + 1) next
 next_so_far ss at s keys next lt is far (k, spelled, lawful, fresh, whole) =
     subst (SoFar ss (at + 1)) (sym whole) (record {
       lawful = more [] keys k far.lawful lawful fresh;

@@ -26,8 +26,8 @@ pub record IsPart (read items : List KeyName) (ids : BTreeSet Id) (names : BTree
   pub names_are : AreTheNames names read
 
 -- the list with the key name of the stanza behind it
-abbrev pub IsNext : List KeyName → List LineText → List KeyName → Type 0
-IsNext before stanza after = (k : KeyName) × (stanza ≡ stanza_of k) × IsKeyName k × (is_repeat before k ≡ false) × (after ≡ before ++ k ∷ [])
+abbrev pub IsNextKeyName : List KeyName → List LineText → List KeyName → Type 0
+IsNextKeyName before stanza after = (k : KeyName) × (stanza ≡ stanza_of k) × IsKeyName k × (is_repeat before k ≡ false) × (after ≡ before ++ k ∷ [])
 
 -- why the stanza of a number may not stand behind key names
 abbrev pub IsRefused : List KeyName → List LineText → ℕ → KeyTextError → Type 0

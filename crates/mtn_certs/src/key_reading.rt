@@ -2,7 +2,7 @@
 ghost use Rattle.std.specs.Prelude.{◌≡◌, [], ◌∷◌, map, IfOk, IfErr, OnOk};
 ghost use Rattle.mtn_basic_io.specs.Spelling.{AreStanzas};
 ghost use Rattle.mtn_certs.specs.KeyTables.{IsKeysText, IsKeysFault, IsKeyTable, header, stanza_of};
-ghost use Rattle.mtn_certs.specs.ReadingTables.{IsPart, IsList, IsListFault, IsNext, IsRefused, IsFirstRefused};
+ghost use Rattle.mtn_certs.specs.ReadingTables.{IsPart, IsList, IsListFault, IsNextKeyName, IsRefused, IsFirstRefused};
 
 use crate::cert::KeyName;
 use crate::key_error::KeyTextError;
@@ -46,7 +46,7 @@ impl Part {
     /// Reads the stanza of a number behind the others.
     fn add(&mut self, alloc: Global, stanza: &Stanza, number: u64) -> Result<(), KeyTextError>
         requires { IsPart self.old.items self.old.items self.old.ids self.old.names }
-        ensures ok { OnOk result (IsNext self.old.items stanza.now self.new.items) }
+        ensures ok { OnOk result (IsNextKeyName self.old.items stanza.now self.new.items) }
         ensures part { OnOk result (IsPart self.new.items self.new.items self.new.ids self.new.names) }
         ensures err { IfErr result (IsRefused self.old.items stanza.now number) }
     {

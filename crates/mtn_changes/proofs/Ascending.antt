@@ -8,15 +8,15 @@ use Rattle.std.proofs.lemmas.List.{length-map}
 use Rattle.std.proofs.lemmas.List.Sorted.{IsPermutation-map, sum_by-IsPermutation}
 use Rattle.std.proofs.lemmas.Map.Keys.{sorted_from_all_adjacent}
 use Rattle.mtn_changes.specs.declared.change.Change.{Change}
-use Rattle.mtn_changes.specs.declared.slot.Slot.{Slot}
-use Rattle.mtn_changes.specs.Slots.{slot_of, slot_cmp, AreApart}
+use Rattle.mtn_changes.specs.declared.target.Target.{Target}
+use Rattle.mtn_changes.specs.Targets.{target_of, target_cmp, AreApart}
 use Rattle.mtn_basic_io.specs.Spelling.{LineText}
 use Rattle.mtn_changes.specs.declared.change.Edge.{Edge}
 use Rattle.mtn_changes.specs.declared.head.Head.TheVariants.{Parent}
 use Rattle.mtn_changes.specs.Heads.{head_stanza}
 use Rattle.mtn_changes.specs.Stanzas.{stanza_of}
 use Rattle.mtn_changes.specs.Sorting.{place_cmp, IsSortedAs, EdgeWritten}
-use Rattle.mtn_changes.proofs.Places.{slot_total}
+use Rattle.mtn_changes.proofs.Places.{target_total}
 use Rattle.mtn_changes.proofs.Sorted.{at, one_at, count_more}
 use Rattle.mtn_changes.proofs.Unsorted.{equal}
 
@@ -26,53 +26,53 @@ below Equal e = absurd (true≢false (sym e))
 below Greater e = absurd (true≢false (sym e))
 
 -- what is above s is not tied to it
-not_at : (s t u : Slot) → slot_cmp s t ≡ Equal → slot_cmp s u ≡ Less → is_eq (slot_cmp u t) ≡ false
-not_at s t u tie lt = ap is_eq (slot_total.antisymm u t) ∙ ap (λ (o : Ordering). is_eq (ordering_reverse o)) (sym (slot_total.congr s t u tie) ∙ lt)
+not_at : (s t u : Target) → target_cmp s t ≡ Equal → target_cmp s u ≡ Less → is_eq (target_cmp u t) ≡ false
+not_at s t u tie lt = ap is_eq (target_total.antisymm u t) ∙ ap (λ (o : Ordering). is_eq (ordering_reverse o)) (sym (target_total.congr s t u tie) ∙ lt)
 
-none_above : (s t : Slot) → slot_cmp s t ≡ Equal → (cs : List Change) → AllByRecursion (λ u. slot_cmp s u ≡ Less) (map slot_of cs) → count_by (at t) cs ≡ 0
+none_above : (s t : Target) → target_cmp s t ≡ Equal → (cs : List Change) → AllByRecursion (λ u. target_cmp s u ≡ Less) (map target_of cs) → count_by (at t) cs ≡ 0
 none_above s t tie [] all = refl
 none_above s t tie (c ∷ cs) all =
-    let here : at t c ≡ false = not_at s t (slot_of c) tie all.0 in
+    let here : at t c ≡ false = not_at s t (target_of c) tie all.0 in
     let one : one_at t c ≡ 0 = ap (λ (b : Bool). cond b 1 0) here in
     omega (arith, count_more t c cs, one, none_above s t tie cs all.1)
 
-once_more : (s : Slot) (c : Change) (cs : List Change) → AllByRecursion (λ u. slot_cmp (slot_of c) u ≡ Less) (map slot_of cs) → count_by (at s) cs ≤ 1 → (b : Bool) → at s c ≡ b → count_by (at s) (c ∷ cs) ≤ 1
+once_more : (s : Target) (c : Change) (cs : List Change) → AllByRecursion (λ u. target_cmp (target_of c) u ≡ Less) (map target_of cs) → count_by (at s) cs ≤ 1 → (b : Bool) → at s c ≡ b → count_by (at s) (c ∷ cs) ≤ 1
 once_more s c cs up most true e =
     let one : one_at s c ≡ 1 = ap (λ (b : Bool). cond b 1 0) e in
-    let rest : count_by (at s) cs ≡ 0 = none_above (slot_of c) s (equal (slot_cmp (slot_of c) s) e) cs up in
+    let rest : count_by (at s) cs ≡ 0 = none_above (target_of c) s (equal (target_cmp (target_of c) s) e) cs up in
     omega (arith, count_more s c cs, one, rest)
 once_more s c cs up most false e =
     let none : one_at s c ≡ 0 = ap (λ (b : Bool). cond b 1 0) e in
     omega (arith, count_more s c cs, none, most)
 
-once : (s : Slot) (cs : List Change) → IsStrictlySortedBy slot_cmp (map slot_of cs) → count_by (at s) cs ≤ 1
+once : (s : Target) (cs : List Change) → IsStrictlySortedBy target_cmp (map target_of cs) → count_by (at s) cs ≤ 1
 unfolding IsStrictlySortedBy
 once s [] up = omega arith
 once s (c ∷ cs) up = once_more s c cs up.0 (once s cs up.1) (at s c) refl
 
 -- references to changes
 abbrev pub lower : Bor Change → Bor Change → Bool
-lower x y = is_lt (slot_cmp (slot_of x.now) (slot_of y.now))
+lower x y = is_lt (target_cmp (target_of x.now) (target_of y.now))
 
 abbrev pub behind : Bor Change → Change
 behind b = b.now
 
-slot_at : (bs : List (Bor Change)) (k : ℕ) (d : Bor Change) → get_or (map slot_of (map behind bs)) k (slot_of d.now) ≡ slot_of (get_or bs k d).now
-slot_at [] k d = refl
-slot_at (b ∷ bs) zero d = refl
-slot_at (b ∷ bs) (suc k) d = slot_at bs k d
+target_at : (bs : List (Bor Change)) (k : ℕ) (d : Bor Change) → get_or (map target_of (map behind bs)) k (target_of d.now) ≡ target_of (get_or bs k d).now
+target_at [] k d = refl
+target_at (b ∷ bs) zero d = refl
+target_at (b ∷ bs) (suc k) d = target_at bs k d
 
-as_many : (bs : List (Bor Change)) → length (map slot_of (map behind bs)) ≡ length bs
+as_many : (bs : List (Bor Change)) → length (map target_of (map behind bs)) ≡ length bs
 as_many [] = refl
 as_many (b ∷ bs) = ap suc (as_many bs)
 
-ascend : (bs : List (Bor Change)) → AllAdjacentBelow (λ x y. true ≡ lower x y) bs (length bs) → IsStrictlySortedBy slot_cmp (map slot_of (map behind bs))
+ascend : (bs : List (Bor Change)) → AllAdjacentBelow (λ x y. true ≡ lower x y) bs (length bs) → IsStrictlySortedBy target_cmp (map target_of (map behind bs))
 unfolding IsStrictlySortedBy
 ascend [] up = tt
 ascend (b ∷ bs) up =
-    sorted_from_all_adjacent slot_total (map slot_of (map behind (b ∷ bs))) (slot_of b.now) (λ k lt.
-    ap (λ (t : Slot). slot_cmp t (get_or (map slot_of (map behind (b ∷ bs))) (k + 1) (slot_of b.now))) (slot_at (b ∷ bs) k b)
-    ∙ ap (λ (t : Slot). slot_cmp (slot_of (get_or (b ∷ bs) k b).now) t) (slot_at (b ∷ bs) (k + 1) b)
+    sorted_from_all_adjacent target_total (map target_of (map behind (b ∷ bs))) (target_of b.now) (λ k lt.
+    ap (λ (t : Target). target_cmp t (get_or (map target_of (map behind (b ∷ bs))) (k + 1) (target_of b.now))) (target_at (b ∷ bs) k b)
+    ∙ ap (λ (t : Target). target_cmp (target_of (get_or (b ∷ bs) k b).now) t) (target_at (b ∷ bs) (k + 1) b)
     ∙ below _ (sym (up k b (subst (λ (n : ℕ). k + 1 < n) (as_many (b ∷ bs)) lt))))
 
 pub apart_by : (old new : List (Bor Change)) (cs : List Change) (r : Bool) → map behind old ≡ cs → IsPermutation old new → IsAllAdjacentAnswer (λ x y b. b ≡ lower x y) new r → IsTrue r → AreApart cs

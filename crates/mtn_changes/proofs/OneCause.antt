@@ -11,7 +11,7 @@ use Rattle.mtn_changes.specs.declared.order.Fault.TheVariants.{BadStanza, BadOrd
 use Rattle.mtn_changes.specs.Changes.{rank}
 use Rattle.mtn_changes.specs.Stanzas.{stanza_of}
 use Rattle.mtn_changes.specs.Heads.{head_stanza, head_rank}
-use Rattle.mtn_changes.specs.Lists.{last_rank, Stands, IsFault}
+use Rattle.mtn_changes.specs.Lists.{last_rank, StandsBehind, IsFault}
 use Rattle.mtn_changes.specs.RevisionText.{Ascend, IsHeadFault, IsOnlyEdgeFault, IsNextFault}
 use Rattle.mtn_changes.proofs.Decoded.{one_change, one_head, one_parent, no_both}
 use Rattle.mtn_changes.proofs.Splits.{no_fault}
@@ -92,7 +92,7 @@ of_either e s a b na nb (inr f) (inl g) = absurd (f.1 g.1 g.2)
 of_either e s a b na nb (inr f) (inr g) = one_cause e.changes s a b na nb f.0 g.0
 
 -- a change that may stand there has no fault, nor has a parent that follows
-pub only_inside : (e : Edge) (c : Change) (s : List LineText) (why : Fault) → Stands e.changes c → s ≡ stanza_of c → IsOnlyEdgeFault e s why → why ≡ NoMemory
+pub only_inside : (e : Edge) (c : Change) (s : List LineText) (why : Fault) → StandsBehind e.changes c → s ≡ stanza_of c → IsOnlyEdgeFault e s why → why ≡ NoMemory
 only_inside e c s BadStanza stands is f = no_fault e.changes c s BadStanza stands is f.0
 only_inside e c s BadOrder stands is f = no_fault e.changes c s BadOrder stands is f.0
 only_inside e c s Repeated stands is f = no_fault e.changes c s Repeated stands is f.0

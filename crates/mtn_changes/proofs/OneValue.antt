@@ -16,7 +16,7 @@ use Rattle.mtn_changes.specs.declared.error.ChangeTextError.{ChangeTextError}
 use Rattle.mtn_changes.specs.declared.error.ChangeTextError.TheVariants.{NotText, BadStanza, BadOrder, Repeated, BadEdge, NoMemory}
 use Rattle.mtn_changes.specs.Stanzas.{stanza_of}
 use Rattle.mtn_changes.specs.Heads.{head_stanza, head_rank}
-use Rattle.mtn_changes.specs.Lists.{Stands, IsFault}
+use Rattle.mtn_changes.specs.Lists.{StandsBehind, IsFault}
 use Rattle.mtn_changes.specs.ChangesText.{AreChanges, IsFaultAt, IsListFault, IsChangesText, IsChangesFault}
 use Rattle.mtn_changes.specs.RevisionText.{edge_stanzas, revision_stanzas, Ascend, AreEdges, IsFront, IsHeadFault, IsOnlyEdgeFault, IsNextFault, IsWrongAt, IsStanzasFault, IsRevisionText, IsRevisionFault}
 use Rattle.mtn_changes.proofs.Decoded.{one_head, one_manifest, one_parent, no_both}
@@ -139,7 +139,7 @@ right_head h r s one.BadEdge rank is f = absurd f
 right_head h r s one.NoMemory rank is f = refl
 
 -- a change of the first edge
-only_inside : (e : Edge) (c : Change) (s : List LineText) (why : Fault) → Stands e.changes c → s ≡ stanza_of c → IsOnlyEdgeFault e s why → why ≡ one.NoMemory
+only_inside : (e : Edge) (c : Change) (s : List LineText) (why : Fault) → StandsBehind e.changes c → s ≡ stanza_of c → IsOnlyEdgeFault e s why → why ≡ one.NoMemory
 only_inside e c s one.BadStanza stands is f = no_fault e.changes c s one.BadStanza stands is f.0
 only_inside e c s one.BadOrder stands is f = no_fault e.changes c s one.BadOrder stands is f.0
 only_inside e c s one.Repeated stands is f = no_fault e.changes c s one.Repeated stands is f.0

@@ -8,9 +8,9 @@ use Rattle.std.proofs.lemmas.List.Folds.{list_any-append}
 use Rattle.std.specs.BTreeSet.{BTreeSet, contains, Updates}
 use Rattle.std.specs.BTreeMap.{is_at}
 use Rattle.mtn_changes.specs.declared.change.Change.{Change}
-use Rattle.mtn_changes.specs.declared.slot.Slot.{Slot}
+use Rattle.mtn_changes.specs.declared.target.Target.{Target}
 use Rattle.mtn_changes.specs.Changes.{rank}
-use Rattle.mtn_changes.specs.Slots.{slot_of, slot_cmp}
+use Rattle.mtn_changes.specs.Targets.{target_of, target_cmp}
 use Rattle.mtn_basic_io.specs.Spelling.{LineText}
 use Rattle.mtn_changes.specs.declared.order.Fault.{Fault}
 use Rattle.mtn_changes.specs.declared.order.Fault.TheVariants.{BadStanza, BadOrder, Repeated, BadEdge, NoMemory}
@@ -31,26 +31,26 @@ or_swap true false = refl
 or_swap false true = refl
 or_swap false false = refl
 
-abbrev pub AreSlots : BTreeSet Slot → List Change → Type 0
-AreSlots slots cs = (s : Slot) → contains slot_cmp slots s ≡ list_any (λ c. is_at (slot_cmp (slot_of c)) s) cs
+abbrev pub AreTargets : BTreeSet Target → List Change → Type 0
+AreTargets targets cs = (s : Target) → contains target_cmp targets s ≡ list_any (λ c. is_at (target_cmp (target_of c)) s) cs
 
-pub taken : (cs : List Change) (slots : BTreeSet Slot) (c : Change) (slot : Slot) (fresh : Bool) → slot ≡ slot_of c → AreSlots slots cs → fresh ≡ not (contains slot_cmp slots slot) → fresh ≡ false → is_taken cs c ≡ true
-taken cs slots c slot fresh is slots_are added old =
-    let has : contains slot_cmp slots slot ≡ true = not-false (contains slot_cmp slots slot) (sym added ∙ old) in
-    sym (slots_are (slot_of c)) ∙ ap (contains slot_cmp slots) (sym is) ∙ has
+pub taken : (cs : List Change) (targets : BTreeSet Target) (c : Change) (target : Target) (fresh : Bool) → target ≡ target_of c → AreTargets targets cs → fresh ≡ not (contains target_cmp targets target) → fresh ≡ false → is_taken cs c ≡ true
+taken cs targets c target fresh is targets_are added old =
+    let has : contains target_cmp targets target ≡ true = not-false (contains target_cmp targets target) (sym added ∙ old) in
+    sym (targets_are (target_of c)) ∙ ap (contains target_cmp targets) (sym is) ∙ has
 
-pub not_taken : (cs : List Change) (slots : BTreeSet Slot) (c : Change) (slot : Slot) (fresh : Bool) → slot ≡ slot_of c → AreSlots slots cs → fresh ≡ not (contains slot_cmp slots slot) → fresh ≡ true → is_taken cs c ≡ false
-not_taken cs slots c slot fresh is slots_are added new =
-    let lacks : contains slot_cmp slots slot ≡ false = not-true (contains slot_cmp slots slot) (sym added ∙ new) in
-    sym (slots_are (slot_of c)) ∙ ap (contains slot_cmp slots) (sym is) ∙ lacks
+pub not_taken : (cs : List Change) (targets : BTreeSet Target) (c : Change) (target : Target) (fresh : Bool) → target ≡ target_of c → AreTargets targets cs → fresh ≡ not (contains target_cmp targets target) → fresh ≡ true → is_taken cs c ≡ false
+not_taken cs targets c target fresh is targets_are added new =
+    let lacks : contains target_cmp targets target ≡ false = not-true (contains target_cmp targets target) (sym added ∙ new) in
+    sym (targets_are (target_of c)) ∙ ap (contains target_cmp targets) (sym is) ∙ lacks
 
-pub slots_more : (cs : List Change) (old new : BTreeSet Slot) (c : Change) (slot : Slot) → slot ≡ slot_of c → AreSlots old cs → Updates slot_cmp old new slot true → AreSlots new (cs ++ c ∷ [])
-slots_more cs old new c slot is slots_are updates s =
+pub targets_more : (cs : List Change) (old new : BTreeSet Target) (c : Change) (target : Target) → target ≡ target_of c → AreTargets old cs → Updates target_cmp old new target true → AreTargets new (cs ++ c ∷ [])
+targets_more cs old new c target is targets_are updates s =
     updates.0 s
-    ∙ ap (λ (k : Slot). cond (is_at (slot_cmp k) s) true (contains slot_cmp old s)) is
-    ∙ ap (λ (b : Bool). cond (is_at (slot_cmp (slot_of c)) s) true b) (slots_are s)
-    ∙ or_swap (is_at (slot_cmp (slot_of c)) s) (list_any (λ d. is_at (slot_cmp (slot_of d)) s) cs)
-    ∙ sym (list_any-append (λ d. is_at (slot_cmp (slot_of d)) s) cs (c ∷ []))
+    ∙ ap (λ (k : Target). cond (is_at (target_cmp k) s) true (contains target_cmp old s)) is
+    ∙ ap (λ (b : Bool). cond (is_at (target_cmp (target_of c)) s) true b) (targets_are s)
+    ∙ or_swap (is_at (target_cmp (target_of c)) s) (list_any (λ d. is_at (target_cmp (target_of d)) s) cs)
+    ∙ sym (list_any-append (λ d. is_at (target_cmp (target_of d)) s) cs (c ∷ []))
 
 -- the stanza at a place, behind those before it
 pub cut_at : (ss : List (List LineText)) (at : ℕ) (s : List LineText) → at < length ss → s ≡ get_or ss at s → ss ≡ take at ss ++ s ∷ drop (suc at) ss

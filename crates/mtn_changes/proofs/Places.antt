@@ -8,14 +8,14 @@ use Rattle.std.proofs.lemmas.List.{take_more, append-nil}
 use Rattle.std.proofs.lemmas.Grind.{flat_map-append}
 use Rattle.mtn_basic_io.specs.Spelling.{LineText}
 use Rattle.mtn_changes.specs.declared.change.Edge.{Edge}
-use Rattle.mtn_changes.specs.declared.slot.Slot.{Slot}
-use Rattle.mtn_changes.specs.Slots.{slot_cmp}
+use Rattle.mtn_changes.specs.declared.target.Target.{Target}
+use Rattle.mtn_changes.specs.Targets.{target_cmp}
 use Rattle.mtn_changes.specs.RevisionText.{edge_stanzas}
 use Rattle.mtn_changes.specs.Sorting.{IsSortedAs, AreSortedAs, EdgeWritten, EdgesWritten}
 
-pub slot_total : IsTotalOrder slot_cmp
-slot_total =
-    then_total (on_total (λ (s : Slot). s.kind) nat_cmp_total) (then_total (on_total (λ (s : Slot). s.path) (lists_total nat_list_cmp_total)) (on_total (λ (s : Slot). s.key) nat_list_cmp_total))
+pub target_total : IsTotalOrder target_cmp
+target_total =
+    then_total (on_total (λ (s : Target). s.kind) nat_cmp_total) (then_total (on_total (λ (s : Target). s.path) (lists_total nat_list_cmp_total)) (on_total (λ (s : Target). s.key) nat_list_cmp_total))
 
 one_more : (es fs : List Edge) (e f : Edge) → AreSortedAs es fs → f.parent ≡ e.parent → IsSortedAs e.changes f.changes → AreSortedAs (es ++ e ∷ []) (fs ++ f ∷ [])
 one_more [] [] e f are same sorted = (same, sorted, tt)

@@ -9,7 +9,7 @@ use Rattle.mtn_basic_io.specs.Spelling.{LineText}
 use Rattle.mtn_changes.specs.declared.change.Change.{Change}
 use Rattle.mtn_changes.specs.Changes.{IsChange, rank}
 use Rattle.mtn_changes.specs.Stanzas.{stanza_of}
-use Rattle.mtn_changes.specs.Slots.{AreApart}
+use Rattle.mtn_changes.specs.Targets.{AreApart}
 use Rattle.mtn_changes.specs.Lists.{last_rank}
 use Rattle.mtn_changes.specs.ChangesText.{AreChanges}
 use Rattle.mtn_changes.specs.Runs.{AreRising, EndsRun, IsRun}

@@ -11,18 +11,18 @@ use Rattle.std.proofs.lemmas.List.Sums.{count_by_more_yes, sum_by-append, sum_by
 use Rattle.std.proofs.lemmas.List.Sorted.{All-permutation, sum_by-IsPermutation}
 use Rattle.mtn_changes.specs.declared.change.Change.{Change}
 use Rattle.mtn_changes.specs.declared.change.Edge.{Edge}
-use Rattle.mtn_changes.specs.declared.slot.Slot.{Slot}
+use Rattle.mtn_changes.specs.declared.target.Target.{Target}
 use Rattle.mtn_changes.specs.Changes.{IsChange, rank}
-use Rattle.mtn_changes.specs.Slots.{slot_of, slot_cmp}
+use Rattle.mtn_changes.specs.Targets.{target_of, target_cmp}
 use Rattle.mtn_changes.specs.Lists.{last_rank, is_taken}
 use Rattle.mtn_changes.specs.ChangesText.{AreChanges}
 use Rattle.mtn_changes.specs.RevisionText.{Ascend, AreEdges}
 use Rattle.mtn_changes.specs.Sorting.{place_cmp, IsSortedAs, AreSortedAs, AreUnsorted, AreUnsortedEdges}
 use Rattle.mtn_changes.proofs.Parts.{last_rank-push}
-use Rattle.mtn_changes.proofs.Places.{slot_total}
+use Rattle.mtn_changes.proofs.Places.{target_total}
 
-abbrev pub at : Slot → Change → Bool
-at s c = is_eq (slot_cmp (slot_of c) s)
+abbrev pub at : Target → Change → Bool
+at s c = is_eq (target_cmp (target_of c) s)
 
 -- ranks of a sorted list do not fall
 not_below : (x y : ℕ) (o : Ordering) → is_lt (ordering_then (nat_cmp x y) o) ≡ false → y ≤ x
@@ -44,13 +44,13 @@ rises cs up (suc k) d lt =
     omega arith
 
 -- none before it changes the same
-abbrev pub one_at : Slot → Change → ℕ
+abbrev pub one_at : Target → Change → ℕ
 one_at s c = cond (at s c) 1 0
 
-pub count_more : (s : Slot) (c : Change) (cs : List Change) → count_by (at s) (c ∷ cs) ≡ one_at s c + count_by (at s) cs
+pub count_more : (s : Target) (c : Change) (cs : List Change) → count_by (at s) (c ∷ cs) ≡ one_at s c + count_by (at s) cs
 count_more s c cs = sum_by-cons (one_at s) c cs
 
-none_or : (s : Slot) (c : Change) (cs : List Change) (b : Bool) → at s c ≡ b → count_by (at s) (c ∷ cs) ≡ 0 → (count_by (at s) cs ≡ 0 → list_any (at s) cs ≡ false)
+none_or : (s : Target) (c : Change) (cs : List Change) (b : Bool) → at s c ≡ b → count_by (at s) (c ∷ cs) ≡ 0 → (count_by (at s) cs ≡ 0 → list_any (at s) cs ≡ false)
     → list_any (at s) (c ∷ cs) ≡ false
 none_or s c cs true t e more =
     let one : one_at s c ≡ 1 = ap (λ (b : Bool). cond b 1 0) t in
@@ -60,20 +60,20 @@ none_or s c cs false t e more =
     let rest : list_any (at s) cs ≡ false = more (omega (arith, e, none, count_more s c cs)) in
     rw (t, rest)
 
-none_of : (s : Slot) (cs : List Change) → count_by (at s) cs ≡ 0 → list_any (at s) cs ≡ false
+none_of : (s : Target) (cs : List Change) → count_by (at s) cs ≡ 0 → list_any (at s) cs ≡ false
 none_of s [] e = refl
 none_of s (c ∷ cs) e = none_or s c cs (at s c) refl e (none_of s cs)
 
-few : (s : Slot) (cs : List Change) (n : ℕ) → count_by (at s) (take n cs) ≤ count_by (at s) cs
+few : (s : Target) (cs : List Change) (n : ℕ) → count_by (at s) (take n cs) ≤ count_by (at s) cs
 few s cs n =
     let parts : count_by (at s) cs ≡ count_by (at s) (take n cs) + count_by (at s) (drop n cs) =
     ap (count_by (at s)) (sym (take-append-drop n cs)) ∙ sum_by-append (λ (c : Change). cond (at s c) 1 0) (take n cs) (drop n cs) in
     omega arith
 
-pub fresh : (cs : List Change) → ((s : Slot) → count_by (at s) cs ≤ 1) → (k : ℕ) (d : Change) → k < length cs → is_taken (take k cs) (get_or cs k d) ≡ false
+pub fresh : (cs : List Change) → ((s : Target) → count_by (at s) cs ≤ 1) → (k : ℕ) (d : Change) → k < length cs → is_taken (take k cs) (get_or cs k d) ≡ false
 fresh cs apart k d lt =
-    let s : Slot = slot_of (get_or cs k d) in
-    let here : at s (get_or cs k d) ≡ true = ap is_eq (tied_itself slot_total s) in
+    let s : Target = target_of (get_or cs k d) in
+    let here : at s (get_or cs k d) ≡ true = ap is_eq (tied_itself target_total s) in
     let more : count_by (at s) (take (k + 1) cs) ≡ count_by (at s) (take k cs) + 1 = count_by_more_yes (at s) cs k d lt here in
     let most : count_by (at s) (take (k + 1) cs) ≤ count_by (at s) cs = few s cs (k + 1) in
     let one : count_by (at s) cs ≤ 1 = apart s in

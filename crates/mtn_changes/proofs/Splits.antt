@@ -12,7 +12,7 @@ use Rattle.mtn_changes.specs.declared.order.Fault.TheVariants.{BadStanza, BadOrd
 use Rattle.mtn_changes.specs.Changes.{IsChange, rank}
 use Rattle.mtn_changes.specs.Stanzas.{stanza_of}
 use Rattle.mtn_changes.specs.Heads.{head_stanza}
-use Rattle.mtn_changes.specs.Lists.{last_rank, is_taken, Stands, IsFault}
+use Rattle.mtn_changes.specs.Lists.{last_rank, is_taken, StandsBehind, IsFault}
 use Rattle.mtn_changes.specs.ChangesText.{AreChanges}
 use Rattle.mtn_changes.proofs.Decoded.{one_change, no_both}
 
@@ -105,16 +105,16 @@ pub each : (cs : List Change) → AreChanges cs → Each cs
 each cs lawful = each_from cs (λ k d lt. (lawful k d lt).lawful)
 
 -- each stands behind those before it
-pub stands_at : (before : List Change) (c : Change) (more all : List Change) → AreChanges all → all ≡ before ++ c ∷ more → Stands before c
+pub stands_at : (before : List Change) (c : Change) (more all : List Change) → AreChanges all → all ≡ before ++ c ∷ more → StandsBehind before c
 stands_at before c more all lawful parts =
     let whole : AreChanges (before ++ c ∷ more) = subst AreChanges parts lawful in
-    let here : Stands (take (length before) (before ++ c ∷ more)) (get_or (before ++ c ∷ more) (length before) c) = whole (length before) c (omega (arith, length-append before (c ∷ more))) in
-    let put : Stands before (get_or (before ++ c ∷ more) (length before) c) =
-    subst (λ (bs : List Change). Stands bs (get_or (before ++ c ∷ more) (length before) c)) (take-append_seam before (c ∷ more)) here in
-    subst (λ (x : Change). Stands before x) (get_or-append_seam before c more c) put
+    let here : StandsBehind (take (length before) (before ++ c ∷ more)) (get_or (before ++ c ∷ more) (length before) c) = whole (length before) c (omega (arith, length-append before (c ∷ more))) in
+    let put : StandsBehind before (get_or (before ++ c ∷ more) (length before) c) =
+    subst (λ (bs : List Change). StandsBehind bs (get_or (before ++ c ∷ more) (length before) c)) (take-append_seam before (c ∷ more)) here in
+    subst (λ (x : Change). StandsBehind before x) (get_or-append_seam before c more c) put
 
 -- so its stanza has no fault there, but for want of memory
-pub no_fault : (before : List Change) (c : Change) (s : List LineText) (why : Fault) → Stands before c → s ≡ stanza_of c → IsFault before s why → why ≡ NoMemory
+pub no_fault : (before : List Change) (c : Change) (s : List LineText) (why : Fault) → StandsBehind before c → s ≡ stanza_of c → IsFault before s why → why ≡ NoMemory
 no_fault before c s BadStanza stands is fault = absurd (fault.0 c stands.lawful is)
 no_fault before c s BadOrder stands is (inl head) = absurd (no_both head.0 c stands.lawful (sym head.1 ∙ is))
 no_fault before c s BadOrder stands is (inr low) =

@@ -8,11 +8,11 @@ use Rattle.mtn_changes.specs.declared.order.Fault.TheVariants as one
 use Rattle.mtn_changes.specs.declared.error.ChangeTextError.{ChangeTextError}
 use Rattle.mtn_changes.specs.declared.error.ChangeTextError.TheVariants.{NotText, BadStanza, BadOrder, Repeated, BadEdge, NoMemory}
 use Rattle.mtn_changes.specs.Stanzas.{stanza_of}
-use Rattle.mtn_changes.specs.Lists.{Stands, IsFault}
+use Rattle.mtn_changes.specs.Lists.{StandsBehind, IsFault}
 
 -- each change may stand behind those before it
 abbrev pub AreChanges : List Change → Type 0
-AreChanges changes = (k : ℕ) (d : Change) → k < length changes → Stands (take k changes) (slice_index_or changes k d)
+AreChanges changes = (k : ℕ) (d : Change) → k < length changes → StandsBehind (take k changes) (slice_index_or changes k d)
 
 -- the stanzas of lawful changes
 pub record IsList (stanzas : List (List LineText)) (changes : List Change) : Type 0 where

@@ -2,7 +2,7 @@ pub mod Changes
 pub mod Lines
 pub mod Stanzas
 pub mod Heads
-pub mod Slots
+pub mod Targets
 pub mod Lists
 pub mod Faults
 pub mod ChangesText

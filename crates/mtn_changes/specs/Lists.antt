@@ -6,12 +6,12 @@ use Rattle.std.specs.BTreeMap.{is_at}
 use Rattle.mtn_basic_io.specs.Spelling.{LineText}
 use Rattle.mtn_changes.specs.declared.change.Change.{Change}
 use Rattle.mtn_changes.specs.declared.head.Head.{Head}
-use Rattle.mtn_changes.specs.declared.slot.Slot.{Slot}
+use Rattle.mtn_changes.specs.declared.target.Target.{Target}
 use Rattle.mtn_changes.specs.declared.order.Fault.{Fault}
 use Rattle.mtn_changes.specs.declared.order.Fault.TheVariants.{BadStanza, BadOrder, Repeated, BadEdge, NoMemory}
 use Rattle.mtn_changes.specs.Changes.{IsChange, rank}
 use Rattle.mtn_changes.specs.Heads.{head_stanza, IsHeadRead}
-use Rattle.mtn_changes.specs.Slots.{slot_of, slot_cmp, is_same_slot}
+use Rattle.mtn_changes.specs.Targets.{target_of, target_cmp, is_same_target}
 use Rattle.mtn_changes.specs.Stanzas.{stanza_of, IsRead}
 
 -- the rank of the last change, 0 where there is none
@@ -22,10 +22,10 @@ last_rank (c ∷ d ∷ cs) = last_rank (d ∷ cs)
 
 -- a change of the list changes the same thing
 abbrev pub is_taken : List Change → Change → Bool
-is_taken cs c = list_any (λ b. is_same_slot b c) cs
+is_taken cs c = list_any (λ b. is_same_target b c) cs
 
 -- a change may stand behind a list
-pub record Stands (before : List Change) (c : Change) : Type 0 where
+pub record StandsBehind (before : List Change) (c : Change) : Type 0 where
   pub lawful : IsChange c
   pub ordered : last_rank before ≤ rank c
   pub fresh : is_taken before c ≡ false
@@ -40,11 +40,11 @@ IsFault before stanza BadEdge = ⊥
 IsFault before stanza NoMemory = Unit {0}
 
 -- the list with the change of the stanza behind it
-abbrev pub IsNext : List Change → List LineText → List Change → Type 0
-IsNext before stanza after = (c : Change) × (stanza ≡ stanza_of c) × Stands before c × (after ≡ before ++ c ∷ [])
+abbrev pub IsNextChange : List Change → List LineText → List Change → Type 0
+IsNextChange before stanza after = (c : Change) × (stanza ≡ stanza_of c) × StandsBehind before c × (after ≡ before ++ c ∷ [])
 
 -- what was read of a list
-pub record IsPart (read changes : List Change) (slots : BTreeSet Slot) (last : ℕ) : Type 0 where
+pub record IsPart (read changes : List Change) (targets : BTreeSet Target) (last : ℕ) : Type 0 where
   pub same : changes ≡ read
   pub rank_is : last ≡ last_rank read
-  pub slots_are : (s : Slot) → contains slot_cmp slots s ≡ list_any (λ c. is_at (slot_cmp (slot_of c)) s) read
+  pub targets_are : (s : Target) → contains target_cmp targets s ≡ list_any (λ c. is_at (target_cmp (target_of c)) s) read

@@ -7,20 +7,20 @@ use Rattle.mtn_basic_io.specs.Spelling.{LineText, AreStanzas, spelling}
 use Rattle.mtn_changes.specs.declared.change.Change.{Change}
 use Rattle.mtn_changes.specs.declared.change.Edge.{Edge}
 use Rattle.mtn_changes.specs.declared.change.Revision.{Revision}
-use Rattle.mtn_changes.specs.declared.slot.Slot.{Slot}
+use Rattle.mtn_changes.specs.declared.target.Target.{Target}
 use Rattle.mtn_changes.specs.Changes.{IsChange, rank}
-use Rattle.mtn_changes.specs.Slots.{slot_of, slot_cmp, AreApart}
+use Rattle.mtn_changes.specs.Targets.{target_of, target_cmp, AreApart}
 use Rattle.mtn_changes.specs.Stanzas.{stanza_of}
 use Rattle.mtn_changes.specs.RevisionText.{Ascend, AreEdges, edge_stanzas, revision_stanzas}
 use Rattle.mtn_changes.specs.ChangesText.{AreChanges}
 
 -- where a change stands: its rank, its path, its key
-abbrev pub place_of : Change → Slot
-place_of c = record { kind = rank c; path = (slot_of c).path; key = (slot_of c).key }
+abbrev pub place_of : Change → Target
+place_of c = record { kind = rank c; path = (target_of c).path; key = (target_of c).key }
 
 -- by rank, then by path component by component, then by key byte by byte
 abbrev pub place_cmp : Change → Change → Ordering
-place_cmp c d = slot_cmp (place_of c) (place_of d)
+place_cmp c d = target_cmp (place_of c) (place_of d)
 
 -- the same changes in that order
 pub record IsSortedAs (changes sorted : List Change) : Type 0 where

@@ -1,24 +1,24 @@
 // Whether changes change different things: sorted by what they change, each is below the next.
 ghost use Rattle.std.specs.Prelude.{◌≡◌, IfOk, IsTrue};
 ghost use Rattle.std.specs.Ordering.{is_lt};
-ghost use Rattle.mtn_changes.specs.Slots.{AreApart, slot_cmp, slot_of as slot_for};
+ghost use Rattle.mtn_changes.specs.Targets.{AreApart, target_cmp, target_of as target_for};
 
 use crate::change::Change;
-use crate::sorting::{compare_slots, refs_of};
+use crate::sorting::{compare_targets, refs_of};
 use mtn_base::NoMemory;
 use std::alloc::Global;
 use std::cmp::Ordering;
 
 fn compare(a: &&Change, b: &&Change) -> Ordering
-    ensures { result ≡ slot_cmp (slot_for a.now.now) (slot_for b.now.now) }
+    ensures { result ≡ target_cmp (target_for a.now.now) (target_for b.now.now) }
 {
-    compare_slots(a, b)
+    compare_targets(a, b)
 }
 
 fn is_below(a: &&Change, b: &&Change) -> bool
-    ensures { result ≡ is_lt (slot_cmp (slot_for a.now.now) (slot_for b.now.now)) }
+    ensures { result ≡ is_lt (target_cmp (target_for a.now.now) (target_for b.now.now)) }
 {
-    compare_slots(a, b).is_lt()
+    compare_targets(a, b).is_lt()
 }
 
 /// True only where no two change the same thing. It copies no change.

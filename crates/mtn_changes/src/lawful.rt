@@ -1,6 +1,6 @@
 // Edges of lawful changes, read without a set of what they change.
 ghost use Rattle.std.specs.Prelude.{◌≡◌, IfOk, IfSome};
-ghost use Rattle.mtn_changes.specs.Slots.{AreApart};
+ghost use Rattle.mtn_changes.specs.Targets.{AreApart};
 ghost use Rattle.mtn_changes.specs.Runs.{IsRun};
 
 use crate::apart::are_apart;

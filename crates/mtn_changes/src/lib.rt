@@ -1,9 +1,9 @@
 //! Changes of a tree, revisions, and their texts.
 //!
 //! A *change* deletes, renames, adds or patches one path, or clears or sets one attribute of it; its
-//! *rank* is the place of its kind in that order, and its *slot* what it changes: a path, an
+//! *rank* is the place of its kind in that order, and its *target* what it changes: a path, an
 //! attribute of a path. An *edge* is the way from a parent revision: a list of changes, whose ranks
-//! rise and whose slots differ. A *revision* names its manifest and has one edge or two.
+//! rise and whose targets differ. A *revision* names its manifest and has one edge or two.
 //!
 //! Its *text* is the printed form of its stanzas: `format_version "1"`, `new_manifest`, and for each
 //! edge an `old_revision` and the stanzas of its changes. A list of changes has a text of its own.
@@ -32,9 +32,9 @@ mod opening;
 mod order;
 mod reading;
 mod revision;
-mod slot;
 mod sorting;
 mod stanzas;
+mod target;
 mod writing;
 
 pub use change::{Change, Changeset, Edge, Revision};

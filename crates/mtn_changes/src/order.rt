@@ -1,15 +1,15 @@
 // Changes of one edge, read one behind the other.
 ghost use Rattle.std.specs.Prelude.{◌≡◌, ◌∷◌, [], ◌++◌, true, not, IfErr, IfOk, OnOk};
 ghost use Rattle.std.specs.BTreeSet.{contains, Updates};
-ghost use Rattle.mtn_changes.specs.Lists.{IsFault, IsNext, IsPart, Stands};
+ghost use Rattle.mtn_changes.specs.Lists.{IsFault, IsNextChange, IsPart, StandsBehind};
 ghost use Rattle.mtn_changes.specs.Changes.{IsChange, rank as rank_of_change};
-ghost use Rattle.mtn_changes.specs.Slots.{slot_cmp, slot_of as slot_for};
+ghost use Rattle.mtn_changes.specs.Targets.{target_cmp, target_of as target_for};
 ghost use Rattle.mtn_changes.specs.Stanzas.{stanza_of as spelled};
 
 use crate::change::Change;
 use crate::head::head_of;
-use crate::slot::{Slot, slot_of};
 use crate::stanzas::change_of;
+use crate::target::{Target, target_of};
 use mtn_base::{List, NoMemory};
 use mtn_basic_io::Stanza;
 use std::alloc::Global;
@@ -39,7 +39,7 @@ impl From<NoMemory> for Fault {
 #[derive(Drop)]
 pub struct Part {
     pub changes: List<Change>,
-    pub slots: BTreeSet<Slot>,
+    pub targets: BTreeSet<Target>,
     /// The rank of the last, 0 before the first.
     pub last: u8,
 }
@@ -71,12 +71,16 @@ pub fn rank(change: &Change) -> u8
 }
 
 /// Takes what a change changes; true where no earlier change did.
-fn take_slot(alloc: Global, slots: &mut BTreeSet<Slot>, change: &Change) -> Result<bool, NoMemory>
-    ensures fresh { IfOk result (λ fresh. fresh ≡ not (contains slot_cmp slots.old (slot_for change.now))) }
-    ensures taken { OnOk result (Updates slot_cmp slots.old slots.new (slot_for change.now) true) }
+fn take_target(
+    alloc: Global,
+    targets: &mut BTreeSet<Target>,
+    change: &Change,
+) -> Result<bool, NoMemory>
+    ensures fresh { IfOk result (λ fresh. fresh ≡ not (contains target_cmp targets.old (target_for change.now))) }
+    ensures taken { OnOk result (Updates target_cmp targets.old targets.new (target_for change.now) true) }
 {
-    let slot = slot_of(alloc, change)?;
-    let Ok(fresh) = slots.insert(slot) else {
+    let target = target_of(alloc, change)?;
+    let Ok(fresh) = targets.insert(target) else {
         return Err(NoMemory);
     };
     Ok(fresh)
@@ -84,11 +88,11 @@ fn take_slot(alloc: Global, slots: &mut BTreeSet<Slot>, change: &Change) -> Resu
 
 impl Part {
     pub fn new(alloc: Global) -> Part
-        ensures { IsPart [] result.changes result.slots result.last }
+        ensures { IsPart [] result.changes result.targets result.last }
     {
         Part {
             changes: List::new(alloc),
-            slots: BTreeSet::new(alloc),
+            targets: BTreeSet::new(alloc),
             last: 0,
         }
     }
@@ -98,7 +102,7 @@ impl Part {
     {
         let Part {
             changes,
-            slots: _,
+            targets: _,
             last: _,
         } = self;
         changes
@@ -106,17 +110,17 @@ impl Part {
 
     /// Puts a change behind the others.
     fn put(&mut self, alloc: Global, change: Change) -> Result<(), Fault>
-        requires part { IsPart self.old.changes self.old.changes self.old.slots self.old.last }
+        requires part { IsPart self.old.changes self.old.changes self.old.targets self.old.last }
         requires lawful { IsChange change }
-        ensures ok { OnOk result (IsPart (self.old.changes ++ change ∷ []) self.new.changes self.new.slots self.new.last) }
-        ensures stands { OnOk result (Stands self.old.changes change) }
+        ensures ok { OnOk result (IsPart (self.old.changes ++ change ∷ []) self.new.changes self.new.targets self.new.last) }
+        ensures stands { OnOk result (StandsBehind self.old.changes change) }
         ensures err { IfErr result (λ e. IsFault self.old.changes (spelled change) e) }
     {
         let rank = rank(&change);
         if rank < self.last {
             return Err(Fault::BadOrder);
         }
-        let fresh = take_slot(alloc, &mut self.slots, &change)?;
+        let fresh = take_target(alloc, &mut self.targets, &change)?;
         if !fresh {
             return Err(Fault::Repeated);
         }
@@ -127,9 +131,9 @@ impl Part {
 
     /// Reads a stanza behind the others.
     pub fn add(&mut self, alloc: Global, stanza: &Stanza) -> Result<(), Fault>
-        requires { IsPart self.old.changes self.old.changes self.old.slots self.old.last }
-        ensures ok { OnOk result (IsNext self.old.changes stanza.now self.new.changes) }
-        ensures part { OnOk result (IsPart self.new.changes self.new.changes self.new.slots self.new.last) }
+        requires { IsPart self.old.changes self.old.changes self.old.targets self.old.last }
+        ensures ok { OnOk result (IsNextChange self.old.changes stanza.now self.new.changes) }
+        ensures part { OnOk result (IsPart self.new.changes self.new.changes self.new.targets self.new.last) }
         ensures err { IfErr result (λ e. IsFault self.old.changes stanza.now e) }
     {
         let Some(change) = change_of(alloc, stanza)? else {

@@ -2,7 +2,7 @@
 ghost use Rattle.std.specs.Prelude.{◌≡◌, map, IfOk};
 ghost use Rattle.std.specs.Ordering.{ordering_then};
 ghost use Rattle.mtn_base.specs.Names.{bytes_cmp, path_cmp};
-ghost use Rattle.mtn_changes.specs.Slots.{slot_cmp, slot_of as slot_for};
+ghost use Rattle.mtn_changes.specs.Targets.{target_cmp, target_of as target_for};
 ghost use Rattle.mtn_changes.specs.Sorting.{IsSortedAs, place_cmp};
 
 use crate::change::Change;
@@ -12,7 +12,7 @@ use std::alloc::Global;
 use std::cmp::Ordering;
 
 fn kind_of(change: &Change) -> u8
-    ensures { result ≡ (slot_for change.now).kind }
+    ensures { result ≡ (target_for change.now).kind }
 {
     match change {
         Change::Clear { path: _, key: _ } => 6,
@@ -26,7 +26,7 @@ fn kind_of(change: &Change) -> u8
 }
 
 fn path_of(change: &Change) -> &Path
-    ensures { result.now ≡ (slot_for change.now).path }
+    ensures { result.now ≡ (target_for change.now).path }
 {
     match change {
         Change::Delete { path } => path,
@@ -48,7 +48,7 @@ fn path_of(change: &Change) -> &Path
 }
 
 fn key_of(change: &Change) -> &[u8]
-    ensures { result.now ≡ (slot_for change.now).key }
+    ensures { result.now ≡ (target_for change.now).key }
 {
     match change {
         Change::Clear { path: _, key } => key.as_slice(),
@@ -63,7 +63,7 @@ fn key_of(change: &Change) -> &[u8]
 
 /// By path, then by key, where the kinds are the same.
 fn compare_rest(kinds: Ordering, a: &Change, b: &Change) -> Ordering
-    ensures { result ≡ ordering_then kinds (ordering_then (path_cmp (slot_for a.now).path (slot_for b.now).path) (bytes_cmp (slot_for a.now).key (slot_for b.now).key)) }
+    ensures { result ≡ ordering_then kinds (ordering_then (path_cmp (target_for a.now).path (target_for b.now).path) (bytes_cmp (target_for a.now).key (target_for b.now).key)) }
 {
     match kinds {
         Ordering::Less => Ordering::Less,
@@ -84,8 +84,8 @@ fn compare(a: &Change, b: &Change) -> Ordering
 }
 
 /// By what they change.
-pub fn compare_slots(a: &Change, b: &Change) -> Ordering
-    ensures { result ≡ slot_cmp (slot_for a.now) (slot_for b.now) }
+pub fn compare_targets(a: &Change, b: &Change) -> Ordering
+    ensures { result ≡ target_cmp (target_for a.now) (target_for b.now) }
 {
     compare_rest(kind_of(a).cmp(&kind_of(b)), a, b)
 }

@@ -14,10 +14,10 @@ use Rattle.mtn_roster.specs.declared.entry.Body.TheVariants.{File}
 use Rattle.mtn_roster.specs.declared.entry.Entry.{Entry}
 use Rattle.mtn_changes.specs.declared.change.Change.{Change}
 use Rattle.mtn_changes.specs.declared.change.Change.TheVariants.{Delete, Rename, AddDir, AddFile, Patch, Clear, Set}
-use Rattle.mtn_changes.specs.declared.slot.Slot.{Slot}
-use Rattle.mtn_changes.specs.Slots.{slot_of, slot_cmp}
+use Rattle.mtn_changes.specs.declared.target.Target.{Target}
+use Rattle.mtn_changes.specs.Targets.{target_of, target_cmp}
 use Rattle.mtn_changes.specs.Sorting.{AreUnsorted}
-use Rattle.mtn_changes.proofs.Places.{slot_total}
+use Rattle.mtn_changes.proofs.Places.{target_total}
 use Rattle.mtn_changes.proofs.Sorted.{at}
 use Rattle.mtn_roster.specs.Tree.{Tree, node_at, attr_of, with_attr}
 use Rattle.mtn_base.specs.Lists.{is_some_with}
@@ -214,18 +214,18 @@ module _ (old : Tree) (all : List Change) (new : Id) (o : IsForest old) (once : 
       by true e g = inr (v, λ i. Set (same_path-is q p (first_so _ _ e) i) (same_bytes-is key k (second_so (same_path q p) _ e) i) v)
       by false e g = absurd cc
 
-  -- changes of one slot are one
-  abbrev patch_slot : Slot
-  patch_slot = record { kind = 5; path = p; key = [] }
+  -- changes of one target are one
+  abbrev patch_target : Target
+  patch_target = record { kind = 5; path = p; key = [] }
 
-  abbrev key_slot : List ℕ → Slot
-  key_slot k = record { kind = 6; path = p; key = k }
+  abbrev key_target : List ℕ → Target
+  key_target k = record { kind = 6; path = p; key = k }
 
-  of_slot : (s : Slot) (d : Change) → slot_of d ≡ s → at s d ≡ true
-  of_slot s d h = ap (λ t. is_eq (slot_cmp t s)) h ∙ ap is_eq (tied_itself slot_total s)
+  of_target : (s : Target) (d : Change) → target_of d ≡ s → at s d ≡ true
+  of_target s d h = ap (λ t. is_eq (target_cmp t s)) h ∙ ap is_eq (tied_itself target_total s)
 
-  given_slot : (k : List ℕ) (d : Change) (w : Option (List ℕ)) → given_to p k d ≡ Some w → slot_of d ≡ key_slot k
-  given_slot k d w h = ⊎_elim (λ e. ap slot_of e) (λ r. ap slot_of r.1) (given_is k d w h)
+  given_target : (k : List ℕ) (d : Change) (w : Option (List ℕ)) → given_to p k d ≡ Some w → target_of d ≡ key_target k
+  given_target k d w h = ⊎_elim (λ e. ap target_of e) (λ r. ap target_of r.1) (given_is k d w h)
 
   -- the entry of the occupant before its edits
   abbrev start_of : Occupant → Entry
@@ -257,7 +257,7 @@ module _ (old : Tree) (all : List Change) (new : Id) (o : IsForest old) (once : 
 
     key_given : (k : List ℕ) (c : Change) (v : Option (List ℕ)) → Split all c → given_to p k c ≡ Some v → attr_of (entry_after old all new o once ok unborn x).attrs k ≡ Some v
     key_given k c v s e = attr_now k ∙ ap (λ g. or_else g (attr_of (occupant_attrs x) k)) (one_given (given_to p k) all c v s e (λ d w u g.
-        one_change (key_slot k) all d c u s (of_slot (key_slot k) d (given_slot k d w g)) (of_slot (key_slot k) c (given_slot k c v e)) (lawful.apart (key_slot k))))
+        one_change (key_target k) all d c u s (of_target (key_target k) d (given_target k d w g)) (of_target (key_target k) c (given_target k c v e)) (lawful.apart (key_target k))))
 
     self_key : (k : List ℕ) → (same_path p p && same_bytes k k) ≡ true
     self_key k = both_true _ _ (same_path-self p) (same_bytes-self k)
@@ -268,7 +268,7 @@ module _ (old : Tree) (all : List Change) (new : Id) (o : IsForest old) (once : 
           let s = split_of_contains all (Patch p from to) c in
           let e : patched_to p (Patch p from to) ≡ Some to = ap (λ t. cond t (Some to) None) (same_path-self p) in
           body_now ∙ ap (λ g. option_map_or File g (occupant_body x)) (one_given (patched_to p) all (Patch p from to) to s e (λ d w u g.
-          one_change patch_slot all d (Patch p from to) u s (of_slot patch_slot d (ap slot_of (patch_is d w g).1)) (of_slot patch_slot (Patch p from to) refl) (lawful.apart patch_slot)));
+          one_change patch_target all d (Patch p from to) u s (of_target patch_target d (ap target_of (patch_is d w g).1)) (of_target patch_target (Patch p from to) refl) (lawful.apart patch_target)));
       unpatched = λ unless. body_now ∙ ap (λ g. option_map_or File g (occupant_body x)) (nothing_given (patched_to p) all (λ d w u g.
           let i = patch_is d w g in unless i.0 w (subst (Contains all) i.1 (contains_of all d u))));
       set = λ k v c. key_given k (Set p k v) (Some v) (split_of_contains all (Set p k v) c) (ap (λ t. cond t (Some (Some v)) None) (self_key k));

@@ -6,7 +6,7 @@ use Rattle.std.specs.Ordering.{nat_cmp}
 use Rattle.std.proofs.Common.{◌≡◌, ◌&&◌, ℕ, Bool, true, false, cond, eqb, eqb-true, List, [], ◌∷◌, ◌++◌, Option, Some, None, Result, Ok, Err, refl, sym, ap, ◌∙◌, subst}
 use Rattle.std.proofs.lemmas.Slice.Eq.{bytes_eq-Decides}
 use Rattle.mtn_model.specs.Table.{Contents, body_at, nothing}
-use Rattle.mtn_ports.specs.Kept.{AreKeyed, IsNext, Same, with_all}
+use Rattle.mtn_ports.specs.Kept.{AreKeyed, IsNextKey, Same, with_all}
 use Rattle.mtn_ports.specs.declared.batch.Put.{Put}
 use Rattle.mtn_ports.proofs.KeptLemmas.{body_at-with_record, with_all-append}
 use Rattle.mtn_ports.proofs.KeptLemmas.{if_same}
@@ -60,8 +60,8 @@ told_noted old None from a b Q same facts is note = tt
 told_noted old (Some c) from a b Q same facts is note = note (below from c) (if_same old (Some c) (λ d. AreFacts (below from d) a) same facts) is
 
 -- the next file of what is shown
-pub told_next : (told : Option Contents) (from : ℕ) (after key : List ℕ) (found : Bool) → IfSome told (λ c. IsNext c 2 after found key) → IfSome told AreKeyed →
-    IfSome told (λ c. IsNext (below from c) 2 after found key × AreKeyed (below from c))
+pub told_next : (told : Option Contents) (from : ℕ) (after key : List ℕ) (found : Bool) → IfSome told (λ c. IsNextKey c 2 after found key) → IfSome told AreKeyed →
+    IfSome told (λ c. IsNextKey (below from c) 2 after found key × AreKeyed (below from c))
 told_next None from after key found next keyed = tt
 told_next (Some c) from after key true next keyed = (next, told_keyed (Some c) from keyed)
 told_next (Some c) from after key false next keyed = (next, told_keyed (Some c) from keyed)

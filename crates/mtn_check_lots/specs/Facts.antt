@@ -1,7 +1,7 @@
 -- What is known of records by heart: some bodies, some keys without one, and of some keys the next.
 use Rattle.std.specs.Prelude.{◌≡◌, ℕ, true, List, Some, None}
 use Rattle.mtn_model.specs.Table.{Contents, body_at, nothing}
-use Rattle.mtn_ports.specs.Kept.{AreKeyed, IsNext, with_all}
+use Rattle.mtn_ports.specs.Kept.{AreKeyed, IsNextKey, with_all}
 use Rattle.mtn_ports.specs.declared.batch.Put.{Put}
 use Rattle.mtn_check_lots.specs.declared.facts.Facts.{Facts}
 
@@ -12,4 +12,4 @@ EachPut P puts = (table : ℕ) (key body : List ℕ) → body_at (with_all nothi
 pub record AreFacts (c : Contents) (facts : Facts) : Type 0 where
   pub held : EachPut (λ table key body. body_at c table key ≡ Some body) facts.held
   pub absent : EachPut (λ table key _. body_at c table key ≡ None) facts.absent
-  pub next : EachPut (λ table key found. IsNext c table key true found × AreKeyed c) facts.next
+  pub next : EachPut (λ table key found. IsNextKey c table key true found × AreKeyed c) facts.next

@@ -1,7 +1,7 @@
 // What is known of records.
 ghost use Rattle.std.specs.Prelude.{◌≡◌, ◌<◌, true, length, None, Some, IfOk, OnOk};
 ghost use Rattle.mtn_model.specs.Table.{Contents, body_at};
-ghost use Rattle.mtn_ports.specs.Kept.{AreKeyed, IsBody, IsNext, StaysAbove};
+ghost use Rattle.mtn_ports.specs.Kept.{AreKeyed, IsBody, IsNextKey, StaysAbove};
 ghost use Rattle.mtn_check_lots.specs.Facts.{AreFacts};
 
 use mtn_base::NoMemory;
@@ -55,7 +55,7 @@ impl Facts {
 
     /// Replaces `key` by the next key of a file, and answers `true`; an error where it is not known, too.
     pub fn next_file(&self, after: &[u8], key: &mut Vec<u8>) -> Result<bool, NoMemory>
-        ensures found { (c : Contents) → AreFacts c self.now → IfOk result (λ found. IsNext c 2 after.now found key.new.items) }
+        ensures found { (c : Contents) → AreFacts c self.now → IfOk result (λ found. IsNextKey c 2 after.now found key.new.items) }
         ensures keyed { (c : Contents) → AreFacts c self.now → OnOk result (AreKeyed c) }
         ensures above { StaysAbove after.now result key.new.items }
     {
@@ -88,7 +88,7 @@ impl Facts {
     /// Notes the file's key that is next behind another.
     pub fn note_next(&mut self, after: &[u8], key: &[u8]) -> Result<(), NoMemory>
         requires { 0 < length after.now }
-        ensures { (c : Contents) → AreFacts c self.old → IsNext c 2 after.now true key.now → AreKeyed c → AreFacts c self.new }
+        ensures { (c : Contents) → AreFacts c self.old → IsNextKey c 2 after.now true key.now → AreKeyed c → AreFacts c self.new }
     {
         self.next.put(FILES, after, key)
     }

@@ -2,7 +2,7 @@
 ghost use Rattle.std.specs.Prelude.{◌≡◌, ◌<◌, length, Err, IfErr, IfOk, IfSome};
 ghost use Rattle.mtn_model.specs.Table.{Contents, body_at};
 ghost use Rattle.mtn_ports.specs.Causes.{Rose};
-ghost use Rattle.mtn_ports.specs.Kept.{AreKeyed, IsBody, IsNext, Stays};
+ghost use Rattle.mtn_ports.specs.Kept.{AreKeyed, IsBody, IsNextKey, Stays};
 ghost use Rattle.mtn_history.specs.Errors.{IfDamage};
 ghost use Rattle.mtn_check_log.specs.Below.{below};
 ghost use Rattle.mtn_check_lots.specs.Facts.{AreFacts};
@@ -77,7 +77,7 @@ fn just_below(alloc: Global, key: &[u8; 20]) -> Result<Vec<u8>, NoMemory>
 // Notes an answer to `next`, among files.
 fn note_file(facts: &mut Facts, after: &[u8], found: bool, key: Vec<u8>) -> Result<(), NoMemory>
     requires keyed { 0 < length after.now }
-    ensures { (c : Contents) → AreFacts c facts.old → IsNext c 2 after.now found key.items → AreKeyed c → AreFacts c facts.new }
+    ensures { (c : Contents) → AreFacts c facts.old → IsNextKey c 2 after.now found key.items → AreKeyed c → AreFacts c facts.new }
 {
     if found {
         return facts.note_next(after, &key);

@@ -7,7 +7,7 @@ use Rattle.mtn_check_pieces.specs.Verdict.{IsAgreeing, IsVerdict}
 use Rattle.mtn_check_pieces.specs.declared.job.CheckJob.{CheckJob}
 use Rattle.mtn_check_pieces.specs.declared.job.Verdict.TheVariants.{Agrees}
 use Rattle.mtn_check_records.specs.Fitting.{AreAnswers, IsFitting, Shows}
-use Rattle.mtn_check_records.specs.declared.hand.Answer.{Answer}
+use Rattle.mtn_check_records.specs.declared.hand.JobAnswer.{JobAnswer}
 use Rattle.mtn_check_records.specs.declared.hand.Fit.TheVariants.{Fits}
 use Rattle.mtn_check_records.specs.declared.hand.Position.{Position}
 use Rattle.mtn_history.specs.Errors.{IfDamage}
@@ -21,26 +21,26 @@ use Rattle.mtn_check_walk.specs.declared.judging.Judged.{Judged}
 use Rattle.mtn_check_walk.specs.Lots.{AreAnswered, AreSound, Damages, IsShown, IsSound}
 
 -- one position more is sound
-pub sound_more : (f : List ℕ → List ℕ) (xs : List Position) (jobs : List CheckJob) (answers : List Answer) (i : ℕ) (a : Answer) → AreAnswered f xs jobs answers → i < length jobs →
+pub sound_more : (f : List ℕ → List ℕ) (xs : List Position) (jobs : List CheckJob) (answers : List JobAnswer) (i : ℕ) (a : JobAnswer) → AreAnswered f xs jobs answers → i < length jobs →
     (get_or answers i a).verdict ≡ Agrees → (get_or answers i a).fit ≡ Fits → (x : Position) (job : CheckJob) → IsSound f (slice_index_or xs i x) (slice_index_or jobs i job)
 sound_more f xs jobs answers i a answered lt agrees is x job =
     let at = answered i x job a lt in
     record { agrees = subst (λ w. IsVerdict (slice_index_or jobs i job) w) agrees at.verdict; leads = subst (λ k. IsFitting f (slice_index_or xs i x) (slice_index_or jobs i job) k) is at.fit }
 
-at_push : (answers : List Answer) (b d : Answer) → get_or (answers ++ b ∷ []) (length answers) d ≡ b
+at_push : (answers : List JobAnswer) (b d : JobAnswer) → get_or (answers ++ b ∷ []) (length answers) d ≡ b
 at_push [] b d = refl
 at_push (x ∷ answers) b d = at_push answers b d
 
 -- the answers on the positions up to one
-abbrev pub AnsweredTo : (List ℕ → List ℕ) → List Position → List CheckJob → List Answer → ℕ → Type 0
-AnsweredTo f xs jobs answers n = (i : ℕ) → i < n → (x : Position) (job : CheckJob) (a : Answer) → AreAnswers f (slice_index_or xs i x) (slice_index_or jobs i job) (slice_index_or answers i a)
+abbrev pub AnsweredTo : (List ℕ → List ℕ) → List Position → List CheckJob → List JobAnswer → ℕ → Type 0
+AnsweredTo f xs jobs answers n = (i : ℕ) → i < n → (x : Position) (job : CheckJob) (a : JobAnswer) → AreAnswers f (slice_index_or xs i x) (slice_index_or jobs i job) (slice_index_or answers i a)
 
 -- one answer more
-pub answered_more : (f : List ℕ → List ℕ) (xs : List Position) (jobs : List CheckJob) (answers more : List Answer) (i : ℕ) (x : Position) (job : CheckJob) (b : Answer) → length answers ≡ i → i < length xs → i < length jobs →
+pub answered_more : (f : List ℕ → List ℕ) (xs : List Position) (jobs : List CheckJob) (answers more : List JobAnswer) (i : ℕ) (x : Position) (job : CheckJob) (b : JobAnswer) → length answers ≡ i → i < length xs → i < length jobs →
     x ≡ get_or xs i x → job ≡ get_or jobs i job → AreAnswers f x job b → more ≡ answers ++ b ∷ [] → AnsweredTo f xs jobs answers i → AnsweredTo f xs jobs more (i + 1)
 answered_more f xs jobs answers more i x job b long in_xs in_jobs is_x is_job is pushed each =
     subst (λ cs. AnsweredTo f xs jobs cs (i + 1)) (sym pushed)
-    (below_more (λ k. (y : Position) (j : CheckJob) (d : Answer) → AreAnswers f (slice_index_or xs k y) (slice_index_or jobs k j) (slice_index_or (answers ++ b ∷ []) k d)) i
+    (below_more (λ k. (y : Position) (j : CheckJob) (d : JobAnswer) → AreAnswers f (slice_index_or xs k y) (slice_index_or jobs k j) (slice_index_or (answers ++ b ∷ []) k d)) i
     (λ k lt y j d. subst (λ z. AreAnswers f (slice_index_or xs k y) (slice_index_or jobs k j) z) (sym (get_or_append_left answers (b ∷ []) d k (let le = long in omega (arith, le, lt)))) (each k lt y j d))
     (λ y j d.
     subst (λ z. AreAnswers f z (get_or jobs i j) (get_or (answers ++ b ∷ []) i d)) (is_x ∙ get_or_default xs i x y in_xs)
@@ -70,7 +70,7 @@ shown_of e table k key b body same_key same_body is =
     subst (λ y. IfDamage e (λ d. d ≡ Bad table key y)) same_body (subst (λ y. IfDamage e (λ d. d ≡ Bad table y b)) same_key is)
 
 -- the same lists
-pub judged : (f : List ℕ → List ℕ) (lot : Lot) (xs ys : List Position) (jobs js : List CheckJob) (answers bs : List Answer) (j : Judged) → xs ≡ lot.positions.items → ys ≡ lot.positions.items → jobs ≡ lot.jobs.items → js ≡ lot.jobs.items →
+pub judged : (f : List ℕ → List ℕ) (lot : Lot) (xs ys : List Position) (jobs js : List CheckJob) (answers bs : List JobAnswer) (j : Judged) → xs ≡ lot.positions.items → ys ≡ lot.positions.items → jobs ≡ lot.jobs.items → js ≡ lot.jobs.items →
     bs ≡ answers → AreAnswered f xs jobs answers → j.sound ≤ length js → ((h : List ℕ → List ℕ) → AreAnswered h ys js bs → AreSound h ys js j.sound) →
     ((h : List ℕ → List ℕ) → AreAnswered h ys js bs → IfSome j.damage (IsShown h ys js j.sound)) → IfSome j.damage (λ e. e ≢ Failed) → IsJudged f lot j
 judged f lot xs ys jobs js answers bs j is_xs is_ys is_jobs is_js is_bs answered within sound shown failed =

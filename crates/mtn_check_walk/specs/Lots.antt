@@ -7,7 +7,7 @@ use Rattle.mtn_check_pieces.specs.Verdict.{IsAgreeing}
 use Rattle.mtn_check_pieces.specs.declared.job.CheckJob.{CheckJob}
 use Rattle.mtn_check_records.specs.Fitting.{AreAnswers, Leads}
 use Rattle.mtn_check_records.specs.Reading.{IsReadAt}
-use Rattle.mtn_check_records.specs.declared.hand.Answer.{Answer}
+use Rattle.mtn_check_records.specs.declared.hand.JobAnswer.{JobAnswer}
 use Rattle.mtn_check_records.specs.declared.hand.Position.{Position}
 use Rattle.mtn_history.specs.Errors.{IfDamage}
 use Rattle.mtn_history.specs.declared.errors.Damage.{Damage}
@@ -20,8 +20,8 @@ pub record IsSound (f : List ℕ → List ℕ) (x : Position) (job : CheckJob) :
   pub leads : Leads f x job
 
 -- the answers on positions
-abbrev pub AreAnswered : (List ℕ → List ℕ) → List Position → List CheckJob → List Answer → Type 0
-AreAnswered f xs jobs answers = (i : ℕ) (x : Position) (job : CheckJob) (a : Answer) → i < length jobs → AreAnswers f (slice_index_or xs i x) (slice_index_or jobs i job) (slice_index_or answers i a)
+abbrev pub AreAnswered : (List ℕ → List ℕ) → List Position → List CheckJob → List JobAnswer → Type 0
+AreAnswered f xs jobs answers = (i : ℕ) (x : Position) (job : CheckJob) (a : JobAnswer) → i < length jobs → AreAnswers f (slice_index_or xs i x) (slice_index_or jobs i job) (slice_index_or answers i a)
 
 -- so many positions of a lot, from its first on, are right
 abbrev pub AreSound : (List ℕ → List ℕ) → List Position → List CheckJob → ℕ → Type 0

@@ -13,7 +13,7 @@ use mtn_base::NoMemory;
 use mtn_check_hands::Lot;
 use mtn_check_log::bad;
 use mtn_check_pieces::{CheckJob, Verdict};
-use mtn_check_records::{Answer, Fit, Position, judge_one, judge_pieces};
+use mtn_check_records::{Fit, JobAnswer, Position, judge_one, judge_pieces};
 use mtn_history::{Damage, LOG, ROSTERS, StoreError, TEXTS};
 use mtn_ports::Ident;
 use std::alloc::Global;
@@ -33,7 +33,7 @@ fn judge_in_turn<I: Ident>(
     ident: &I,
     positions: &[Position],
     jobs: &[CheckJob],
-) -> Result<Vec<Answer>, NoMemory>
+) -> Result<Vec<JobAnswer>, NoMemory>
     requires same { length positions.now ≡ length jobs.now }
     ensures len { IfOk result (λ v. vec_len v ≡ length jobs.now) }
     ensures answers { IfOk result (λ v. AreAnswered (I.meaning ident.now) positions.now jobs.now v.items) }
@@ -54,7 +54,7 @@ fn answers_on<R: Threads + Sync, I: Ident>(
     pieces: usize,
     positions: &[Position],
     jobs: &[CheckJob],
-) -> Result<Vec<Answer>, NoMemory>
+) -> Result<Vec<JobAnswer>, NoMemory>
     requires same { length positions.now ≡ length jobs.now }
     ensures len { IfOk result (λ v. vec_len v ≡ length jobs.now) }
     ensures answers { IfOk result (λ v. AreAnswered (I.meaning ident.now) positions.now jobs.now v.items) }
@@ -66,14 +66,14 @@ fn answers_on<R: Threads + Sync, I: Ident>(
 }
 
 // Whether a position is sound that has these answers.
-fn is_sound(answer: Answer) -> bool
+fn is_sound(answer: JobAnswer) -> bool
     ensures { IsTrue result → (answer.verdict ≡ Verdict.Agrees) × (answer.fit ≡ Fit.Fits) }
 {
     matches!(answer.verdict, Verdict::Agrees) && matches!(answer.fit, Fit::Fits)
 }
 
 // How many positions agree and fit, up to the first that does not.
-fn count_sound(answers: &[Answer]) -> usize
+fn count_sound(answers: &[JobAnswer]) -> usize
     ensures within { result ≤ length answers.now }
     ensures sound { (f : List ℕ → List ℕ) (xs : List At) (jobs : List Job) → length answers.now ≡ length jobs → AreAnswered f xs jobs answers.now → AreSound f xs jobs result }
 {
@@ -126,7 +126,7 @@ fn damage_at(
     positions: &[Position],
     jobs: &[CheckJob],
     place: usize,
-    answers: &[Answer],
+    answers: &[JobAnswer],
 ) -> Option<StoreError>
     requires same { length positions.now ≡ length jobs.now }
     requires answers { length answers.now ≡ length jobs.now }
@@ -144,7 +144,12 @@ fn damage_at(
 }
 
 // What the answers tell of a lot.
-fn found_in(alloc: Global, positions: &[Position], jobs: &[CheckJob], answers: &[Answer]) -> Judged
+fn found_in(
+    alloc: Global,
+    positions: &[Position],
+    jobs: &[CheckJob],
+    answers: &[JobAnswer],
+) -> Judged
     requires same { length positions.now ≡ length jobs.now }
     requires answers { length answers.now ≡ length jobs.now }
     ensures within { result.sound ≤ length jobs.now }

@@ -9,10 +9,10 @@ use Rattle.std.proofs.lemmas.Slice.Eq.{bytes_eq-Decides}
 use Rattle.mtn_base.specs.declared.refusal.Cause.TheVariants.{NoBranch}
 use Rattle.mtn_model.specs.Table.{Contents, body_at, with_record}
 use Rattle.mtn_model.specs.State.{State, empty_state}
-use Rattle.mtn_frame.specs.Outcome.{Outcome}
+use Rattle.mtn_frame.specs.Outcome.{JobOutcome}
 use Rattle.mtn_ports.proofs.KeptLemmas.{body_at-with_record}
 use Rattle.mtn_ports.specs.Causes.{Rose, RisesByOne}
-use Rattle.mtn_ports.specs.Kept.{Stays, with_all, IsAbove, IsBody, IsNext}
+use Rattle.mtn_ports.specs.Kept.{Stays, with_all, IsAbove, IsBody, IsNextKey}
 use Rattle.mtn_ports.specs.declared.batch.Put.{Put}
 use Rattle.mtn_frame.specs.declared.works.Reply.{Reply}
 use Rattle.mtn_frame.specs.declared.works.Worked.{Worked}
@@ -37,7 +37,7 @@ after_put c s payload stands = record { files = ap (λ m. insert m toy_key paylo
 
 module _ {K : Type 0} (contents : K → Option Contents) (leaves : K → Contents → Type 0) (faults asked : K → ℕ) (old new : K) where
   -- what a command of this set does, in the words of the frame
-  abbrev Ensures : Bool → Bool → (State → Outcome State → Type 0) → (Contents → Contents → Type 0) → Result Worked WorkError → Type 0
+  abbrev Ensures : Bool → Bool → (State → JobOutcome State → Type 0) → (Contents → Contents → Type 0) → Result Worked WorkError → Type 0
   Ensures spelled vouched Outcomes Changes r = Works ToyStands ToyDamages ToyFirst ToyRefuses ToyLines {M = Unit {0}} (λ m c. ⊤) contents leaves faults asked old new tt spelled false vouched Outcomes (λ s n. n ≡ 1) Changes r
 
   abbrev Few : Type 0
@@ -56,7 +56,7 @@ module _ {K : Type 0} (contents : K → Option Contents) (leaves : K → Content
   no_conflicts r text P is on = let e : r.conflicts ≡ false = ap (λ (x : Reply). x.conflicts) is in cc
 
   -- an answer that puts nothing
-  answered : (c : Contents) (s : State) (worked : Worked) (text : List ℕ) (o : Outcome State) → worked.reply ≡ record { conflicts = false; text = text } → worked.batch ≡ [] → replied (record { conflicts = false; text = text }) s ≡ o → ToyStands c s →
+  answered : (c : Contents) (s : State) (worked : Worked) (text : List ℕ) (o : JobOutcome State) → worked.reply ≡ record { conflicts = false; text = text } → worked.batch ≡ [] → replied (record { conflicts = false; text = text }) s ≡ o → ToyStands c s →
       (t : State) × (replied worked.reply t ≡ o) × ToyStands (with_all c worked.batch) t
   answered c s worked text o is_reply is_batch is stands =
       (s, ap (λ (r : Reply). replied r s) is_reply ∙ is, subst (λ (ps : List Put). ToyStands (with_all c ps) s) (sym is_batch) stands)
@@ -67,11 +67,11 @@ module _ {K : Type 0} (contents : K → Option Contents) (leaves : K → Content
   stands_with : (c : Contents) → ((key : List ℕ) → IsAbove toy_key key → body_at c 2 key ≡ None) → ToyStands c (record empty_state { files = c 2 })
   stands_with c alone = record { files = refl; alone = alone }
 
-  none_in : (b : Bool) (key : List ℕ) → b ≡ false → IfSome (contents new) (λ c. IsNext c 2 toy_key b key) → (c : Contents) → contents new ≡ Some c → (other : List ℕ) → IsAbove toy_key other → body_at c 2 other ≡ None
-  none_in b key is found c now = subst (λ t. IsNext c 2 toy_key t key) is (subst (λ o. IfSome o (λ x. IsNext x 2 toy_key b key)) now found)
+  none_in : (b : Bool) (key : List ℕ) → b ≡ false → IfSome (contents new) (λ c. IsNextKey c 2 toy_key b key) → (c : Contents) → contents new ≡ Some c → (other : List ℕ) → IsAbove toy_key other → body_at c 2 other ≡ None
+  none_in b key is found c now = subst (λ t. IsNextKey c 2 toy_key t key) is (subst (λ o. IfSome o (λ x. IsNextKey x 2 toy_key b key)) now found)
 
   pub finds_none : (worked : Worked) (b : Bool) (key : List ℕ) → RisesByOne (asked old) (asked new) → Stays contents leaves faults old new → worked.reply ≡ record { conflicts = false; text = good_line } → worked.batch ≡ [] →
-      b ≡ false → IfSome (contents new) (λ c. IsNext c 2 toy_key b key) → Ensures true true (λ s o. o ≡ checked s) (λ c d. ⊥) (Ok worked)
+      b ≡ false → IfSome (contents new) (λ c. IsNextKey c 2 toy_key b key) → Ensures true true (λ s o. o ≡ checked s) (λ c d. ⊥) (Ok worked)
   finds_none worked b key one stays is_reply is_batch is found = record {
     stays = stays;
     done = λ c s now stands. answered c s worked good_line (checked s) is_reply is_batch refl stands;
@@ -84,7 +84,7 @@ module _ {K : Type 0} (contents : K → Option Contents) (leaves : K → Content
         (s, stands_with c (none_in b key is found c now), ap (λ (r : Reply). replied r s) is_reply, ap (λ (r : Reply). r.conflicts) is_reply, is_batch);
   }
 
-  pub finds_another : (key line : List ℕ) (b : Bool) → RisesByOne (asked old) (asked new) → Stays contents leaves faults old new → b ≡ true → IfSome (contents new) (λ c. IsNext c 2 toy_key b key) → IsAbove toy_key key → line ≡ toy_line key →
+  pub finds_another : (key line : List ℕ) (b : Bool) → RisesByOne (asked old) (asked new) → Stays contents leaves faults old new → b ≡ true → IfSome (contents new) (λ c. IsNextKey c 2 toy_key b key) → IsAbove toy_key key → line ≡ toy_line key →
       Ensures true true (λ s o. o ≡ checked s) (λ c d. ⊥) (Err (Damaged line))
   finds_another key line b one stays is_true found above is = record {
     stays = stays;
@@ -96,8 +96,8 @@ module _ {K : Type 0} (contents : K → Option Contents) (leaves : K → Content
     vouches = λ c now on. record { key = key; above = above; least = least c now; is = is };
   }
     where
-      least : (c : Contents) → contents new ≡ Some c → IsNext c 2 toy_key true key
-      least c now = subst (λ t. IsNext c 2 toy_key t key) is_true (subst (λ o. IfSome o (λ x. IsNext x 2 toy_key b key)) now found)
+      least : (c : Contents) → contents new ≡ Some c → IsNextKey c 2 toy_key true key
+      least c now = subst (λ t. IsNextKey c 2 toy_key t key) is_true (subst (λ o. IfSome o (λ x. IsNextKey x 2 toy_key b key)) now found)
 
       held : (c : Contents) → contents new ≡ Some c → (body : List ℕ) × (body_at c 2 key ≡ Some body)
       held c now = (least c now).0
@@ -122,7 +122,7 @@ module _ {K : Type 0} (contents : K → Option Contents) (leaves : K → Content
     Target r = Ensures (toy_spelled words) (toy_vouches words) (λ s o. o ≡ toy_outcome words payload s) (ToyChanges words payload) r
 
     -- which command it is
-    abbrev chosen : Bool → Bool → Bool → State → Outcome State
+    abbrev chosen : Bool → Bool → Bool → State → JobOutcome State
     chosen is_put is_check is_get s = if is_put then put_outcome payload s else if is_check then checked s else if is_get then toy_found s (get s.files toy_key) else misused s
 
     by_put : (s : State) → is_put words ≡ true → toy_outcome words payload s ≡ put_outcome payload s

@@ -6,9 +6,9 @@ use Rattle.mtn_base.specs.declared.refusal.Cause.TheVariants.{NoBranch}
 use Rattle.mtn_base.specs.declared.refusal.Refusal.{Refusal}
 use Rattle.mtn_model.specs.Table.{Contents, body_at, with_record}
 use Rattle.mtn_model.specs.State.{State}
-use Rattle.mtn_frame.specs.Outcome.{Outcome}
+use Rattle.mtn_frame.specs.Outcome.{JobOutcome}
 use Rattle.mtn_model.specs.declared.status.Status.TheVariants as status
-use Rattle.mtn_ports.specs.Kept.{IsAbove, IsNext}
+use Rattle.mtn_ports.specs.Kept.{IsAbove, IsNextKey}
 use Rattle.mtn_frame.specs.Script.{refused}
 use Rattle.mtn_frame.specs.Works.{misused}
 
@@ -35,7 +35,7 @@ pub record ToyDamages (c : Contents) (line : List ℕ) : Type 0 where
 pub record ToyFirst (c : Contents) (line : List ℕ) : Type 0 where
   pub key : List ℕ
   pub above : IsAbove toy_key key
-  pub least : IsNext c 2 toy_key true key
+  pub least : IsNextKey c 2 toy_key true key
   pub is : line ≡ toy_line key
 
 -- no check is refused
@@ -78,10 +78,10 @@ toy_takes [] = false
 toy_takes (word ∷ rest) = bytes_eq word (codes "put")
 
 -- the payload is the file
-abbrev pub put_outcome : List ℕ → State → Outcome State
+abbrev pub put_outcome : List ℕ → State → JobOutcome State
 put_outcome payload s = record { state = record s { files = insert s.files toy_key payload }; output = []; status = status.Ok }
 
-abbrev pub toy_found : State → Option (List ℕ) → Outcome State
+abbrev pub toy_found : State → Option (List ℕ) → JobOutcome State
 toy_found s None = refused (record { packet = 0; cause = NoBranch }) s
 toy_found s (Some bytes) = record { state = s; output = bytes; status = status.Ok }
 
@@ -89,10 +89,10 @@ abbrev pub good_line : List ℕ
 good_line = codes "good" ++ 10 ∷ []
 
 -- nothing stands behind the one key
-abbrev pub checked : State → Outcome State
+abbrev pub checked : State → JobOutcome State
 checked s = record { state = s; output = good_line; status = status.Ok }
 
-abbrev pub toy_outcome : List (List ℕ) → List ℕ → State → Outcome State
+abbrev pub toy_outcome : List (List ℕ) → List ℕ → State → JobOutcome State
 toy_outcome words payload s =
     if is_put words then put_outcome payload s
     else if is_check words then checked s

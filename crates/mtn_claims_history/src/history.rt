@@ -14,7 +14,7 @@ ghost use Rattle.mtn_model.specs.State.{State};
 ghost use Rattle.mtn_model.specs.Table.{Contents, body_at};
 ghost use Rattle.mtn_ports.specs.Causes.{Rose};
 ghost use Rattle.mtn_ports.specs.Ident.{MakesIds};
-ghost use Rattle.mtn_ports.specs.Kept.{AreKeyed, Gets, IsBody, IsBodyIf, IsNext, Stays, StaysAbove, Steps, TellsBody, with_all};
+ghost use Rattle.mtn_ports.specs.Kept.{AreKeyed, Gets, IsBody, IsBodyIf, IsNextKey, Stays, StaysAbove, TellsBody, TellsNextKey, with_all};
 ghost use Rattle.mtn_records.specs.Bounds.{IsLogWithin};
 
 use mtn_ancestry::Pos;
@@ -89,7 +89,7 @@ pub fn next_kept<K: Keeper>(
 ) -> Result<bool, StoreError>
     ensures asks { OnlyAsks K.contents K.leaves K.faults K.reads 1 draft.old draft.new }
 
-    ensures found { Steps (K.contents draft.new.keeper.now) table after.now result key.new.items }
+    ensures found { TellsNextKey (K.contents draft.new.keeper.now) table after.now result key.new.items }
     ensures told { TellsBody (K.contents draft.new.keeper.now) table result key.new.items body.new.items }
     ensures keyed { OnOk result (IfSome (K.contents draft.new.keeper.now) AreKeyed) }
     ensures failed { result ≡ Err StoreError.Failed → Rose (K.faults draft.old.keeper.now) (K.faults draft.new.keeper.now) }
@@ -108,7 +108,7 @@ pub fn next_record<K: Keeper>(
 ) -> Result<bool, StoreError>
     ensures asks { OnlyAsks K.contents K.leaves K.faults K.reads 1 draft.old draft.new }
 
-    ensures found { IfSome (K.contents draft.new.keeper.now) (λ c. IfOk result (λ found. IsNext (with_all c draft.old.pending.batch) table after.now found key.new.items)) }
+    ensures found { IfSome (K.contents draft.new.keeper.now) (λ c. IfOk result (λ found. IsNextKey (with_all c draft.old.pending.batch) table after.now found key.new.items)) }
     ensures told { IfSome (K.contents draft.new.keeper.now) (λ c. IfOk result (λ found. IsBodyIf (with_all c draft.old.pending.batch) table found key.new.items body.new.items)) }
     ensures above { StaysAbove after.now result key.new.items }
     ensures failed { result ≡ Err StoreError.Failed → Rose (K.faults draft.old.keeper.now) (K.faults draft.new.keeper.now) }

@@ -15,7 +15,7 @@ ghost use Rattle.mtn_merge.specs.Plans.{AreShown, Gives, HasIds, HasTree, Merges
 
 use mtn_base::{Bytes, Cause, Id, MAX_TEXT};
 use mtn_history::{Draft, HistoryError, StoreError};
-use mtn_merge::{Outcome, Planned, look, plan, plan_with};
+use mtn_merge::{MergeOutcome, Planned, look, plan, plan_with};
 use mtn_ports::{Ident, Keeper};
 use mtn_resolve::{Resolution, Resolutions};
 use std::alloc::Global;
@@ -26,7 +26,7 @@ pub fn looked<K: Keeper>(
     draft: &mut Draft<'_, K>,
     a: Id,
     b: Id,
-) -> Result<Outcome, HistoryError>
+) -> Result<MergeOutcome, HistoryError>
     ensures same_reference { draft.new.keeper.ghost_name ≡ draft.old.keeper.ghost_name }
     ensures stays { Stays K.contents K.leaves K.faults draft.old.keeper.now draft.new.keeper.now }
     ensures pending { draft.new.pending ≡ draft.old.pending }

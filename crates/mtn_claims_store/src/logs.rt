@@ -1,6 +1,6 @@
 //! The log of a draft: its texts, its records and its graph.
 ghost use Rattle.std.specs.Prelude.{◌≡◌, ◌<◌, ◌≤◌, ◌+◌, List, ℕ, Some, Err, drop, IfOk, IfErr, IfSome};
-ghost use Rattle.mtn_replay.specs.Graphs.{Tells};
+ghost use Rattle.mtn_replay.specs.Graphs.{IsGraphOf};
 ghost use Rattle.mtn_model.specs.State.{State};
 ghost use Rattle.mtn_model.specs.Table.{Contents};
 ghost use Rattle.mtn_ports.specs.Causes.{Rose};
@@ -72,7 +72,7 @@ pub fn graph<K: Keeper>(draft: &mut Draft<'_, K>) -> Result<Graph, StoreError>
     ensures pending { draft.new.pending ≡ draft.old.pending }
     ensures reads { K.reads draft.new.keeper.now ≤ K.reads draft.old.keeper.now + (draft.old.pending.count + 1) }
     ensures read { IfSome (K.contents draft.new.keeper.now) (λ c. IfOk result (IsReadTo (with_all c draft.old.pending.batch) draft.old.pending.count)) }
-    ensures found { (f : List ℕ → List ℕ) (s : State) (d : IsFounded f (K.contents draft.new.keeper.now) draft.old.pending s) → IfOk result (Tells d.stands.history) }
+    ensures found { (f : List ℕ → List ℕ) (s : State) (d : IsFounded f (K.contents draft.new.keeper.now) draft.old.pending s) → IfOk result (IsGraphOf d.stands.history) }
     ensures damaged { IfSome (K.contents draft.new.keeper.now) (λ c. IfErr result (λ e. IfDamage e (WrongBelow draft.old.pending.count (with_all c draft.old.pending.batch)))) }
     ensures failed { result ≡ Err StoreError.Failed → Rose (K.faults draft.old.keeper.now) (K.faults draft.new.keeper.now) }
 {

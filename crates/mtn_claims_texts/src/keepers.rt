@@ -2,7 +2,7 @@
 ghost use Rattle.std.specs.Prelude.{◌≡◌, ◌≤◌, ◌↔◌, IfOk, IfSome, IsErrOf, IsOk, IsTrue, OnErr, OnOk};
 ghost use Rattle.mtn_model.specs.Table.{nothing};
 ghost use Rattle.mtn_ports.specs.Causes.{RisesByOne, Rose};
-ghost use Rattle.mtn_ports.specs.Kept.{Adds, AreKeyed, Gets, MayLeave, Same, Stays, StaysAbove, Steps, TellsBody, with_all};
+ghost use Rattle.mtn_ports.specs.Kept.{Adds, AreKeyed, Gets, MayLeave, Same, Stays, StaysAbove, TellsNextKey, TellsBody, with_all};
 ghost use Rattle.mtn_ports.specs.Memory.{called, is_listed, keeper_calls, kept, none_yet};
 
 use mtn_base::NoMemory;
@@ -30,7 +30,7 @@ pub fn next<K: Keeper>(
     after: &[u8],
     key: &mut Vec<u8>,
 ) -> Result<bool, KeepError>
-    ensures found { Steps (K.contents keeper.new) table after.now result key.new.items }
+    ensures found { TellsNextKey (K.contents keeper.new) table after.now result key.new.items }
     ensures above { StaysAbove after.now result key.new.items }
     ensures keyed { OnOk result (IfSome (K.contents keeper.new) AreKeyed) }
     ensures stays { Stays K.contents K.leaves K.faults keeper.old keeper.new }
@@ -48,7 +48,7 @@ pub fn next_record<K: Keeper>(
     key: &mut Vec<u8>,
     body: &mut Vec<u8>,
 ) -> Result<bool, KeepError>
-    ensures found { Steps (K.contents keeper.new) table after.now result key.new.items }
+    ensures found { TellsNextKey (K.contents keeper.new) table after.now result key.new.items }
     ensures told { TellsBody (K.contents keeper.new) table result key.new.items body.new.items }
     ensures above { StaysAbove after.now result key.new.items }
     ensures keyed { OnOk result (IfSome (K.contents keeper.new) AreKeyed) }

@@ -3,7 +3,7 @@ use Rattle.std.proofs.Common.{◌≡◌, ◌≤◌, ◌+◌, ◌-◌, ℕ, List,
 use Rattle.mtn_frame.specs.Works.{Works}
 use Rattle.mtn_frame.specs.declared.works.Worked.{Worked}
 use Rattle.mtn_frame.specs.declared.works.WorkError.{WorkError}
-use Rattle.mtn_frame.specs.Outcome.{Outcome as Ending}
+use Rattle.mtn_frame.specs.Outcome.{JobOutcome as Ending}
 use Rattle.mtn_old_stores.specs.Stores.{StandsIn, Store as AnyStore}
 use Rattle.mtn_old_stores.specs.Stores.Store.{Older, Present}
 use Rattle.mtn_base.specs.declared.refusal.Refusal.{Refusal}

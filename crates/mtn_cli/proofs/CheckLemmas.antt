@@ -7,7 +7,7 @@ use Rattle.mtn_check.specs.Forms.{IsOfForm}
 use Rattle.mtn_check_laws.specs.FirstDamage.{IsFirstDamage}
 use Rattle.mtn_commands.specs.Drafts.{may_conflict, reads_packets, whole_error}
 use Rattle.mtn_commands.specs.declared.error.CommandError.TheVariants.{Store}
-use Rattle.mtn_frame.specs.Outcome.{Outcome as Ending}
+use Rattle.mtn_frame.specs.Outcome.{JobOutcome as Ending}
 use Rattle.mtn_frame.specs.Script.{refused}
 use Rattle.mtn_frame.specs.Works.{ChangesBy, VouchesFor, Works, WorksOver, puts_of, replied as replies}
 use Rattle.mtn_frame.specs.declared.works.Reply.{Reply}

@@ -17,7 +17,7 @@ use Rattle.mtn_history.specs.declared.errors.Damage.{Damage}
 use Rattle.mtn_history.specs.declared.errors.StoreError.{StoreError}
 use Rattle.mtn_history.specs.declared.errors.StoreError.TheVariants.{Failed, Damaged, NoMemory}
 use Rattle.mtn_reading.specs.Unfit.{IsUnfit}
-use Rattle.mtn_frame.specs.Outcome.{Outcome as Ending}
+use Rattle.mtn_frame.specs.Outcome.{JobOutcome as Ending}
 use Rattle.mtn_history.specs.Meta.{HasOldVersion}
 use Rattle.mtn_old_stores.specs.Reading.{OldCertDamage}
 use Rattle.mtn_old_stores.specs.Stores.{StandsIn, Store as AnyStore}

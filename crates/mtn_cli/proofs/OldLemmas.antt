@@ -6,7 +6,7 @@ use Rattle.mtn_base.specs.declared.refusal.Cause.{Cause}
 use Rattle.mtn_base.specs.declared.refusal.Cause.TheVariants.{OldStore}
 use Rattle.mtn_frame.specs.Frame.{ChangesOnly, LeavesRecords, LeavesSource, Meets, Tells, Told}
 use Rattle.mtn_frame.specs.Kinds.{ByKind, kind_of}
-use Rattle.mtn_frame.specs.Outcome.{Outcome as Ending}
+use Rattle.mtn_frame.specs.Outcome.{JobOutcome as Ending}
 use Rattle.mtn_frame.specs.Script.{is_session, refused}
 use Rattle.mtn_frame.specs.Top.{fed}
 use Rattle.mtn_model.specs.State.{State}

@@ -10,7 +10,7 @@ use Rattle.std.proofs.lemmas.Bool.{and_parts}
 use Rattle.mtn_frame.specs.Frame.{CutShort, Done, LeavesSource, Meets, Stopped, StoppedShort, Tells, Told, Untouched, WalkedAll, WalkedShort}
 use Rattle.mtn_frame.specs.Kinds.{ByKind, Kind, kind_of}
 use Rattle.mtn_frame.specs.Kinds.Kind.{Answered, Cut, Halted, Hurt, Quiet}
-use Rattle.mtn_frame.specs.Outcome.{Outcome as Ending}
+use Rattle.mtn_frame.specs.Outcome.{JobOutcome as Ending}
 use Rattle.mtn_frame.specs.Payload.{takes_last}
 use Rattle.mtn_frame.specs.Script.{IsScriptIf, is_session, jobs_of}
 use Rattle.mtn_frame.specs.Top.{fed}

@@ -4,7 +4,7 @@ use Rattle.std.specs.Io.KnownBytes.{Appends}
 use Rattle.mtn_frame.specs.Frame.{Told, Vouches, VouchesBare}
 use Rattle.mtn_frame.specs.Kinds.{ByVouch}
 use Rattle.mtn_frame.specs.Top.{ComesTo, is_vouch}
-use Rattle.mtn_frame.specs.Outcome.{Outcome as Ending}
+use Rattle.mtn_frame.specs.Outcome.{JobOutcome as Ending}
 use Rattle.mtn_model.specs.Table.{Contents}
 use Rattle.mtn_model.specs.State.{State}
 use Rattle.mtn_model.specs.declared.status.Status.{Status}

@@ -4,7 +4,7 @@ use Rattle.mtn_base.specs.declared.refusal.Cause.{Cause}
 use Rattle.mtn_base.specs.declared.refusal.Cause.TheVariants.{OldStore}
 use Rattle.mtn_base.specs.declared.refusal.Refusal.{Refusal}
 use Rattle.mtn_words.specs.Calls.{call_of}
-use Rattle.mtn_frame.specs.Outcome.{Outcome as Ending}
+use Rattle.mtn_frame.specs.Outcome.{JobOutcome as Ending}
 use Rattle.mtn_frame.specs.Script.{refused, usage_line}
 use Rattle.mtn_frame.specs.Works.{misused}
 use Rattle.mtn_model.specs.Outcome.{Outcome}

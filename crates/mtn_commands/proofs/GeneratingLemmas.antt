@@ -3,7 +3,7 @@ use Rattle.std.specs.Prelude.{IfErr, IfSome}
 use Rattle.std.proofs.Common.{◌≡◌, ◌∙◌, ℕ, true, false, List, Option, Some, None, Result, Ok, Err, refl, sym, ap, subst}
 use Rattle.mtn_frame.specs.declared.works.Reply.{Reply}
 use Rattle.mtn_generated.specs.Growing.Stop.{Refused}
-use Rattle.mtn_generating.specs.Generating.{Tells}
+use Rattle.mtn_generating.specs.Generating.{TellsGrowth}
 use Rattle.mtn_history.specs.Errors.{IfDamage, IfStoreDamage}
 use Rattle.mtn_history.specs.Marked.{IsCounted}
 use Rattle.mtn_history.specs.Stands.{IsDraft}
@@ -33,7 +33,7 @@ module _ (f : List ℕ → List ℕ) (count : ℕ) (payload : List ℕ) {K : Typ
   Target r = Performs f contents leaves faults old new before after false true (λ s. Steps f (Generate count) payload s) r
 
   abbrev Came : Result (List ℕ) HistoryError → Type 0
-  Came worked = (c : Contents) (s : State) → contents new ≡ Some c → IsDraft f c before s → Tells f c s count worked after
+  Came worked = (c : Contents) (s : State) → contents new ≡ Some c → IsDraft f c before s → TellsGrowth f c s count worked after
 
   summed : (text : List ℕ) → Came (Ok text) → Target (whole (reply_of (Ok text)))
   summed text came = record {

@@ -30,7 +30,7 @@ use Rattle.mtn_model.specs.State.{Holds, State}
 use Rattle.mtn_model.specs.Table.{Contents}
 use Rattle.mtn_ports.specs.Causes.{Rose}
 use Rattle.mtn_ports.specs.Kept.{Stays, with_all}
-use Rattle.mtn_replay.specs.Graphs.{Tells}
+use Rattle.mtn_replay.specs.Graphs.{IsGraphOf}
 use Rattle.mtn_replay.specs.Lawful.{IsHistory}
 use Rattle.mtn_replay.proofs.Histories.{one_history}
 use Rattle.mtn_step.specs.Certifying.{AreBranches, AreHeads}
@@ -39,7 +39,7 @@ use Rattle.mtn_commands.specs.Drafts.{Drafts}
 use Rattle.mtn_history.proofs.GraphLemmas.{graph_told}
 use Rattle.mtn_commands.proofs.ViewLemmas.{never, reason_of}
 
-module _ (h : List Revision) (log : List LogEntry) (tells : Tells h log) where
+module _ (h : List Revision) (log : List LogEntry) (tells : IsGraphOf h log) where
   same_above : (x r : Id) → IsProperlyAboveIn log x r ↔ IsProperlyAbove h x r
   same_above x r = (
     λ p. (p.0, (p.1.0, p.1.1, place_from h log tells x p.1.0 p.1.2, place_from h log tells r p.1.1 p.1.3, above_to h log tells p.1.4)),
@@ -48,10 +48,10 @@ module _ (h : List Revision) (log : List LogEntry) (tells : Tells h log) where
 
 module _ (f : List ℕ → List ℕ) (c : Contents) (p : Pending) (s : State) (draft : IsDraft f c p s) (entries : List LogEntry) (read : IsReadTo (with_all c p.batch) p.count entries) (certs : List Certificate) (held : (x : Certificate) → Contains certs x ↔ Holds s.certs x)
     (h : List Revision) (spelled : IsHistory f s.files s.log h) where
-  tells : Tells h entries
+  tells : IsGraphOf h entries
   tells =
       let g = graph_told f c p s draft entries read in
-      subst (λ (x : List Revision). Tells x entries) (one_history f s.files s.log g.0 h g.1 spelled) g.2
+      subst (λ (x : List Revision). IsGraphOf x entries) (one_history f s.files s.log g.0 h g.1 spelled) g.2
 
   same_member : (branch : List ℕ) (r : Id) → IsMember (Contains certs) branch r ↔ IsMember (Holds s.certs) branch r
   same_member branch r = (λ m. (m.0, (held m.0).0 m.1, m.2), λ m. (m.0, (held m.0).1 m.1, m.2))

@@ -8,6 +8,7 @@ pub mod HeadsMerging
 pub mod CertsLemmas
 pub mod MergeLemmas
 pub mod QueryLemmas
+pub mod ParentsLemmas
 pub mod ViewLemmas
 pub mod PacketsLemmas
 pub mod ReadingLemmas

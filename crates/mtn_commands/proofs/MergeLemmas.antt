@@ -21,8 +21,8 @@ use Rattle.mtn_model.specs.Outcome.{Outcome}
 use Rattle.mtn_model.specs.State.{State}
 use Rattle.mtn_model.specs.Table.{Contents, Table}
 use Rattle.mtn_plans.specs.Plans.{Looks, Merges, Plan}
-use Rattle.mtn_plans.specs.declared.outcome.Outcome.{Outcome as Planned}
-use Rattle.mtn_plans.specs.declared.outcome.Outcome.TheVariants.{Conflicted, Merged}
+use Rattle.mtn_plans.specs.declared.outcome.MergeOutcome.{MergeOutcome as Planned}
+use Rattle.mtn_plans.specs.declared.outcome.MergeOutcome.TheVariants.{Conflicted, Merged}
 use Rattle.mtn_ports.specs.Causes.{Rose}
 use Rattle.mtn_ports.specs.Kept.{Stays, with_all}
 use Rattle.mtn_ports.proofs.KeptLemmas.{stays_trans}

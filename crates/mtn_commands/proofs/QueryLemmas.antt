@@ -3,7 +3,7 @@ use Rattle.std.specs.Prelude.{IfSome}
 use Rattle.std.proofs.Common.{◌≡◌, inl, inr, ℕ, Bool, true, false, List, Option, Some, None, Result, Ok, Err, refl, sym, subst, arith}
 use Rattle.mtn_ancestry.specs.declared.pos.LogEntry.{LogEntry}
 use Rattle.mtn_history_laws.specs.History.{Revision}
-use Rattle.mtn_replay.specs.Graphs.{Tells}
+use Rattle.mtn_replay.specs.Graphs.{IsGraphOf}
 use Rattle.mtn_replay.specs.Lawful.{IsHistory}
 use Rattle.mtn_model.specs.Table.{Contents}
 use Rattle.mtn_model.specs.State.{State}
@@ -61,7 +61,7 @@ module _ (f : List ℕ → List ℕ) {K : Type 0} (contents : K → Option Conte
     read_at c told = subst (λ o. IfSome o (λ c. IsReadTo (with_all c before.batch) before.count entries)) told read
 
     -- what was answered of the graph is the outcome over the history that it tells
-    pub graph_answered : (text : List ℕ) → after ≡ before → ((s : State) (h : List Revision) → IsHistory f s.files s.log h → Tells h entries → Outcomes s (done s text)) →
+    pub graph_answered : (text : List ℕ) → after ≡ before → ((s : State) (h : List Revision) → IsHistory f s.files s.log h → IsGraphOf h entries → Outcomes s (done s text)) →
         Drafts f contents leaves faults old new before after Outcomes (Ok text)
     graph_answered text same made = record {
       stays = stays;
@@ -70,11 +70,11 @@ module _ (f : List ℕ → List ℕ) {K : Type 0} (contents : K → Option Conte
     }
 
     -- a query that has no answer names an unknown id, or wants memory
-    pub graph_unanswered : (q : Query) (payload : List ℕ) (e : QueryError) (refusal : HistoryError) → refusal ≡ query_refusal e → ((h : List Revision) → Tells h entries → NamesUnknown h (ids_of q) e) →
+    pub graph_unanswered : (q : Query) (payload : List ℕ) (e : QueryError) (refusal : HistoryError) → refusal ≡ query_refusal e → ((h : List Revision) → IsGraphOf h entries → NamesUnknown h (ids_of q) e) →
         Drafts f contents leaves faults old new before after (Steps f (Ask q) payload) (Err refusal)
     graph_unanswered q payload e refusal is names = subst (λ r. Drafts f contents leaves faults old new before after (Steps f (Ask q) payload) (Err r)) (sym is) (by e names)
       where
-        by : (e : QueryError) → ((h : List Revision) → Tells h entries → NamesUnknown h (ids_of q) e) → Drafts f contents leaves faults old new before after (Steps f (Ask q) payload) (Err (query_refusal e))
+        by : (e : QueryError) → ((h : List Revision) → IsGraphOf h entries → NamesUnknown h (ids_of q) e) → Drafts f contents leaves faults old new before after (Steps f (Ask q) payload) (Err (query_refusal e))
         by query.NoMemory names = record { stays = stays; done = λ c s told draft. tt; reason = λ counted. tt }
         by (Unknown id) names = record {
           stays = stays;

@@ -1,3 +1,4 @@
+pub mod Asking
 pub mod Certifying
 pub mod Drafts
 pub mod Reading

@@ -5,6 +5,7 @@ ghost use Rattle.hex.specs.Hex.{encode_lower};
 ghost use Rattle.mtn_commands.specs.Drafts.{Drafts, query_refusal as refusal};
 ghost use Rattle.mtn_step.specs.Step.{Steps, id_lines as lines_of, line_text};
 
+use crate::parents::parents_of;
 use mtn_base::{Bytes, Cause, Id, List, NoMemory};
 use mtn_graph_queries::{Line, Query, QueryError, answer, lines};
 use mtn_history::{Draft, HistoryError, StoreError};
@@ -67,8 +68,24 @@ fn refusal_of(error: QueryError) -> HistoryError
     }
 }
 
-/// Answers the ids that a query of the graph asks for.
-pub fn ask<I: Ident, K: Keeper>(
+// Answers the parents of a revision.
+fn ask_parents<I: Ident, K: Keeper>(
+    alloc: Global,
+    ident: &I,
+    of: Id,
+    payload: &[u8],
+    draft: &mut Draft<'_, K>,
+) -> Result<Bytes, HistoryError>
+    ensures same_reference { draft.new.keeper.ghost_name ≡ draft.old.keeper.ghost_name }
+    ensures drafts { Drafts (I.meaning ident.now) K.contents K.leaves K.faults draft.old.keeper.now draft.new.keeper.now draft.old.pending draft.new.pending
+        (Steps (I.meaning ident.now) (Call.Ask (Query.Parents of)) payload.now) result }
+{
+    let ids = parents_of(alloc, draft, of)?;
+    Ok(id_lines(alloc, ids.as_slice())?)
+}
+
+// Answers any query, by the whole graph.
+fn ask_graph<I: Ident, K: Keeper>(
     alloc: Global,
     ident: &I,
     query: &Query,
@@ -83,6 +100,24 @@ pub fn ask<I: Ident, K: Keeper>(
     match answer(alloc, &graph, query) {
         Ok(ids) => Ok(id_lines(alloc, ids.as_slice())?),
         Err(error) => Err(refusal_of(error)),
+    }
+}
+
+/// Answers the ids that a query of the graph asks for. The parents of one revision are found without the rest of the log.
+pub fn ask<I: Ident, K: Keeper>(
+    alloc: Global,
+    ident: &I,
+    query: &Query,
+    payload: &[u8],
+    draft: &mut Draft<'_, K>,
+) -> Result<Bytes, HistoryError>
+    ensures same_reference { draft.new.keeper.ghost_name ≡ draft.old.keeper.ghost_name }
+    ensures drafts { Drafts (I.meaning ident.now) K.contents K.leaves K.faults draft.old.keeper.now draft.new.keeper.now draft.old.pending draft.new.pending
+        (Steps (I.meaning ident.now) (Call.Ask query.now) payload.now) result }
+{
+    match query {
+        Query::Parents { of } => ask_parents(alloc, ident, *of, payload, draft),
+        _ => ask_graph(alloc, ident, query, payload, draft),
     }
 }
 

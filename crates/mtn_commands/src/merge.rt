@@ -5,7 +5,7 @@ ghost use Rattle.mtn_commands.specs.Certifying.{Merging};
 ghost use Rattle.mtn_commands.specs.Drafts.{Replies, reply_of};
 ghost use Rattle.mtn_step.specs.Step.{Steps, conflict_text as text_of_conflicts};
 
-use crate::put_text::{Known, put_text};
+use crate::put_text::{KnownText, put_text};
 use mtn_base::{Bytes, Id, NoMemory};
 use mtn_conflicts::{Conflicts, write};
 use mtn_frame::Reply;
@@ -68,7 +68,7 @@ pub fn merge_two<I: Ident, K: Keeper>(
     let text = resolution_text(resolves, payload);
     match plan_with(alloc, ident, draft, a, b, text)? {
         Planned::Merged { text, id, tree } => {
-            let known = Some(Known { id, tree });
+            let known = Some(KnownText { id, tree });
             told(put_text(alloc, ident, text.as_slice(), known, said, draft))
         }
         Planned::Conflicted {

@@ -26,7 +26,7 @@ use std::alloc::Global;
 
 /// What is known of a text before it is put: its id, and the tree that it makes.
 #[derive(Drop)]
-pub struct Known {
+pub struct KnownText {
     pub id: Id,
     pub tree: Option<Roster>,
 }
@@ -36,7 +36,7 @@ fn put<I: Ident, K: Keeper>(
     alloc: Global,
     ident: &I,
     text: &[u8],
-    known: Option<Known>,
+    known: Option<KnownText>,
     draft: &mut Draft<'_, K>,
 ) -> Result<Id, HistoryError>
     requires id { IfSome known (λ k. k.id.0 ≡ I.meaning ident.now text.now) }
@@ -54,7 +54,7 @@ fn put<I: Ident, K: Keeper>(
 {
     match known {
         None => put_revision(alloc, ident, draft, text),
-        Some(Known { id, tree }) => {
+        Some(KnownText { id, tree }) => {
             put_revision_as(alloc, ident, draft, id, text, tree)?;
             Ok(id)
         }
@@ -67,7 +67,7 @@ pub fn put_text<I: Ident, K: Keeper>(
     alloc: Global,
     ident: &I,
     text: &[u8],
-    known: Option<Known>,
+    known: Option<KnownText>,
     said: Option<&Said>,
     draft: &mut Draft<'_, K>,
 ) -> Result<Bytes, HistoryError>

@@ -6,7 +6,7 @@ ghost use Rattle.mtn_step.specs.Step.{Steps};
 use crate::merge::conflict_text;
 use mtn_base::{Bytes, Id};
 use mtn_history::{Draft, HistoryError};
-use mtn_merge::{Outcome, look};
+use mtn_merge::{MergeOutcome, look};
 use mtn_ports::{Ident, Keeper};
 use mtn_step::Call;
 use std::alloc::Global;
@@ -25,8 +25,8 @@ pub fn show_conflicts<I: Ident, K: Keeper>(
         (Steps (I.meaning ident.now) (Call.ShowConflicts a b) payload.now) result }
 {
     match look(alloc, draft, a, b)? {
-        Outcome::Merged { .. } => unreachable!(),
-        Outcome::Conflicted {
+        MergeOutcome::Merged { .. } => unreachable!(),
+        MergeOutcome::Conflicted {
             left,
             right,
             conflicts,

@@ -16,8 +16,8 @@ use Rattle.mtn_marking.specs.Marking.{side_of}
 use Rattle.mtn_base.specs.declared.name.NodeName.{NodeName}
 use Rattle.mtn_history_laws.specs.Scalars.Scalar.{SlotOf}
 use Rattle.mtn_decide.specs.declared.known.Content.{Content}
-use Rattle.mtn_decide.specs.declared.known.Known.{Known}
-use Rattle.mtn_decide.specs.declared.known.KnownAttr.{KnownAttr}
+use Rattle.mtn_decide.specs.declared.known.SideNode.{SideNode}
+use Rattle.mtn_decide.specs.declared.known.SideAttr.{SideAttr}
 use Rattle.mtn_decide.specs.declared.known.AttrTurn.{AttrTurn}
 use Rattle.mtn_decide.specs.declared.known.AttrTurn.TheVariants.{Left as LeftAttr, Right as RightAttr}
 use Rattle.mtn_decide.specs.declared.known.Turn.{Turn}
@@ -74,16 +74,16 @@ right_only ol or r v e = subst (IsVerdict ol or None (Some r)) e right_alone
 
 -- the same, for what the turn is
 module _ (ol or : List ℕ) where
-  pub attr_of_left : (t : AttrTurn) (k : KnownAttr) → t ≡ LeftAttr k → (v : Verdict) → Settled (AttrValue k.attr.now.value) ≡ v → IsVerdict ol or (attr_left t) (attr_right t) v
+  pub attr_of_left : (t : AttrTurn) (k : SideAttr) → t ≡ LeftAttr k → (v : Verdict) → Settled (AttrValue k.attr.now.value) ≡ v → IsVerdict ol or (attr_left t) (attr_right t) v
   attr_of_left t k e v h = subst (λ t. IsVerdict ol or (attr_left t) (attr_right t) v) (sym e) (left_only ol or (attr_side k) v h)
 
-  pub attr_of_right : (t : AttrTurn) (k : KnownAttr) → t ≡ RightAttr k → (v : Verdict) → Settled (AttrValue k.attr.now.value) ≡ v → IsVerdict ol or (attr_left t) (attr_right t) v
+  pub attr_of_right : (t : AttrTurn) (k : SideAttr) → t ≡ RightAttr k → (v : Verdict) → Settled (AttrValue k.attr.now.value) ≡ v → IsVerdict ol or (attr_left t) (attr_right t) v
   attr_of_right t k e v h = subst (λ t. IsVerdict ol or (attr_left t) (attr_right t) v) (sym e) (right_only ol or (attr_side k) v h)
 
-  pub slot_of_left : (t : Turn) (k : Known) → t ≡ LeftNode k → (v : Verdict) → Settled (SlotValue k.node.now.slot) ≡ v → (n : NodeName) → IsVerdict ol or (side_of (SlotOf n) (left_of t)) (side_of (SlotOf n) (right_of t)) v
+  pub slot_of_left : (t : Turn) (k : SideNode) → t ≡ LeftNode k → (v : Verdict) → Settled (SlotValue k.node.now.slot) ≡ v → (n : NodeName) → IsVerdict ol or (side_of (SlotOf n) (left_of t)) (side_of (SlotOf n) (right_of t)) v
   slot_of_left t k e v h n = subst (λ t. IsVerdict ol or (side_of (SlotOf n) (left_of t)) (side_of (SlotOf n) (right_of t)) v) (sym e) (left_only ol or (record { value = SlotValue k.node.now.slot; marks = k.marking.now.slot }) v h)
 
-  pub slot_of_right : (t : Turn) (k : Known) → t ≡ RightNode k → (v : Verdict) → Settled (SlotValue k.node.now.slot) ≡ v → (n : NodeName) → IsVerdict ol or (side_of (SlotOf n) (left_of t)) (side_of (SlotOf n) (right_of t)) v
+  pub slot_of_right : (t : Turn) (k : SideNode) → t ≡ RightNode k → (v : Verdict) → Settled (SlotValue k.node.now.slot) ≡ v → (n : NodeName) → IsVerdict ol or (side_of (SlotOf n) (left_of t)) (side_of (SlotOf n) (right_of t)) v
   slot_of_right t k e v h n = subst (λ t. IsVerdict ol or (side_of (SlotOf n) (left_of t)) (side_of (SlotOf n) (right_of t)) v) (sym e) (right_only ol or (record { value = SlotValue k.node.now.slot; marks = k.marking.now.slot }) v h)
 
   abbrev AreBy : Option Content → Option Content → Option Verdict → Type 0

@@ -21,7 +21,7 @@ use Rattle.mtn_decide.specs.declared.decision.Decision.{Decision}
 use Rattle.mtn_decide.specs.declared.decision.Pending.{Pending}
 use Rattle.mtn_decide.specs.declared.fate.Fate.{Fate}
 use Rattle.mtn_decide.specs.declared.fate.Fate.TheVariants.{Live, Held, Gone}
-use Rattle.mtn_decide.specs.declared.known.Known.{Known}
+use Rattle.mtn_decide.specs.declared.known.SideNode.{SideNode}
 use Rattle.mtn_decide.specs.declared.known.Turn.{Turn}
 use Rattle.mtn_decide.specs.declared.known.Turn.TheVariants.{Left, Right, Both}
 use Rattle.mtn_decide.specs.Decisions.{Merge, IsInOrder, decision_of, pending_of, is_absent, has_keys_in_order, is_file_in_order}
@@ -32,7 +32,7 @@ use Rattle.mtn_decide.specs.Verdicts.{Verdict, verdict_of}
 use Rattle.mtn_decide.proofs.Merging.{all_merged, merged_x, merged_y, merged_both, IsMadeAt}
 use Rattle.mtn_decide.proofs.Merging.IsMadeAt.{nothing, one}
 use Rattle.mtn_decide.proofs.Single.{one_pending, both_pending}
-use Rattle.mtn_decide.proofs.Walking.{entry_name, decision_name, pending_name, l_of, r_of, IsNodeWith, IsHeldWith, GoodNode, GoodHeld, AreNodesMerged, AreHeldMerged, live_option, held_option, node_part, held_part', good_pending, name_of_pending, got_by, within, Steps}
+use Rattle.mtn_decide.proofs.Walking.{entry_name, decision_name, pending_name, l_of, r_of, IsNodeWith, IsHeldWith, GoodNode, GoodHeld, AreNodesMerged, AreHeldMerged, live_option, held_option, node_part, held_part', good_pending, name_of_pending, got_by, within, WalkSteps}
 
 paired_is : {A B : Type 0} (oa : Option A) (ob : Option B) (k : A × B) → paired oa ob ≡ Some k → (oa ≡ Some k.0) × (ob ≡ Some k.1)
 paired_is {A = A} {B = B} None ob k e = absurd cc
@@ -124,10 +124,10 @@ module _ (ol or : List ℕ) (left right : MarkedTree) (sl : IsSane left.tree) (f
   moved_held a a' b b' e f {out = out} h = subst (λ x. AreHeldMerged ol or left right x b out) (sym e) (subst (λ y. AreHeldMerged ol or left right a' y out) (sym f) h)
 
   -- what a side has, with the marking that stands there
-  at_left : (i : ℕ) (k : Known) → known_at left i ≡ Some (seen k) → l_of ol or left right k.node.now.name (Some k.node.now) ≡ Some (seen k)
+  at_left : (i : ℕ) (k : SideNode) → known_at left i ≡ Some (seen k) → l_of ol or left right k.node.now.name (Some k.node.now) ≡ Some (seen k)
   at_left i k h = ap (paired (Some k.node.now)) (there_at left sl fl i (seen k) h).marking
 
-  at_right : (j : ℕ) (k : Known) → known_at right j ≡ Some (seen k) → r_of ol or left right k.node.now.name (Some k.node.now) ≡ Some (seen k)
+  at_right : (j : ℕ) (k : SideNode) → known_at right j ≡ Some (seen k) → r_of ol or left right k.node.now.name (Some k.node.now) ≡ Some (seen k)
   at_right j k h = ap (paired (Some k.node.now)) (there_at right sr fr j (seen k) h).marking
 
   abbrev rl : rises name_cmp (map entry_name left.tree) ≡ true
@@ -177,7 +177,7 @@ module _ (ol or : List ℕ) (left right : MarkedTree) (sl : IsSane left.tree) (f
       (held_is i j (Both k n) at f fate))))
 
   pub steps_fit : (i j : ℕ) (t : Turn) → i ≤ length left.tree → j ≤ length right.tree → IsTurn left right i j (Some t) →
-      Steps i j (length left.tree) (length right.tree) (turn_steps t).0 (turn_steps t).1
+      WalkSteps i j (length left.tree) (length right.tree) (turn_steps t).0 (turn_steps t).1
   steps_fit i j (Left k) hi hj at = let h = within left.tree i k.node.now (there_at left sl fl i (seen k) at.0).entry in record { left = omega arith; right = omega arith; some = omega arith }
   steps_fit i j (Right k) hi hj at = let h = within right.tree j k.node.now (there_at right sr fr j (seen k) at.0).entry in record { left = omega arith; right = omega arith; some = omega arith }
   steps_fit i j (Both k n) hi hj at =

@@ -16,7 +16,7 @@ use Rattle.mtn_decide.specs.declared.decision.Pending.{Pending}
 use Rattle.mtn_decide.specs.declared.fate.Fate.{Fate}
 use Rattle.mtn_decide.specs.declared.fate.Fate.TheVariants.{Held, Gone}
 use Rattle.mtn_decide.specs.declared.known.Content.{Content}
-use Rattle.mtn_decide.specs.declared.known.Known.{Known}
+use Rattle.mtn_decide.specs.declared.known.SideNode.{SideNode}
 use Rattle.mtn_decide.specs.declared.known.Turn.{Turn}
 use Rattle.mtn_decide.specs.declared.known.Turn.TheVariants.{Left, Right, Both}
 use Rattle.mtn_decide.specs.Decisions.{is_absent}
@@ -81,7 +81,7 @@ module _ (ol or : List ℕ) (t : Turn) (dead : ¬ LivesWith ol or (left_of t) (r
   abbrev Is : Fate → Type 0
   Is = IsFate ol or (turn_name t) (left_of t) (right_of t)
 
-  pub fate_held_left : (k : Known) (e : Entry) → t ≡ Left k → e ≡ k.node.now → IsChanged (side_of (ContentOf k.node.now.name) (Some (seen k))) ol → Is (Held (record { entry = e; from_left = true }))
+  pub fate_held_left : (k : SideNode) (e : Entry) → t ≡ Left k → e ≡ k.node.now → IsChanged (side_of (ContentOf k.node.now.name) (Some (seen k))) ol → Is (Held (record { entry = e; from_left = true }))
   fate_held_left k e is same h = (
     dead,
     subst (λ x. IsPendingWith ol or (turn_name t) (left_of t) (right_of t) (record { entry = x; from_left = true })) (sym same)
@@ -89,7 +89,7 @@ module _ (ol or : List ℕ) (t : Turn) (dead : ¬ LivesWith ol or (left_of t) (r
         (held_left ol or k.node.now.name (seen k) (side_of (ContentOf k.node.now.name) (Some (seen k))) refl (subst (λ u. ¬ LivesWith ol or (left_of u) (right_of u)) is dead) h)),
   )
 
-  pub fate_held_right : (k : Known) (e : Entry) → t ≡ Right k → e ≡ k.node.now → IsChanged (side_of (ContentOf k.node.now.name) (Some (seen k))) or → Is (Held (record { entry = e; from_left = false }))
+  pub fate_held_right : (k : SideNode) (e : Entry) → t ≡ Right k → e ≡ k.node.now → IsChanged (side_of (ContentOf k.node.now.name) (Some (seen k))) or → Is (Held (record { entry = e; from_left = false }))
   fate_held_right k e is same h = (
     dead,
     subst (λ x. IsPendingWith ol or (turn_name t) (left_of t) (right_of t) (record { entry = x; from_left = false })) (sym same)
@@ -97,13 +97,13 @@ module _ (ol or : List ℕ) (t : Turn) (dead : ¬ LivesWith ol or (left_of t) (r
         (held_right ol or k.node.now.name (seen k) (side_of (ContentOf k.node.now.name) (Some (seen k))) refl (subst (λ u. ¬ LivesWith ol or (left_of u) (right_of u)) is dead) h)),
   )
 
-  pub fate_gone_left : (k : Known) → t ≡ Left k → ¬ IsChanged (side_of (ContentOf k.node.now.name) (Some (seen k))) ol → Is Gone
+  pub fate_gone_left : (k : SideNode) → t ≡ Left k → ¬ IsChanged (side_of (ContentOf k.node.now.name) (Some (seen k))) ol → Is Gone
   fate_gone_left k is none = (dead, subst (λ u. (p : Pending) → ¬ IsPendingWith ol or (turn_name u) (left_of u) (right_of u) p) (sym is) (λ p. gone_left ol or k.node.now.name (seen k) p none))
 
-  pub fate_gone_right : (k : Known) → t ≡ Right k → ¬ IsChanged (side_of (ContentOf k.node.now.name) (Some (seen k))) or → Is Gone
+  pub fate_gone_right : (k : SideNode) → t ≡ Right k → ¬ IsChanged (side_of (ContentOf k.node.now.name) (Some (seen k))) or → Is Gone
   fate_gone_right k is none = (dead, subst (λ u. (p : Pending) → ¬ IsPendingWith ol or (turn_name u) (left_of u) (right_of u) p) (sym is) (λ p. gone_right ol or k.node.now.name (seen k) p none))
 
-  pub fate_gone_both : (k m : Known) → t ≡ Both k m → Is Gone
+  pub fate_gone_both : (k m : SideNode) → t ≡ Both k m → Is Gone
   fate_gone_both k m is = (dead, subst (λ u. (p : Pending) → ¬ IsPendingWith ol or (turn_name u) (left_of u) (right_of u) p) (sym is) (λ p. both_pending ol or k.node.now.name (seen k) (seen m) p))
 
 pub known_by : (b : Bool) → not b ≡ false → b ≡ true
@@ -114,7 +114,7 @@ pub unchanged : (o : Option Content) (x : Content) (only : List ℕ) → o ≡ S
 unchanged o x only e all = subst (λ z. ¬ IsChanged (option_map content_side z) only) (sym e) (λ n. n all)
 
 -- the decision of the node whose turn it is, from what was looked up of it
-module _ (ol or : List ℕ) (t : Turn) (left right : Option Known) (is_left : option_map seen left ≡ left_of t) (is_right : option_map seen right ≡ right_of t) where
+module _ (ol or : List ℕ) (t : Turn) (left right : Option SideNode) (is_left : option_map seen left ≡ left_of t) (is_right : option_map seen right ≡ right_of t) where
   pub decided : (d : Decision) → d.name ≡ turn_name t → d.reborn ≡ false → d.is_dir ≡ is_absent d.content →
       ((n : NodeName) → IsVerdict ol or (side_of (SlotOf n) (left_of t)) (side_of (SlotOf n) (right_of t)) (slot_verdict d.slot)) →
       (cl cr : Option Content) → ((n : NodeName) → option_map content_side cl ≡ side_of (ContentOf n) (option_map seen left)) → ((n : NodeName) → option_map content_side cr ≡ side_of (ContentOf n) (option_map seen right)) →

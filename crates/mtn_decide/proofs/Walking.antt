@@ -28,7 +28,7 @@ use Rattle.mtn_decide.specs.Sets.{LivesWith, IsVerdict, IsPendingWith}
 use Rattle.mtn_decide.specs.Sets.IsPendingWith.{of_left, of_right}
 use Rattle.mtn_decide.specs.declared.fate.Fate.{Fate}
 use Rattle.mtn_decide.specs.declared.fate.Fate.TheVariants.{Live, Held, Gone}
-use Rattle.mtn_decide.specs.declared.known.KnownAttr.{KnownAttr}
+use Rattle.mtn_decide.specs.declared.known.SideAttr.{SideAttr}
 use Rattle.mtn_decide.specs.declared.known.AttrTurn.{AttrTurn}
 use Rattle.mtn_decide.specs.declared.known.AttrTurn.TheVariants.{Left as LeftAttr, Right as RightAttr, Both as BothAttrs}
 use Rattle.mtn_decide.specs.Parts.{AreKeyedAlike, IsAttrAt, IsAttrTurn, attr_side, attr_left, attr_right, attr_key, attr_steps, attr_side_in, AreAttrsWith, IsDecisionWith, IsFate, IsOrderly}
@@ -81,7 +81,7 @@ got_by f None b h = absurd cc
 got_by f (Some a) b h = (a, refl, (let d : f a ≡ b = cc in d))
 
 -- the attribute at a place, as its side has it
-marks_at : (as' : List Attr) (ms : List AttrMarks) → AreKeyedAlike as' ms → (i : ℕ) (k : KnownAttr) → IsAttrAt as' ms i k → side_by ms k.attr.now.key (Some k.attr.now) ≡ Some (attr_side k)
+marks_at : (as' : List Attr) (ms : List AttrMarks) → AreKeyedAlike as' ms → (i : ℕ) (k : SideAttr) → IsAttrAt as' ms i k → side_by ms k.attr.now.key (Some k.attr.now) ≡ Some (attr_side k)
 marks_at as' ms alike i k at =
     let m = got_by (λ (m : AttrMarks). m.marks) (slice_get ms i) k.marks.now at.1 in
     let key : m.0.key ≡ k.attr.now.key = same_at (λ (a : Attr). a.key) (λ (m : AttrMarks). m.key) as' ms alike.same i k.attr.now m.0 at.0 m.1 in
@@ -232,13 +232,13 @@ within [] i x h = absurd cc
 within (y ∷ xs) zero x h = omega arith
 within (y ∷ xs) (suc i) x h = let r = within xs i x h in omega arith
 
-pub record Steps (i j m n a b : ℕ) : Type 0 where
+pub record WalkSteps (i j m n a b : ℕ) : Type 0 where
   pub left : i + a ≤ m
   pub right : j + b ≤ n
   pub some : 0 < a + b
 
 pub attr_steps_fit : (la : List Attr) (lm : List AttrMarks) (ra : List Attr) (rm : List AttrMarks) (i j : ℕ) (t : AttrTurn) → i ≤ length la → j ≤ length ra →
-    IsAttrTurn la lm ra rm i j (Some t) → Steps i j (length la) (length ra) (attr_steps t).0 (attr_steps t).1
+    IsAttrTurn la lm ra rm i j (Some t) → WalkSteps i j (length la) (length ra) (attr_steps t).0 (attr_steps t).1
 attr_steps_fit la lm ra rm i j (LeftAttr k) hi hj at = let h = within la i k.attr.now at.0.0 in record { left = omega arith; right = omega arith; some = omega arith }
 attr_steps_fit la lm ra rm i j (RightAttr k) hi hj at = let h = within ra j k.attr.now at.0.0 in record { left = omega arith; right = omega arith; some = omega arith }
 attr_steps_fit la lm ra rm i j (BothAttrs k n) hi hj at = let h = within la i k.attr.now at.0.0 in let g = within ra j n.attr.now at.1.0 in record { left = omega arith; right = omega arith; some = omega arith }

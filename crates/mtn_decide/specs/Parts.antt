@@ -21,8 +21,8 @@ use Rattle.mtn_decide.specs.declared.decision.Pending.{Pending}
 use Rattle.mtn_decide.specs.declared.fate.Fate.{Fate}
 use Rattle.mtn_decide.specs.declared.fate.Fate.TheVariants.{Gone, Live, Held}
 use Rattle.mtn_decide.specs.declared.known.Content.{Content}
-use Rattle.mtn_decide.specs.declared.known.Known.{Known}
-use Rattle.mtn_decide.specs.declared.known.KnownAttr.{KnownAttr}
+use Rattle.mtn_decide.specs.declared.known.SideNode.{SideNode}
+use Rattle.mtn_decide.specs.declared.known.SideAttr.{SideAttr}
 use Rattle.mtn_decide.specs.declared.known.AttrTurn.{AttrTurn}
 use Rattle.mtn_decide.specs.declared.known.AttrTurn.TheVariants.{Left as LeftAttr, Right as RightAttr, Both as BothAttrs}
 use Rattle.mtn_decide.specs.declared.known.Turn.{Turn}
@@ -32,7 +32,7 @@ use Rattle.mtn_decide.specs.Verdicts.{Verdict, verdict_of, attr_verdict}
 use Rattle.mtn_decide.specs.Sets.{LivesWith, IsVerdict, IsPendingWith}
 
 -- the entry and the marking of a node
-abbrev pub seen : Known → Entry × Marking
+abbrev pub seen : SideNode → Entry × Marking
 seen k = (k.node.now, k.marking.now)
 
 -- what each side has of the node whose turn it is
@@ -74,13 +74,13 @@ IsTurn left right l r (Some (Right k)) = (known_at right r ≡ Some (seen k)) ×
 IsTurn left right l r (Some (Both k m)) = (known_at left l ≡ Some (seen k)) × (known_at right r ≡ Some (seen m)) × (k.node.now.name ≡ m.node.now.name)
 
 -- the one of two nodes with the lesser name, or both
-abbrev pub IsFirst : Known → Known → Turn → Type 0
+abbrev pub IsFirst : SideNode → SideNode → Turn → Type 0
 IsFirst l r (Left k) = (seen k ≡ seen l) × (name_cmp l.node.now.name r.node.now.name ≡ Less)
 IsFirst l r (Right k) = (seen k ≡ seen r) × (name_cmp r.node.now.name l.node.now.name ≡ Less)
 IsFirst l r (Both k m) = (seen k ≡ seen l) × (seen m ≡ seen r) × (l.node.now.name ≡ r.node.now.name)
 
 -- the value and the marks of an attribute
-abbrev pub attr_side : KnownAttr → Side Value
+abbrev pub attr_side : SideAttr → Side Value
 attr_side k = record { value = AttrValue k.attr.now.value; marks = k.marks.now }
 
 -- the list has no attribute at the place, or one with a key above k
@@ -88,7 +88,7 @@ abbrev pub IsAttrAbove : List Attr → ℕ → List ℕ → Type 0
 IsAttrAbove as' at k = (a : Attr) → slice_get as' at ≡ Some a → bytes_cmp k a.key ≡ Less
 
 -- the attribute at a place, and its marks
-abbrev pub IsAttrAt : List Attr → List AttrMarks → ℕ → KnownAttr → Type 0
+abbrev pub IsAttrAt : List Attr → List AttrMarks → ℕ → SideAttr → Type 0
 IsAttrAt as' ms at k = (slice_get as' at ≡ Some k.attr.now) × (option_map (λ (m : AttrMarks). m.marks) (slice_get ms at) ≡ Some k.marks.now)
 
 -- the same for attributes: the least of the keys at two places
@@ -99,11 +99,11 @@ IsAttrTurn la lm ra rm l r (Some (RightAttr k)) = IsAttrAt ra rm r k × IsAttrAb
 IsAttrTurn la lm ra rm l r (Some (BothAttrs k m)) = IsAttrAt la lm l k × IsAttrAt ra rm r m × (k.attr.now.key ≡ m.attr.now.key)
 
 -- what is known of an attribute
-abbrev pub seen_attr : KnownAttr → Attr × List ℕ
+abbrev pub seen_attr : SideAttr → Attr × List ℕ
 seen_attr k = (k.attr.now, k.marks.now)
 
 -- the one of two attributes with the lesser key, or both
-abbrev pub IsFirstAttr : KnownAttr → KnownAttr → AttrTurn → Type 0
+abbrev pub IsFirstAttr : SideAttr → SideAttr → AttrTurn → Type 0
 IsFirstAttr l r (LeftAttr k) = (seen_attr k ≡ seen_attr l) × (bytes_cmp l.attr.now.key r.attr.now.key ≡ Less)
 IsFirstAttr l r (RightAttr k) = (seen_attr k ≡ seen_attr r) × (bytes_cmp r.attr.now.key l.attr.now.key ≡ Less)
 IsFirstAttr l r (BothAttrs k m) = (seen_attr k ≡ seen_attr l) × (seen_attr m ≡ seen_attr r) × (l.attr.now.key ≡ r.attr.now.key)

@@ -8,7 +8,7 @@ ghost use Rattle.mtn_decide.specs.Verdicts.{Verdict, slot_verdict, content_verdi
 ghost use Rattle.mtn_decide.specs.Parts.{left_of, right_of, attr_left, attr_right, content_side};
 
 use crate::decision::{AttrChoice, ContentChoice, SlotChoice};
-use crate::known::{AttrTurn, Content, Known, KnownAttr, Turn};
+use crate::known::{AttrTurn, Content, SideAttr, SideNode, Turn};
 use crate::scalar::{Choice, merge_scalar};
 use mtn_ancestry::PosSet;
 use mtn_base::{Id, NoMemory};
@@ -18,8 +18,8 @@ use std::alloc::Global;
 /// What is decided of a slot that both sides have.
 fn choose_slot_of_both(
     alloc: Global,
-    left: Known,
-    right: Known,
+    left: SideNode,
+    right: SideNode,
     only_left: &PosSet,
     only_right: &PosSet,
 ) -> Result<SlotChoice, NoMemory>
@@ -115,8 +115,8 @@ pub fn choose_content(
 /// What is decided of an attribute that both sides have.
 fn choose_attr_of_both(
     alloc: Global,
-    left: KnownAttr,
-    right: KnownAttr,
+    left: SideAttr,
+    right: SideAttr,
     only_left: &PosSet,
     only_right: &PosSet,
 ) -> Result<AttrChoice, NoMemory>

@@ -9,7 +9,7 @@ use crate::attrs::decide_attrs;
 use crate::choose::{choose_content, choose_slot};
 use crate::decision::{ContentChoice, Decision, Pending};
 use crate::known::{
-    Content, Known, Turn, attr_marks_in, attrs_in, content_in, left_known, right_known,
+    Content, SideNode, Turn, attr_marks_in, attrs_in, content_in, left_known, right_known,
 };
 use crate::scalar::{all_known, lives};
 use mtn_ancestry::PosSet;

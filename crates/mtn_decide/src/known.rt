@@ -12,7 +12,7 @@ use mtn_roster::{Attr, Body, Entry};
 
 /// A node of a side: its entry and its marking.
 #[derive(Clone, Copy)]
-pub struct Known<'a> {
+pub struct SideNode<'a> {
     pub node: &'a Entry,
     pub marking: &'a Marking,
 }
@@ -20,9 +20,9 @@ pub struct Known<'a> {
 /// A node that one side has, or both.
 #[derive(Clone, Copy)]
 pub enum Turn<'a> {
-    Left(Known<'a>),
-    Right(Known<'a>),
-    Both(Known<'a>, Known<'a>),
+    Left(SideNode<'a>),
+    Right(SideNode<'a>),
+    Both(SideNode<'a>, SideNode<'a>),
 }
 
 /// The content of a file and its marks.
@@ -34,7 +34,7 @@ pub struct Content<'a> {
 
 /// An attribute of a side and its marks.
 #[derive(Clone, Copy)]
-pub struct KnownAttr<'a> {
+pub struct SideAttr<'a> {
     pub attr: &'a Attr,
     pub marks: &'a PosSet,
 }
@@ -42,13 +42,13 @@ pub struct KnownAttr<'a> {
 /// An attribute that one side has, or both.
 #[derive(Clone, Copy)]
 pub enum AttrTurn<'a> {
-    Left(KnownAttr<'a>),
-    Right(KnownAttr<'a>),
-    Both(KnownAttr<'a>, KnownAttr<'a>),
+    Left(SideAttr<'a>),
+    Right(SideAttr<'a>),
+    Both(SideAttr<'a>, SideAttr<'a>),
 }
 
 /// What left has of the node.
-pub fn left_known<'a>(turn: Turn<'a>) -> Option<Known<'a>>
+pub fn left_known<'a>(turn: Turn<'a>) -> Option<SideNode<'a>>
     ensures { option_map seen result ≡ left_of turn.entry }
 {
     match turn {
@@ -59,7 +59,7 @@ pub fn left_known<'a>(turn: Turn<'a>) -> Option<Known<'a>>
 }
 
 /// What right has of the node.
-pub fn right_known<'a>(turn: Turn<'a>) -> Option<Known<'a>>
+pub fn right_known<'a>(turn: Turn<'a>) -> Option<SideNode<'a>>
     ensures { option_map seen result ≡ right_of turn.entry }
 {
     match turn {
@@ -70,7 +70,7 @@ pub fn right_known<'a>(turn: Turn<'a>) -> Option<Known<'a>>
 }
 
 /// The content that a side has of a node, if it has the node and it is a file.
-pub fn content_in<'a>(known: Option<Known<'a>>) -> Option<Content<'a>>
+pub fn content_in<'a>(known: Option<SideNode<'a>>) -> Option<Content<'a>>
     ensures { (n : NodeName) → option_map content_side result ≡ side_of (ContentOf n) (option_map seen known.entry) }
 {
     match known {
@@ -86,7 +86,7 @@ pub fn content_in<'a>(known: Option<Known<'a>>) -> Option<Content<'a>>
 }
 
 /// The attributes that a side has of a node.
-pub fn attrs_in<'a>(known: Option<Known<'a>>) -> &'a [Attr]
+pub fn attrs_in<'a>(known: Option<SideNode<'a>>) -> &'a [Attr]
     ensures { result.now ≡ attrs_of (option_map seen known.entry) }
 {
     match known {
@@ -96,7 +96,7 @@ pub fn attrs_in<'a>(known: Option<Known<'a>>) -> &'a [Attr]
 }
 
 /// Their marks.
-pub fn attr_marks_in<'a>(known: Option<Known<'a>>) -> &'a [AttrMarks]
+pub fn attr_marks_in<'a>(known: Option<SideNode<'a>>) -> &'a [AttrMarks]
     ensures { result.now ≡ marks_of_attrs (option_map seen known.entry) }
 {
     match known {

@@ -19,7 +19,7 @@ use Rattle.mtn_frame.specs.declared.settle.Settled.{Settled}
 use Rattle.mtn_model.specs.declared.status.Status.{Status}
 use Rattle.mtn_model.specs.declared.status.Status.TheVariants as status
 use Rattle.mtn_frame.specs.Kinds.{Kind, Answered, Cut, Halted, Quiet, Hurt, kind_of, ByKind, ByVouch}
-use Rattle.mtn_frame.specs.Outcome.{Outcome}
+use Rattle.mtn_frame.specs.Outcome.{JobOutcome}
 use Rattle.mtn_frame.specs.Script.{refused, usage_line, print_as, Does, BoundsJob, ChangesJob}
 use Rattle.mtn_frame.specs.declared.script.Job.{Job}
 use Rattle.mtn_frame.specs.declared.script.Job.TheVariants.{Call}
@@ -40,9 +40,9 @@ no_text : (text : List ℕ) → text ≡ [] → 0 < length text → ⊥
 no_text text none some = let long : length text ≡ 0 = ap length none in omega (arith, long, some)
 
 module _ {S : Type 0} (Stands : Contents → S → Type 0) (Damages Firsts : Contents → List ℕ → Type 0) (Refuses : Contents → Refusal → Type 0) (Lines : List ℕ → Type 0) {M : Type 0} (Knows : M → Contents → Type 0) {K : Type 0} (contents : K → Option Contents) (leaves : K → Contents → Type 0) (faults asked : K → ℕ)
-    (old mid : K) (m1 : M) (form : Form) (spelled merges vouched : Bool) (Outcomes : S → Outcome S → Type 0) (Bounded : S → ℕ → Type 0) (Changes : Contents → Contents → Type 0) where
+    (old mid : K) (m1 : M) (form : Form) (spelled merges vouched : Bool) (Outcomes : S → JobOutcome S → Type 0) (Bounded : S → ℕ → Type 0) (Changes : Contents → Contents → Type 0) where
   abbrev Answer : Contents → S → Settled → Type 0
-  Answer c s out = (o : Outcome S) × Outcomes s o × (out.status ≡ o.status) × (out.text ≡ print_as form o.status o.output) × Stands (with_all c out.batch) o.state
+  Answer c s out = (o : JobOutcome S) × Outcomes s o × (out.status ≡ o.status) × (out.text ≡ print_as form o.status o.output) × Stands (with_all c out.batch) o.state
 
   -- what is settled by its status alone
   abbrev Quietly : Settled → Status → Type 0
@@ -66,7 +66,7 @@ module _ {S : Type 0} (Stands : Contents → S → Type 0) (Damages Firsts : Con
 
   -- what is settled for a command that vouches for the store, by its status
   abbrev Vouching : Contents → Settled → Status → Type 0
-  Vouching c out st = ByVouch st ((s : S) × (o : Outcome S) × Stands c s × Outcomes s o × (st ≡ o.status) × (out.text ≡ print_as form o.status o.output) × (out.batch ≡ [])) ((refusal : Refusal) × Refuses c refusal × (out.text ≡ print_as form status.Refused (refusal_text refusal))) ((line : List ℕ) × Firsts c line × (out.text ≡ print_as form status.Damaged line))
+  Vouching c out st = ByVouch st ((s : S) × (o : JobOutcome S) × Stands c s × Outcomes s o × (st ≡ o.status) × (out.text ≡ print_as form o.status o.output) × (out.batch ≡ [])) ((refusal : Refusal) × Refuses c refusal × (out.text ≡ print_as form status.Refused (refusal_text refusal))) ((line : List ℕ) × Firsts c line × (out.text ≡ print_as form status.Damaged line))
 
   pub record Prepared (out : Settled) : Type 0 where
     pub stays : Stays contents leaves faults old mid
@@ -427,7 +427,7 @@ module _ {S : Type 0} (Stands : Contents → S → Type 0) (Damages Firsts : Con
 
 -- what a job comes to, by its words
 pub works_call : {S : Type 0} (Stands : Contents → S → Type 0) (Damages Firsts : Contents → List ℕ → Type 0) (Refuses : Contents → Refusal → Type 0) (Lines : List ℕ → Type 0) {M : Type 0} (Knows : M → Contents → Type 0) {K : Type 0} (contents : K → Option Contents) (leaves : K → Contents → Type 0) (faults asked : K → ℕ) (old new : K) (m1 : M)
-    (spelled merging vouching : List (List ℕ) → Bool) (does : List (List ℕ) → List ℕ → S → Outcome S → Type 0) (bounds : List (List ℕ) → List ℕ → S → ℕ → Type 0) (changes : List (List ℕ) → List ℕ → Contents → Contents → Type 0) (job : Job) (words words1 : List (List ℕ)) (payload payload1 : List ℕ) (r : Result Worked WorkError) →
+    (spelled merging vouching : List (List ℕ) → Bool) (does : List (List ℕ) → List ℕ → S → JobOutcome S → Type 0) (bounds : List (List ℕ) → List ℕ → S → ℕ → Type 0) (changes : List (List ℕ) → List ℕ → Contents → Contents → Type 0) (job : Job) (words words1 : List (List ℕ)) (payload payload1 : List ℕ) (r : Result Worked WorkError) →
     job ≡ Call words payload → words1 ≡ words → payload1 ≡ payload → Works Stands Damages Firsts Refuses Lines Knows contents leaves faults asked old new m1 (spelled words1) (merging words1) (vouching words1) (does words1 payload1) (bounds words1 payload1) (changes words1 payload1) r →
     Works Stands Damages Firsts Refuses Lines Knows contents leaves faults asked old new m1 (is_spelled spelled job) (is_merging merging job) (is_vouching vouching job) (Does does job) (BoundsJob bounds job) (ChangesJob changes job) r
 works_call Stands Damages Firsts Refuses Lines Knows contents leaves faults asked old new m1 spelled merging vouching does bounds changes job words words1 payload payload1 r is is_words is_payload works =
@@ -456,7 +456,7 @@ on_err (Ok u) P x = tt
 on_err (Err e) P x = x
 
 module _ {S : Type 0} (Stands : Contents → S → Type 0) (Damages Firsts : Contents → List ℕ → Type 0) (Refuses : Contents → Refusal → Type 0) (Lines : List ℕ → Type 0) {M : Type 0} (Knows : M → Contents → Type 0) {K : Type 0} (contents : K → Option Contents) (leaves : K → Contents → Type 0) (faults asked : K → ℕ)
-    (old mid new : K) (m1 : M) (form : Form) (spelled merges vouched : Bool) (Outcomes : S → Outcome S → Type 0) (Bounded : S → ℕ → Type 0) (Changes : Contents → Contents → Type 0) (r : Result Worked WorkError) (out : Settled) (put : Result (Unit {0}) KeepError)
+    (old mid new : K) (m1 : M) (form : Form) (spelled merges vouched : Bool) (Outcomes : S → JobOutcome S → Type 0) (Bounded : S → ℕ → Type 0) (Changes : Contents → Contents → Type 0) (r : Result Worked WorkError) (out : Settled) (put : Result (Unit {0}) KeepError)
     (works : Works Stands Damages Firsts Refuses Lines Knows contents leaves faults asked old mid m1 spelled merges vouched Outcomes Bounded Changes r) (settles : Settles form r out) (puts : Puts contents leaves faults asked mid new out.batch put) where
   pub one_done : (w0 w1 : Option (List ℕ)) (o0 o1 : ℕ) (result : Status) (text : List ℕ) (u : Unit {0}) → put ≡ Ok u → text ≡ out.text → o0 ≤ o1 → Delivers out.status text w0 w1 o0 o1 result →
       One Stands Damages Firsts Refuses Lines Knows contents leaves faults asked old new m1 w0 w1 o0 o1 form spelled merges vouched Outcomes Bounded Changes result

@@ -13,7 +13,7 @@ use Rattle.mtn_frame.specs.declared.script.Script.TheVariants.{Bare, Framed}
 use Rattle.mtn_model.specs.declared.status.Status.{Status}
 use Rattle.mtn_model.specs.declared.status.Status.TheVariants as status
 use Rattle.mtn_frame.specs.Kinds.{Kind, Answered, Cut, Halted, Quiet, Hurt, kind_of, ByKind, ByVouch}
-use Rattle.mtn_frame.specs.Outcome.{Outcome}
+use Rattle.mtn_frame.specs.Outcome.{JobOutcome}
 use Rattle.mtn_frame.specs.Script.{print_as, Does, BoundsJob, ChangesJob}
 use Rattle.mtn_frame.specs.Works.{is_spelled, is_merging, is_vouching}
 use Rattle.mtn_frame.specs.One.{One, WritesOne}
@@ -88,7 +88,7 @@ session_writes Lines w0 w1 k0 k1 o0 o1 status.Damaged x = tt
 session_writes Lines w0 w1 k0 k1 o0 o1 status.TooLong x = absurd x
 
 module _ {S : Type 0} (Stands : Contents → S → Type 0) (Damages Firsts : Contents → List ℕ → Type 0) (Refuses : Contents → Refusal → Type 0) (Lines : List ℕ → Type 0) {M : Type 0} (Knows : M → Contents → Type 0) {K : Type 0} (contents : K → Option Contents) (leaves : K → Contents → Type 0) (faults asked : K → ℕ)
-    (does : List (List ℕ) → List ℕ → S → Outcome S → Type 0) (bounds : List (List ℕ) → List ℕ → S → ℕ → Type 0) (changes : List (List ℕ) → List ℕ → Contents → Contents → Type 0) (spelled merging vouching : List (List ℕ) → Bool) (old new : K) (m1 : M) (w0 w1 : Option (List ℕ)) (o0 o1 : ℕ) (result : Status) where
+    (does : List (List ℕ) → List ℕ → S → JobOutcome S → Type 0) (bounds : List (List ℕ) → List ℕ → S → ℕ → Type 0) (changes : List (List ℕ) → List ℕ → Contents → Contents → Type 0) (spelled merging vouching : List (List ℕ) → Bool) (old new : K) (m1 : M) (w0 w1 : Option (List ℕ)) (o0 o1 : ℕ) (result : Status) where
   abbrev Target : Script → Type 0
   Target script = RunsScript Stands Damages Firsts Refuses Lines (Does does) (BoundsJob bounds) (ChangesJob changes) contents leaves faults asked old new w0 w1 o0 o1 script (script_spelled spelled script) (script_merging merging script) (script_vouching vouching script) result
 

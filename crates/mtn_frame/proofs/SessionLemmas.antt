@@ -14,7 +14,7 @@ use Rattle.mtn_frame.specs.declared.script.Script.TheVariants.{Framed}
 use Rattle.mtn_model.specs.declared.status.Status.{Status}
 use Rattle.mtn_model.specs.declared.status.Status.TheVariants as status
 use Rattle.mtn_frame.specs.Kinds.{kind_of, ByKind}
-use Rattle.mtn_frame.specs.Outcome.{Outcome}
+use Rattle.mtn_frame.specs.Outcome.{JobOutcome}
 use Rattle.mtn_frame.specs.Script.{Reaches, state_after, texts, texts_from, printed, print_as}
 use Rattle.mtn_frame.specs.One.{One, AnsweredOne, CutOne, WasTold, WritesOne}
 use Rattle.mtn_frame.specs.Frame.{Walked, StandsAfterSome, RunsOver, ShowsLast}
@@ -29,18 +29,18 @@ pub if_some : {A : Type 0} (told : Option A) (P : A → Type 0) → ((x : A) →
 if_some None P fact = tt
 if_some (Some x) P fact = fact x refl
 
-pub reaches_more : {S : Type 0} (Is : Job → S → Outcome S → Type 0) (s : S) (front rest : List Job) (job : Job) (os : List (Outcome S)) (o : Outcome S) → length os ≡ length front → Reaches Is s (front ++ job ∷ rest) os → Is job (state_after s os) o →
+pub reaches_more : {S : Type 0} (Is : Job → S → JobOutcome S → Type 0) (s : S) (front rest : List Job) (job : Job) (os : List (JobOutcome S)) (o : JobOutcome S) → length os ≡ length front → Reaches Is s (front ++ job ∷ rest) os → Is job (state_after s os) o →
     Reaches Is s (front ++ job ∷ rest) (os ++ o ∷ [])
 reaches_more Is s [] rest job [] o long reaches is = (is, tt)
 reaches_more Is s [] rest job (x ∷ os) o long reaches is = absurd (omega (arith, long))
 reaches_more Is s (j ∷ front) rest job [] o long reaches is = absurd (omega (arith, long))
 reaches_more Is s (j ∷ front) rest job (x ∷ os) o long reaches is = (reaches.0, reaches_more Is x.state front rest job os o (omega (arith, long)) reaches.1 is)
 
-pub state_more : {S : Type 0} (s : S) (os : List (Outcome S)) (o : Outcome S) → state_after s (os ++ o ∷ []) ≡ o.state
+pub state_more : {S : Type 0} (s : S) (os : List (JobOutcome S)) (o : JobOutcome S) → state_after s (os ++ o ∷ []) ≡ o.state
 state_more s [] o = refl
 state_more s (x ∷ os) o = state_more x.state os o
 
-pub texts_more : {S : Type 0} (script : Script) (n : ℕ) (os : List (Outcome S)) (o : Outcome S) → texts_from script n (os ++ o ∷ []) ≡ texts_from script n os ++ printed script (n + length os) o
+pub texts_more : {S : Type 0} (script : Script) (n : ℕ) (os : List (JobOutcome S)) (o : JobOutcome S) → texts_from script n (os ++ o ∷ []) ≡ texts_from script n os ++ printed script (n + length os) o
 texts_more script n [] o = append-nil (printed script n o) ∙ ap (λ k. printed script k o) (plus_none n)
   where
     plus_none : (k : ℕ) → k ≡ k + 0
@@ -52,11 +52,11 @@ texts_more script n (x ∷ os) o =
     plus_more : (k m : ℕ) → suc k + m ≡ k + suc m
     plus_more k m = omega arith
 
-length_more : {S : Type 0} (os : List (Outcome S)) (o : Outcome S) → length (os ++ o ∷ []) ≡ suc (length os)
+length_more : {S : Type 0} (os : List (JobOutcome S)) (o : JobOutcome S) → length (os ++ o ∷ []) ≡ suc (length os)
 length_more [] o = refl
 length_more (x ∷ os) o = ap suc (length_more os o)
 
-some_after : {S : Type 0} (Stands : Contents → S → Type 0) (Is : Job → S → Outcome S → Type 0) (s : S) (jobs : List Job) (e : Contents) (os : List (Outcome S)) (o : Outcome S) → Reaches Is s jobs (os ++ o ∷ []) → Stands e o.state → StandsAfterSome Stands Is s jobs e
+some_after : {S : Type 0} (Stands : Contents → S → Type 0) (Is : Job → S → JobOutcome S → Type 0) (s : S) (jobs : List Job) (e : Contents) (os : List (JobOutcome S)) (o : JobOutcome S) → Reaches Is s jobs (os ++ o ∷ []) → Stands e o.state → StandsAfterSome Stands Is s jobs e
 some_after Stands Is s jobs e [] o reaches stands = record { first = o; more = []; reaches = reaches; stands = stands }
 some_after Stands Is s jobs e (x ∷ os) o reaches stands = record { first = x; more = os ++ o ∷ []; reaches = reaches; stands = subst (Stands e) (sym (state_more x.state os o)) stands }
 
@@ -69,7 +69,7 @@ split_at_place (x ∷ xs) (suc n) job inside is =
     (x ∷ more.0, more.1, ap (λ ys. x ∷ ys) more.2, ap suc more.3)
 
 module _ {S : Type 0} (Stands : Contents → S → Type 0) (Damages Firsts : Contents → List ℕ → Type 0) (Refuses : Contents → Refusal → Type 0) (Lines : List ℕ → Type 0) {M : Type 0} (Knows : M → Contents → Type 0) {K : Type 0} (contents : K → Option Contents) (leaves : K → Contents → Type 0) (faults asked : K → ℕ)
-    (Is : Job → S → Outcome S → Type 0) (jobs : List Job) (old : K) (w0 : Option (List ℕ)) (o0 : ℕ) where
+    (Is : Job → S → JobOutcome S → Type 0) (jobs : List Job) (old : K) (w0 : Option (List ℕ)) (o0 : ℕ) where
   -- the first n jobs were done and answered, over records that stand for a state
   pub record WalkedTo (s : S) (d : Contents) (w : Option (List ℕ)) (n : ℕ) : Type 0 where
     pub walked : Walked Stands Is (Framed jobs) s jobs d w0 w
@@ -99,7 +99,7 @@ module _ {S : Type 0} (Stands : Contents → S → Type 0) (Damages Firsts : Con
 
   module _ (cur next : K) (m m1 : M) (w w1 : Option (List ℕ)) (o o1 : ℕ) (front rest : List Job) (job : Job) (is_jobs : jobs ≡ front ++ job ∷ rest) (spelled merges vouched : Bool) (bounded : S → ℕ → Type 0) (changed : Contents → Contents → Type 0) (result : Status)
       (walking : Walking cur m w o (length front)) (one : One Stands Damages Firsts Refuses Lines Knows contents leaves faults asked cur next m1 w w1 o o1 (Numbered (length front)) spelled merges vouched (Is job) bounded changed result) where
-    more_reached : (s : S) (os : List (Outcome S)) (x : Outcome S) → length os ≡ length front → Reaches Is s jobs os → Is job (state_after s os) x → Reaches Is s jobs (os ++ x ∷ [])
+    more_reached : (s : S) (os : List (JobOutcome S)) (x : JobOutcome S) → length os ≡ length front → Reaches Is s jobs os → Is job (state_after s os) x → Reaches Is s jobs (os ++ x ∷ [])
     more_reached s os x long reaches is = subst (λ js. Reaches Is s js (os ++ x ∷ [])) (sym is_jobs) (reaches_more Is s front rest job os x long (subst (λ js. Reaches Is s js os) is_jobs reaches) is)
 
     was : WasTold (contents old) (contents next)
@@ -123,7 +123,7 @@ module _ {S : Type 0} (Stands : Contents → S → Type 0) (Damages Firsts : Con
     -- one more was answered
     answered : (s : S) (c d : Contents) → (at : Between s c d) → AnsweredOne Stands (Is job (state_after s at.2.walked.outcomes)) (Numbered (length front)) d w w1 result → WalkedTo s d w1 (suc (length front))
     answered s c d at a =
-        let os : List (Outcome S) = at.2.walked.outcomes in
+        let os : List (JobOutcome S) = at.2.walked.outcomes in
         record {
           walked = record {
             outcomes = os ++ a.outcome ∷ [];

@@ -14,7 +14,7 @@ use Rattle.mtn_model.specs.declared.status.Status.{Status}
 use Rattle.mtn_model.specs.declared.status.Status.TheVariants as status
 use Rattle.mtn_frame.specs.Kinds.{Kind, Answered, Cut, Halted, Quiet, Hurt, kind_of, ByKind}
 use Rattle.mtn_frame.specs.Limit.{Past, Within}
-use Rattle.mtn_frame.specs.Outcome.{Outcome}
+use Rattle.mtn_frame.specs.Outcome.{JobOutcome}
 use Rattle.mtn_frame.specs.Script.{Does, BoundsJob, ChangesJob, IsScript, IsScriptIf, Reaches, is_session, jobs_of, state_after}
 use Rattle.mtn_frame.specs.Frame.{Told, Counts, IsReached, Shows, Untouched, Meets, LeavesRecords, Writes, keeps, HasCauses, Completes, StaysLawful, LeavesSource, VouchesBare}
 use Rattle.mtn_frame.specs.Session.{RunsScript, AsksFewIf, ChangesIf, VouchesIf, is_framed, script_spelled, script_merging, script_vouching}
@@ -116,7 +116,7 @@ known_by true b c on off = cc
 known_by false true c on off = cc
 known_by false false c on off = cc
 
-module _ {S : Type 0} (Stands : Contents → S → Type 0) (Damages Firsts : Contents → List ℕ → Type 0) (Refuses : Contents → Refusal → Type 0) (Lines : List ℕ → Type 0) (does : List (List ℕ) → List ℕ → S → Outcome S → Type 0) (bounds : List (List ℕ) → List ℕ → S → ℕ → Type 0) (changes : List (List ℕ) → List ℕ → Contents → Contents → Type 0) (takes spelled merging vouching : List (List ℕ) → Bool) (words : List (List ℕ)) where
+module _ {S : Type 0} (Stands : Contents → S → Type 0) (Damages Firsts : Contents → List ℕ → Type 0) (Refuses : Contents → Refusal → Type 0) (Lines : List ℕ → Type 0) (does : List (List ℕ) → List ℕ → S → JobOutcome S → Type 0) (bounds : List (List ℕ) → List ℕ → S → ℕ → Type 0) (changes : List (List ℕ) → List ℕ → Contents → Contents → Type 0) (takes spelled merging vouching : List (List ℕ) → Bool) (words : List (List ℕ)) where
   abbrev Read : Bool
   Read = reads spelled takes words
 
@@ -149,7 +149,7 @@ module _ {S : Type 0} (Stands : Contents → S → Type 0) (Damages Firsts : Con
       absurd (not_past before.left after.left input (subst (λ b. OnTrue b (before.left ≡ Some input)) long.0 tells.left) small long.1)
 
   -- the state that outcomes lead to is reached
-  reached_by : (s : S) (d : Contents) (jobs : List Job) (os : List (Outcome S)) → Reaches (Does does) s jobs os → Stands d (state_after s os) → (t : S) × Stands d t × IsReached (Does does) s t
+  reached_by : (s : S) (d : Contents) (jobs : List Job) (os : List (JobOutcome S)) → Reaches (Does does) s jobs os → Stands d (state_after s os) → (t : S) × Stands d t × IsReached (Does does) s t
   reached_by s d jobs os reaches stands = (state_after s os, stands, record { jobs = jobs; outcomes = os; reaches = reaches; is = refl })
 
   same_lawful : (told : Option Contents) → StaysLawful Stands (Does does) told told

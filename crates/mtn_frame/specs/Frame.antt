@@ -19,7 +19,7 @@ use Rattle.mtn_model.specs.declared.status.Status.TheVariants as status
 use Rattle.mtn_frame.specs.Kinds.{kind_of, ByKind, ByVouch}
 use Rattle.mtn_frame.specs.Limit.{Past, Within}
 use Rattle.mtn_frame.specs.One.{RefusesOne, Vouched}
-use Rattle.mtn_frame.specs.Outcome.{Outcome}
+use Rattle.mtn_frame.specs.Outcome.{JobOutcome}
 use Rattle.mtn_frame.specs.Script.{jobs_of, Reaches, state_after, texts, printed, print_as, ending, usage_line}
 
 -- what the keeper, the source and the sink tell at one moment
@@ -49,46 +49,46 @@ LeavesSource true old new = new ≡ Some []
 LeavesSource false old new = new ≡ old
 
 -- The outcomes of the first jobs of a list: the records stand for the state that they left, and just their answers were written.
-pub record Walked {S : Type 0} (Stands : Contents → S → Type 0) (Is : Job → S → Outcome S → Type 0) (script : Script) (s : S) (jobs : List Job) (d : Contents) (written0 written1 : Option (List ℕ)) : Type 0 where
-  pub outcomes : List (Outcome S)
+pub record Walked {S : Type 0} (Stands : Contents → S → Type 0) (Is : Job → S → JobOutcome S → Type 0) (script : Script) (s : S) (jobs : List Job) (d : Contents) (written0 written1 : Option (List ℕ)) : Type 0 where
+  pub outcomes : List (JobOutcome S)
   pub reaches : Reaches Is s jobs outcomes
   pub stands : Stands d (state_after s outcomes)
   pub written : Appends written0 written1 (texts script outcomes)
 
 -- the same with one more, whose answer was cut short
-pub record WalkedShort {S : Type 0} (Stands : Contents → S → Type 0) (Is : Job → S → Outcome S → Type 0) (script : Script) (s : S) (jobs : List Job) (d : Contents) (written0 written1 : Option (List ℕ)) : Type 0 where
-  pub outcomes : List (Outcome S)
-  pub last : Outcome S
+pub record WalkedShort {S : Type 0} (Stands : Contents → S → Type 0) (Is : Job → S → JobOutcome S → Type 0) (script : Script) (s : S) (jobs : List Job) (d : Contents) (written0 written1 : Option (List ℕ)) : Type 0 where
+  pub outcomes : List (JobOutcome S)
+  pub last : JobOutcome S
   pub reaches : Reaches Is s jobs (outcomes ++ last ∷ [])
   pub stands : Stands d last.state
   pub front : ℕ
   pub written : Appends written0 written1 (texts script outcomes ++ take front (printed script (length outcomes) last))
 
 -- all jobs were done and answered
-pub record WalkedAll {S : Type 0} (Stands : Contents → S → Type 0) (Is : Job → S → Outcome S → Type 0) (script : Script) (s : S) (d : Contents) (written0 written1 : Option (List ℕ)) (result : Status) : Type 0 where
+pub record WalkedAll {S : Type 0} (Stands : Contents → S → Type 0) (Is : Job → S → JobOutcome S → Type 0) (script : Script) (s : S) (d : Contents) (written0 written1 : Option (List ℕ)) (result : Status) : Type 0 where
   pub walked : Walked Stands Is script s (jobs_of script) d written0 written1
   pub all : length walked.outcomes ≡ length (jobs_of script)
   pub status : result ≡ ending script walked.outcomes
 
 -- a bare job that is not answered leaves all as it was
-abbrev pub HasNone : {S : Type 0} → Script → List (Outcome S) → Type 0
+abbrev pub HasNone : {S : Type 0} → Script → List (JobOutcome S) → Type 0
 HasNone (Bare job) outcomes = outcomes ≡ []
 HasNone (Framed jobs) outcomes = ⊤
 
 -- the work was halted: some jobs were done and answered, and no more
-pub record Stopped {S : Type 0} (Stands : Contents → S → Type 0) (Is : Job → S → Outcome S → Type 0) (script : Script) (s : S) (d : Contents) (written0 written1 : Option (List ℕ)) : Type 0 where
+pub record Stopped {S : Type 0} (Stands : Contents → S → Type 0) (Is : Job → S → JobOutcome S → Type 0) (script : Script) (s : S) (d : Contents) (written0 written1 : Option (List ℕ)) : Type 0 where
   pub walked : Walked Stands Is script s (jobs_of script) d written0 written1
   pub none : HasNone script walked.outcomes
 
 -- what the jobs of a script leave over an outside that tells, by the kind of the status
-abbrev pub RunsOver : {S : Type 0} → (Contents → S → Type 0) → (Job → S → Outcome S → Type 0) → Script → S → Contents → Option (List ℕ) → Option (List ℕ) → Status → Type 0
+abbrev pub RunsOver : {S : Type 0} → (Contents → S → Type 0) → (Job → S → JobOutcome S → Type 0) → Script → S → Contents → Option (List ℕ) → Option (List ℕ) → Status → Type 0
 RunsOver Stands Is script s d written0 written1 result =
     ByKind (kind_of result) (WalkedAll Stands Is script s d written0 written1 result) (WalkedShort Stands Is script s (jobs_of script) d written0 written1) (Stopped Stands Is script s d written0 written1) ⊥ ⊥
 
 -- the records stand for the state after some of the jobs, one at least
-pub record StandsAfterSome {S : Type 0} (Stands : Contents → S → Type 0) (Is : Job → S → Outcome S → Type 0) (s : S) (jobs : List Job) (e : Contents) : Type 0 where
-  pub first : Outcome S
-  pub more : List (Outcome S)
+pub record StandsAfterSome {S : Type 0} (Stands : Contents → S → Type 0) (Is : Job → S → JobOutcome S → Type 0) (s : S) (jobs : List Job) (e : Contents) : Type 0 where
+  pub first : JobOutcome S
+  pub more : List (JobOutcome S)
   pub reaches : Reaches Is s jobs (first ∷ more)
   pub stands : Stands e (state_after s (first ∷ more))
 
@@ -98,24 +98,24 @@ pub record Untouched (before after : Told) : Type 0 where
   pub written : after.written ≡ before.written
 
 -- all was done and answered, whole; a source that is read is at its end
-pub record Done {S : Type 0} (Stands : Contents → S → Type 0) (Is : Job → S → Outcome S → Type 0) (IsScript : Script → Type 0) (s : S) (reads : Bool) (before after : Told) (d : Contents) (result : Status) : Type 0 where
+pub record Done {S : Type 0} (Stands : Contents → S → Type 0) (Is : Job → S → JobOutcome S → Type 0) (IsScript : Script → Type 0) (s : S) (reads : Bool) (before after : Told) (d : Contents) (result : Status) : Type 0 where
   pub script : Script
   pub is : IsScript script
   pub all : WalkedAll Stands Is script s d before.written after.written result
   pub source : LeavesSource reads before.left after.left
 
 -- the sink failed: the jobs up to one were done, the answers before that one's stand whole, and a front of it
-pub record CutShort {S : Type 0} (Stands : Contents → S → Type 0) (Is : Job → S → Outcome S → Type 0) (IsScript : Script → Type 0) (s : S) (before after : Told) (d : Contents) : Type 0 where
+pub record CutShort {S : Type 0} (Stands : Contents → S → Type 0) (Is : Job → S → JobOutcome S → Type 0) (IsScript : Script → Type 0) (s : S) (before after : Told) (d : Contents) : Type 0 where
   pub script : Script
   pub is : IsScript script
   pub some : WalkedShort Stands Is script s (jobs_of script) d before.written after.written
 
 -- the store failed or memory was wanting: nothing was done, or some jobs were done and answered, and no more
-abbrev pub StoppedShort : {S : Type 0} → (Contents → S → Type 0) → (Job → S → Outcome S → Type 0) → (Script → Type 0) → S → Told → Told → Contents → Type 0
+abbrev pub StoppedShort : {S : Type 0} → (Contents → S → Type 0) → (Job → S → JobOutcome S → Type 0) → (Script → Type 0) → S → Told → Told → Contents → Type 0
 StoppedShort Stands Is IsScript s before after d = Untouched before after ⊎ ((script : Script) × IsScript script × Stopped Stands Is script s d before.written after.written)
 
 -- Over an outside that tells, and a keeper that still tells at the end.
-abbrev pub Meets : {S : Type 0} → (Contents → S → Type 0) → (Job → S → Outcome S → Type 0) → (List ℕ → Script → Type 0) → Bool → Told → Told → Status → Type 0
+abbrev pub Meets : {S : Type 0} → (Contents → S → Type 0) → (Job → S → JobOutcome S → Type 0) → (List ℕ → Script → Type 0) → Bool → Told → Told → Status → Type 0
 Meets {S} Stands Is IsScript reads before after result = (s : S) (input w : List ℕ) (d : Contents) → Tells Stands reads before s input w → after.contents ≡ Some d →
     ByKind (kind_of result) (Done Stands Is (IsScript input) s reads before after d result) (CutShort Stands Is (IsScript input) s before after d) (StoppedShort Stands Is (IsScript input) s before after d) (Untouched before after) ⊥
 
@@ -196,24 +196,24 @@ pub record NoFault (before after : Counts) : Type 0 where
   pub sink : Rose before.sink after.sink → ⊥
 
 -- where nothing failed and the input is within its limit, all is done and answered, or memory is wanting
-abbrev pub Completes : {S : Type 0} → (Contents → S → Type 0) → (Job → S → Outcome S → Type 0) → (List ℕ → Script → Type 0) → Bool → Told → Told → Counts → Counts → Status → Type 0
+abbrev pub Completes : {S : Type 0} → (Contents → S → Type 0) → (Job → S → JobOutcome S → Type 0) → (List ℕ → Script → Type 0) → Bool → Told → Told → Counts → Counts → Status → Type 0
 Completes {S} Stands Is IsScript reads before after counts0 counts1 result = (s : S) (input w : List ℕ) (d : Contents) → Tells Stands reads before s input w → after.contents ≡ Some d → NoFault counts0 counts1 → length input ≤ MAX_INPUT →
     Done Stands Is (IsScript input) s reads before after d result ⊎ (result ≡ status.NoMemory)
 
 -- a crash leaves what it might have left before, or records that stand for the state after some of the jobs
-abbrev pub Survives : {S : Type 0} → (Contents → S → Type 0) → (Job → S → Outcome S → Type 0) → (List ℕ → Script → Type 0) → Bool → Told → Told → (Contents → Type 0) → (Contents → Type 0) → Type 0
+abbrev pub Survives : {S : Type 0} → (Contents → S → Type 0) → (Job → S → JobOutcome S → Type 0) → (List ℕ → Script → Type 0) → Bool → Told → Told → (Contents → Type 0) → (Contents → Type 0) → Type 0
 Survives {S} Stands Is IsScript reads before after may0 may1 = (s : S) (input w : List ℕ) (d e : Contents) → Tells Stands reads before s input w → after.contents ≡ Some d →
     may1 e → may0 e ⊎ ((script : Script) × IsScript input script × StandsAfterSome Stands Is s (jobs_of script) e)
 
 -- a state that outcomes of some jobs lead to
-pub record IsReached {S : Type 0} (Is : Job → S → Outcome S → Type 0) (s t : S) : Type 0 where
+pub record IsReached {S : Type 0} (Is : Job → S → JobOutcome S → Type 0) (s t : S) : Type 0 where
   pub jobs : List Job
-  pub outcomes : List (Outcome S)
+  pub outcomes : List (JobOutcome S)
   pub reaches : Reaches Is s jobs outcomes
   pub is : t ≡ state_after s outcomes
 
 -- told records that stand for a state go on to stand for one that jobs lead to, whatever the source and the sink do
-abbrev pub StaysLawful : {S : Type 0} → (Contents → S → Type 0) → (Job → S → Outcome S → Type 0) → Option Contents → Option Contents → Type 0
+abbrev pub StaysLawful : {S : Type 0} → (Contents → S → Type 0) → (Job → S → JobOutcome S → Type 0) → Option Contents → Option Contents → Type 0
 StaysLawful {S} Stands Is old new = (c d : Contents) (s : S) → old ≡ Some c → new ≡ Some d → Stands c s → (t : S) × Stands d t × IsReached Is s t
 
 -- a single command asks for no more records than it says, over told records that stand for a state
@@ -227,9 +227,9 @@ ChangesOnly Changes session reads before after = session ≡ false → (c d : Co
 
 -- what a single command that vouches for the store says of told records: that they stand for a state, why it is refused, or their
 -- first damage
-abbrev pub VouchesBare : {S : Type 0} → (Contents → S → Type 0) → (Contents → List ℕ → Type 0) → (Contents → Refusal → Type 0) → (S → Outcome S → Type 0) → Contents → Option (List ℕ) → Option (List ℕ) → Status → Type 0
+abbrev pub VouchesBare : {S : Type 0} → (Contents → S → Type 0) → (Contents → List ℕ → Type 0) → (Contents → Refusal → Type 0) → (S → JobOutcome S → Type 0) → Contents → Option (List ℕ) → Option (List ℕ) → Status → Type 0
 VouchesBare Stands Firsts Refuses Outcomes d written0 written1 result = ByVouch result (Vouched Stands Outcomes Plain d written0 written1 result) (RefusesOne Refuses Plain d written0 written1) (ShowsDamage Firsts d written0 written1)
 
 -- the same of words that vouch, whatever the records are that are told at the end
-abbrev pub Vouches : {S : Type 0} → (Contents → S → Type 0) → (Contents → List ℕ → Type 0) → (Contents → Refusal → Type 0) → (S → Outcome S → Type 0) → Bool → Told → Told → Status → Type 0
+abbrev pub Vouches : {S : Type 0} → (Contents → S → Type 0) → (Contents → List ℕ → Type 0) → (Contents → Refusal → Type 0) → (S → JobOutcome S → Type 0) → Bool → Told → Told → Status → Type 0
 Vouches Stands Firsts Refuses Outcomes vouched before after result = vouched ≡ true → (d : Contents) → after.contents ≡ Some d → VouchesBare Stands Firsts Refuses Outcomes d before.written after.written result

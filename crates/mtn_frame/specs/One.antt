@@ -13,7 +13,7 @@ use Rattle.mtn_frame.specs.declared.script.Form.{Form}
 use Rattle.mtn_model.specs.declared.status.Status.{Status}
 use Rattle.mtn_model.specs.declared.status.Status.TheVariants as status
 use Rattle.mtn_frame.specs.Kinds.{kind_of, ByKind, ByVouch}
-use Rattle.mtn_frame.specs.Outcome.{Outcome}
+use Rattle.mtn_frame.specs.Outcome.{JobOutcome}
 use Rattle.mtn_frame.specs.Script.{usage_line, print_as}
 
 -- contents that are told at the end were told before
@@ -37,16 +37,16 @@ Delivers answered text old new before now result =
     ((result ≡ answered) × Appends old new text) ⊎ ((result ≡ status.SinkFault) × Rose before now × (0 < length text) × ((n : ℕ) × Appends old new (take n text)))
 
 -- its outcome, whole
-pub record AnsweredOne {S : Type 0} (Stands : Contents → S → Type 0) (Is : Outcome S → Type 0) (form : Form) (d : Contents) (written0 written1 : Option (List ℕ)) (result : Status) : Type 0 where
-  pub outcome : Outcome S
+pub record AnsweredOne {S : Type 0} (Stands : Contents → S → Type 0) (Is : JobOutcome S → Type 0) (form : Form) (d : Contents) (written0 written1 : Option (List ℕ)) (result : Status) : Type 0 where
+  pub outcome : JobOutcome S
   pub is : Is outcome
   pub status : result ≡ outcome.status
   pub stands : Stands d outcome.state
   pub written : Appends written0 written1 (print_as form outcome.status outcome.output)
 
 -- its outcome, of which a front was written
-pub record CutOne {S : Type 0} (Stands : Contents → S → Type 0) (Is : Outcome S → Type 0) (form : Form) (d : Contents) (written0 written1 : Option (List ℕ)) : Type 0 where
-  pub outcome : Outcome S
+pub record CutOne {S : Type 0} (Stands : Contents → S → Type 0) (Is : JobOutcome S → Type 0) (form : Form) (d : Contents) (written0 written1 : Option (List ℕ)) : Type 0 where
+  pub outcome : JobOutcome S
   pub is : Is outcome
   pub stands : Stands d outcome.state
   pub front : ℕ
@@ -78,23 +78,23 @@ pub record RefusesOne (Refuses : Contents → Refusal → Type 0) (form : Form) 
   pub written : Appends written0 written1 (print_as form status.Refused (refusal_text refusal))
 
 -- the records stand for a state, over which the command was done and answered whole
-pub record Vouched {S : Type 0} (Stands : Contents → S → Type 0) (Outcomes : S → Outcome S → Type 0) (form : Form) (d : Contents) (written0 written1 : Option (List ℕ)) (result : Status) : Type 0 where
+pub record Vouched {S : Type 0} (Stands : Contents → S → Type 0) (Outcomes : S → JobOutcome S → Type 0) (form : Form) (d : Contents) (written0 written1 : Option (List ℕ)) (result : Status) : Type 0 where
   pub state : S
   pub stands : Stands d state
-  pub outcome : Outcome S
+  pub outcome : JobOutcome S
   pub is : Outcomes state outcome
   pub status : result ≡ outcome.status
   pub written : Appends written0 written1 (print_as form outcome.status outcome.output)
 
 -- the records stand for the state of such an outcome
-pub record StandsAfter {S : Type 0} (Stands : Contents → S → Type 0) (Is : Outcome S → Type 0) (now : Contents) : Type 0 where
-  pub outcome : Outcome S
+pub record StandsAfter {S : Type 0} (Stands : Contents → S → Type 0) (Is : JobOutcome S → Type 0) (now : Contents) : Type 0 where
+  pub outcome : JobOutcome S
   pub is : Is outcome
   pub stands : Stands now outcome.state
 
 pub record One {S : Type 0} (Stands : Contents → S → Type 0) (Damages Firsts : Contents → List ℕ → Type 0) (Refuses : Contents → Refusal → Type 0) (Lines : List ℕ → Type 0) {M : Type 0} (Knows : M → Contents → Type 0)
     {K : Type 0} (contents : K → Option Contents) (leaves : K → Contents → Type 0) (faults asked : K → ℕ) (old new : K) (after : M)
-    (written0 written1 : Option (List ℕ)) (o0 o1 : ℕ) (form : Form) (spelled merges vouched : Bool) (Outcomes : S → Outcome S → Type 0) (Bounded : S → ℕ → Type 0) (Changes : Contents → Contents → Type 0) (result : Status) : Type 0 where
+    (written0 written1 : Option (List ℕ)) (o0 o1 : ℕ) (form : Form) (spelled merges vouched : Bool) (Outcomes : S → JobOutcome S → Type 0) (Bounded : S → ℕ → Type 0) (Changes : Contents → Contents → Type 0) (result : Status) : Type 0 where
   pub told : WasTold (contents old) (contents new)
   pub done : (c d : Contents) (s : S) → contents old ≡ Some c → contents new ≡ Some d → Stands c s →
       ByKind (kind_of result) (AnsweredOne Stands (Outcomes s) form d written0 written1 result) (CutOne Stands (Outcomes s) form d written0 written1) (Stands d s × Appends written0 written1 []) ⊥ ⊥

@@ -3,7 +3,7 @@ use Rattle.std.specs.Prelude.{ℕ, List}
 use Rattle.mtn_model.specs.declared.status.Status.{Status}
 
 -- the new state, the output, and how the job ends
-pub record Outcome (S : Type 0) : Type 0 where
+pub record JobOutcome (S : Type 0) : Type 0 where
   pub state : S
   pub output : List ℕ
   pub status : Status

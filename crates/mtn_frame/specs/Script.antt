@@ -4,7 +4,7 @@ use Rattle.std.specs.Prelude.{◌≡◌, ◌⊎◌, ◌&&◌, ℕ, suc, List, []
 use Rattle.mtn_base.specs.declared.refusal.Refusal.{Refusal}
 use Rattle.mtn_base.specs.declared.refusal.Cause.TheVariants.{BadRequest}
 use Rattle.mtn_base.specs.Refusals.{refusal_text}
-use Rattle.mtn_frame.specs.Outcome.{Outcome}
+use Rattle.mtn_frame.specs.Outcome.{JobOutcome}
 use Rattle.mtn_model.specs.Table.{Contents}
 use Rattle.mtn_model.specs.Outcome.{number_of}
 use Rattle.mtn_frame.specs.declared.script.Job.{Job}
@@ -20,10 +20,10 @@ use Rattle.mtn_frame.specs.Requests.{IsListOf, BreaksAt}
 
 -- what words with a payload come to over a state; one line a command
 abbrev pub Commands : Type 0 → Type 1
-Commands S = List (List ℕ) → List ℕ → S → Outcome S → Type 0
+Commands S = List (List ℕ) → List ℕ → S → JobOutcome S → Type 0
 
 -- the line of a refusal; the state is left
-abbrev pub refused : {S : Type 0} → Refusal → S → Outcome S
+abbrev pub refused : {S : Type 0} → Refusal → S → JobOutcome S
 refused refusal s = record { state = s; output = refusal_text refusal; status = status.Refused }
 
 abbrev pub usage_line : List ℕ
@@ -52,7 +52,7 @@ ChangesJob changing (Call words payload) = changing words payload
 ChangesJob changing (BadInput number) = λ c d. ⊥
 
 -- what a job comes to
-abbrev pub Does : {S : Type 0} → Commands S → Job → S → Outcome S → Type 0
+abbrev pub Does : {S : Type 0} → Commands S → Job → S → JobOutcome S → Type 0
 Does commands (Call words payload) = commands words payload
 Does commands (BadInput number) = λ s o. o ≡ refused (bad_request number) s
 
@@ -61,13 +61,13 @@ jobs_of (Bare job) = job ∷ []
 jobs_of (Framed jobs) = jobs
 
 -- Outcomes of the first jobs, each at the state that the one before left. Nothing is said of the jobs behind them.
-abbrev pub Reaches : {S : Type 0} → (Job → S → Outcome S → Type 0) → S → List Job → List (Outcome S) → Type 0
+abbrev pub Reaches : {S : Type 0} → (Job → S → JobOutcome S → Type 0) → S → List Job → List (JobOutcome S) → Type 0
 Reaches Is s jobs [] = ⊤
 Reaches Is s [] (o ∷ os) = ⊥
 Reaches Is s (job ∷ jobs) (o ∷ os) = Is job s o × Reaches Is o.state jobs os
 
 -- the state that they left
-abbrev pub state_after : {S : Type 0} → S → List (Outcome S) → S
+abbrev pub state_after : {S : Type 0} → S → List (JobOutcome S) → S
 state_after s [] = s
 state_after s (o ∷ os) = state_after o.state os
 
@@ -85,23 +85,23 @@ form_of (Bare job) n = Plain
 form_of (Framed jobs) n = Numbered n
 
 -- the n-th answer
-abbrev pub printed : {S : Type 0} → Script → ℕ → Outcome S → List ℕ
+abbrev pub printed : {S : Type 0} → Script → ℕ → JobOutcome S → List ℕ
 printed script n o = print_as (form_of script n) o.status o.output
 
 -- answers from the n-th on
-abbrev pub texts_from : {S : Type 0} → Script → ℕ → List (Outcome S) → List ℕ
+abbrev pub texts_from : {S : Type 0} → Script → ℕ → List (JobOutcome S) → List ℕ
 texts_from script n [] = []
 texts_from script n (o ∷ os) = printed script n o ++ texts_from script (suc n) os
 
-abbrev pub texts : {S : Type 0} → Script → List (Outcome S) → List ℕ
+abbrev pub texts : {S : Type 0} → Script → List (JobOutcome S) → List ℕ
 texts script outcomes = texts_from script 0 outcomes
 
 -- a single command ends with the status of its outcome, a session with Ok
-abbrev pub last_status : {S : Type 0} → Status → List (Outcome S) → Status
+abbrev pub last_status : {S : Type 0} → Status → List (JobOutcome S) → Status
 last_status before [] = before
 last_status before (o ∷ os) = last_status o.status os
 
-abbrev pub ending : {S : Type 0} → Script → List (Outcome S) → Status
+abbrev pub ending : {S : Type 0} → Script → List (JobOutcome S) → Status
 ending (Bare job) outcomes = last_status status.Ok outcomes
 ending (Framed jobs) outcomes = status.Ok
 

@@ -9,7 +9,7 @@ use Rattle.mtn_frame.specs.declared.script.Script.{Script}
 use Rattle.mtn_frame.specs.declared.script.Script.TheVariants.{Bare, Framed}
 use Rattle.mtn_model.specs.declared.status.Status.{Status}
 use Rattle.mtn_model.specs.declared.status.Status.TheVariants as status
-use Rattle.mtn_frame.specs.Outcome.{Outcome}
+use Rattle.mtn_frame.specs.Outcome.{JobOutcome}
 use Rattle.mtn_frame.specs.Script.{jobs_of}
 use Rattle.mtn_frame.specs.One.{WasTold}
 use Rattle.mtn_frame.specs.Frame.{RunsOver, StandsAfterSome, LeavesRecords, Writes, Shows, ShowsLast, VouchesBare}
@@ -41,7 +41,7 @@ EndsSession k0 k1 o0 o1 status.NoMemory = ⊤
 EndsSession k0 k1 o0 o1 status.Damaged = ⊤
 EndsSession k0 k1 o0 o1 status.TooLong = ⊥
 
-pub record RunsJobs {S : Type 0} (Stands : Contents → S → Type 0) (Damages : Contents → List ℕ → Type 0) (Is : Job → S → Outcome S → Type 0)
+pub record RunsJobs {S : Type 0} (Stands : Contents → S → Type 0) (Damages : Contents → List ℕ → Type 0) (Is : Job → S → JobOutcome S → Type 0)
     {K : Type 0} (contents : K → Option Contents) (leaves : K → Contents → Type 0) (faults : K → ℕ) (old new : K)
     (written0 written1 : Option (List ℕ)) (o0 o1 : ℕ) (jobs : List Job) (result : Status) : Type 0 where
   pub told : WasTold (contents old) (contents new)
@@ -80,12 +80,12 @@ abbrev pub ChangesIf : (Job → Contents → Contents → Type 0) → Script →
 ChangesIf Changes (Bare job) old new = (c d : Contents) → old ≡ Some c → new ≡ Some d → (d ≡ c) ⊎ Changes job c d
 ChangesIf Changes (Framed jobs) old new = ⊤
 
-abbrev pub VouchesIf : {S : Type 0} → (Contents → S → Type 0) → (Contents → List ℕ → Type 0) → (Contents → Refusal → Type 0) → (Job → S → Outcome S → Type 0) → Script → Bool → Option Contents → Option (List ℕ) → Option (List ℕ) → Status → Type 0
+abbrev pub VouchesIf : {S : Type 0} → (Contents → S → Type 0) → (Contents → List ℕ → Type 0) → (Contents → Refusal → Type 0) → (Job → S → JobOutcome S → Type 0) → Script → Bool → Option Contents → Option (List ℕ) → Option (List ℕ) → Status → Type 0
 VouchesIf Stands Firsts Refuses Is (Bare job) vouched new written0 written1 result = vouched ≡ true → (d : Contents) → new ≡ Some d → VouchesBare Stands Firsts Refuses (Is job) d written0 written1 result
 VouchesIf Stands Firsts Refuses Is (Framed jobs) vouched new written0 written1 result = ⊤
 
 -- What a script leaves, once the input was read.
-pub record RunsScript {S : Type 0} (Stands : Contents → S → Type 0) (Damages Firsts : Contents → List ℕ → Type 0) (Refuses : Contents → Refusal → Type 0) (Lines : List ℕ → Type 0) (Is : Job → S → Outcome S → Type 0) (Bounded : Job → S → ℕ → Type 0) (Changes : Job → Contents → Contents → Type 0)
+pub record RunsScript {S : Type 0} (Stands : Contents → S → Type 0) (Damages Firsts : Contents → List ℕ → Type 0) (Refuses : Contents → Refusal → Type 0) (Lines : List ℕ → Type 0) (Is : Job → S → JobOutcome S → Type 0) (Bounded : Job → S → ℕ → Type 0) (Changes : Job → Contents → Contents → Type 0)
     {K : Type 0} (contents : K → Option Contents) (leaves : K → Contents → Type 0) (faults asked : K → ℕ) (old new : K)
     (written0 written1 : Option (List ℕ)) (o0 o1 : ℕ) (script : Script) (spelled merges vouched : Bool) (result : Status) : Type 0 where
   pub told : WasTold (contents old) (contents new)

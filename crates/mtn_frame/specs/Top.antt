@@ -6,7 +6,7 @@ use Rattle.mtn_model.specs.Table.{Contents}
 use Rattle.mtn_frame.specs.declared.script.Job.{Job}
 use Rattle.mtn_frame.specs.declared.script.Script.{Script}
 use Rattle.mtn_model.specs.declared.status.Status.{Status}
-use Rattle.mtn_frame.specs.Outcome.{Outcome}
+use Rattle.mtn_frame.specs.Outcome.{JobOutcome}
 use Rattle.mtn_frame.specs.Script.{is_session}
 use Rattle.mtn_frame.specs.Frame.{Told, Counts, Meets, LeavesRecords, Writes, TellsDamage, HasCauses, Completes, Survives, StaysLawful, AsksFew, ChangesOnly, Vouches}
 
@@ -35,7 +35,7 @@ Feeds true old new payload = Consumes old new payload × IsAtEnd new
 Feeds false old new payload = (payload ≡ []) × (new ≡ old)
 
 -- what words come to with what was given of the source
-abbrev pub ComesTo : {S : Type 0} → (List ℕ → S → Outcome S → Type 0) → Bool → Option (List ℕ) → Option (List ℕ) → S → Outcome S → Type 0
+abbrev pub ComesTo : {S : Type 0} → (List ℕ → S → JobOutcome S → Type 0) → Bool → Option (List ℕ) → Option (List ℕ) → S → JobOutcome S → Type 0
 ComesTo Outcomes reads old new s o = (input : List ℕ) × Feeds reads old new input × Outcomes input s o
 
 -- a source that is not read is as it was
@@ -43,7 +43,7 @@ abbrev pub Unread : Bool → Option (List ℕ) → Option (List ℕ) → Type 0
 Unread reads old new = reads ≡ false → new ≡ old
 
 -- all clauses of the top call
-pub record Runs {S : Type 0} (Stands : Contents → S → Type 0) (Damages Firsts : Contents → List ℕ → Type 0) (Refuses : Contents → Refusal → Type 0) (Lines : List ℕ → Type 0) (Is : Job → S → Outcome S → Type 0) (Bounded : List ℕ → S → ℕ → Type 0) (Changes : List ℕ → Contents → Contents → Type 0) (Outcomes : List ℕ → S → Outcome S → Type 0) (Scripts : List ℕ → Script → Type 0) (session spelled merges vouched read : Bool)
+pub record Runs {S : Type 0} (Stands : Contents → S → Type 0) (Damages Firsts : Contents → List ℕ → Type 0) (Refuses : Contents → Refusal → Type 0) (Lines : List ℕ → Type 0) (Is : Job → S → JobOutcome S → Type 0) (Bounded : List ℕ → S → ℕ → Type 0) (Changes : List ℕ → Contents → Contents → Type 0) (Outcomes : List ℕ → S → JobOutcome S → Type 0) (Scripts : List ℕ → Script → Type 0) (session spelled merges vouched read : Bool)
     (before after : Told) (counts0 counts1 : Counts) (may0 may1 : Contents → Type 0) (result : Status) : Type 0 where
   pub meets : Meets Stands Is Scripts read before after result
   pub same : LeavesRecords session before.contents after.contents result

@@ -17,7 +17,7 @@ use Rattle.mtn_frame.specs.declared.works.WorkError.TheVariants.{Usage, Refused,
 use Rattle.mtn_frame.specs.declared.settle.Settled.{Settled}
 use Rattle.mtn_model.specs.declared.status.Status.{Status}
 use Rattle.mtn_model.specs.declared.status.Status.TheVariants as status
-use Rattle.mtn_frame.specs.Outcome.{Outcome}
+use Rattle.mtn_frame.specs.Outcome.{JobOutcome}
 use Rattle.mtn_frame.specs.Script.{refused, usage_line, print_as}
 
 -- how a reply ends
@@ -25,15 +25,15 @@ abbrev pub reply_status : Reply → Status
 reply_status reply = if reply.conflicts then status.Conflicts else status.Ok
 
 -- the outcome that a reply tells, with this state
-abbrev pub replied : {S : Type 0} → Reply → S → Outcome S
+abbrev pub replied : {S : Type 0} → Reply → S → JobOutcome S
 replied reply t = record { state = t; output = reply.text; status = reply_status reply }
 
 -- words outside the grammar leave the state
-abbrev pub misused : {S : Type 0} → S → Outcome S
+abbrev pub misused : {S : Type 0} → S → JobOutcome S
 misused s = record { state = s; output = usage_line; status = status.Usage }
 
 -- the answer over records that stand for a state: with what is put they stand for the outcome's
-abbrev pub WorksOver : {S : Type 0} → (Contents → S → Type 0) → Contents → S → (Outcome S → Type 0) → Result Worked WorkError → Type 0
+abbrev pub WorksOver : {S : Type 0} → (Contents → S → Type 0) → Contents → S → (JobOutcome S → Type 0) → Result Worked WorkError → Type 0
 WorksOver {S} Stands c s Is (Ok worked) = (t : S) × Is (replied worked.reply t) × Stands (with_all c worked.batch) t
 WorksOver Stands c s Is (Err Usage) = Is (misused s)
 WorksOver Stands c s Is (Err (Refused refusal)) = Is (refused refusal s)
@@ -58,7 +58,7 @@ HasReason spelled merges before now Lines IsDamage (Err NoMemory) = ⊤
 
 -- What a command that vouches for the store says of records, whatever they are: that they stand for a state, over which it did
 -- this and put nothing, that they are of those over which it is refused so, or that this is their first damage.
-abbrev pub VouchesFor : {S : Type 0} → (Contents → S → Type 0) → (Contents → List ℕ → Type 0) → (Contents → Refusal → Type 0) → Contents → (S → Outcome S → Type 0) → Result Worked WorkError → Type 0
+abbrev pub VouchesFor : {S : Type 0} → (Contents → S → Type 0) → (Contents → List ℕ → Type 0) → (Contents → Refusal → Type 0) → Contents → (S → JobOutcome S → Type 0) → Result Worked WorkError → Type 0
 VouchesFor {S} Stands Firsts Refuses c Outcomes (Ok worked) = (s : S) × Stands c s × Outcomes s (replied worked.reply s) × (worked.reply.conflicts ≡ false) × (worked.batch ≡ [])
 VouchesFor Stands Firsts Refuses c Outcomes (Err Usage) = ⊤
 VouchesFor Stands Firsts Refuses c Outcomes (Err (Refused refusal)) = Refuses c refusal
@@ -77,7 +77,7 @@ ChangesBy Changes c (Err e) = ⊤
 -- many records are asked for at most, `Changes` what may become of records.
 pub record Works {S : Type 0} (Stands : Contents → S → Type 0) (Damages Firsts : Contents → List ℕ → Type 0) (Refuses : Contents → Refusal → Type 0) (Lines : List ℕ → Type 0) {M : Type 0} (Knows : M → Contents → Type 0)
     {K : Type 0} (contents : K → Option Contents) (leaves : K → Contents → Type 0) (faults asked : K → ℕ) (old new : K) (after : M)
-    (spelled merges vouched : Bool) (Outcomes : S → Outcome S → Type 0) (Bounded : S → ℕ → Type 0) (Changes : Contents → Contents → Type 0) (result : Result Worked WorkError) : Type 0 where
+    (spelled merges vouched : Bool) (Outcomes : S → JobOutcome S → Type 0) (Bounded : S → ℕ → Type 0) (Changes : Contents → Contents → Type 0) (result : Result Worked WorkError) : Type 0 where
   pub stays : Stays contents leaves faults old new
   pub done : (c : Contents) (s : S) → contents new ≡ Some c → Stands c s → WorksOver Stands c s (Outcomes s) result
   pub knows : (c : Contents) → contents new ≡ Some c → Knows after (with_all c (puts_of result))

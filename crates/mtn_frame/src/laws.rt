@@ -6,7 +6,7 @@ ghost use Rattle.mtn_frame.specs.declared.requests.Request.{Request};
 ghost use Rattle.mtn_frame.specs.declared.script.Job.{Job};
 ghost use Rattle.mtn_model.specs.declared.status.Status.{Status};
 ghost use Rattle.mtn_frame.specs.Requests.{IsListOf, BreaksAt};
-ghost use Rattle.mtn_frame.specs.Outcome.{Outcome};
+ghost use Rattle.mtn_frame.specs.Outcome.{JobOutcome};
 ghost use Rattle.mtn_frame.specs.Script.{Does, IsScript};
 ghost use Rattle.mtn_frame.specs.Frame.{WalkedAll, WalkedShort, Stopped, StandsAfterSome};
 
@@ -25,11 +25,11 @@ pub fn one_reading()
 /// state and wrote nothing; a crash leaves records that stand for its state.
 pub fn single_command<C: Commands>(commands: &C)
     ensures done { (job : Job) (s : C.State) (d : Contents) (w0 w1 : Option (List ℕ)) (result : Status) → WalkedAll (C.stands commands.now) (Does (C.does commands.now)) (Script.Bare job) s d w0 w1 result →
-        (o : Outcome C.State) × Does (C.does commands.now) job s o × (result ≡ o.status) × C.stands commands.now d o.state × Appends w0 w1 o.output }
+        (o : JobOutcome C.State) × Does (C.does commands.now) job s o × (result ≡ o.status) × C.stands commands.now d o.state × Appends w0 w1 o.output }
     ensures cut { (job : Job) (s : C.State) (d : Contents) (w0 w1 : Option (List ℕ)) → WalkedShort (C.stands commands.now) (Does (C.does commands.now)) (Script.Bare job) s (job ∷ []) d w0 w1 →
-        (o : Outcome C.State) × Does (C.does commands.now) job s o × C.stands commands.now d o.state × ((front : ℕ) × Appends w0 w1 (take front o.output)) }
+        (o : JobOutcome C.State) × Does (C.does commands.now) job s o × C.stands commands.now d o.state × ((front : ℕ) × Appends w0 w1 (take front o.output)) }
     ensures halted { (job : Job) (s : C.State) (d : Contents) (w0 w1 : Option (List ℕ)) → Stopped (C.stands commands.now) (Does (C.does commands.now)) (Script.Bare job) s d w0 w1 →
         C.stands commands.now d s × Appends w0 w1 [] }
     ensures crash { (job : Job) (s : C.State) (e : Contents) → StandsAfterSome (C.stands commands.now) (Does (C.does commands.now)) s (job ∷ []) e →
-        (o : Outcome C.State) × Does (C.does commands.now) job s o × C.stands commands.now e o.state }
+        (o : JobOutcome C.State) × Does (C.does commands.now) job s o × C.stands commands.now e o.state }
 {}

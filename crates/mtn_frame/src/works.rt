@@ -1,7 +1,7 @@
 //! What does the commands.
 ghost use Rattle.std.specs.Prelude.{◌≡◌, ℕ, List as Seq, Bool, IfOk, IfSome};
 ghost use Rattle.mtn_model.specs.Table.{Contents};
-ghost use Rattle.mtn_frame.specs.Outcome.{Outcome};
+ghost use Rattle.mtn_frame.specs.Outcome.{JobOutcome};
 ghost use Rattle.mtn_base.specs.declared.refusal.Refusal.{Refusal};
 ghost use Rattle.mtn_frame.specs.Works.{Works};
 
@@ -60,7 +60,7 @@ pub trait Commands {
     ghost stands: { Self → Contents → Self.State → Type 0 };
 
     /// What words with a payload come to over a state, one line a command.
-    ghost does: { Self → Seq (Seq ℕ) → Seq ℕ → Self.State → Outcome Self.State → Type 0 };
+    ghost does: { Self → Seq (Seq ℕ) → Seq ℕ → Self.State → JobOutcome Self.State → Type 0 };
 
     /// A line shows a damage of contents.
     ghost damages: { Self → Contents → Seq ℕ → Type 0 };

@@ -4,7 +4,7 @@ use Rattle.std.specs.Prelude.{◌==◌}
 use Rattle.std.proofs.lemmas.Bool.{cases_lt}
 use Rattle.std.proofs.lemmas.Bool.Decides.{nat_tests}
 use Rattle.mtn_base.specs.declared.refusal.Cause.TheVariants.{StoreNotEmpty}
-use Rattle.mtn_generated.specs.Growing.{Answer, Generates, Grows, Stop, Unless}
+use Rattle.mtn_generated.specs.Growing.{GrowthAnswer, Generates, Grows, Stop, Unless}
 use Rattle.mtn_generated.specs.Growing.Stop.{Refused}
 use Rattle.mtn_model.specs.State.{State}
 
@@ -15,7 +15,7 @@ stays f s m (suc n) stop most is = elim (cases_lt n m) [
   | inr before ↦ (Err stop, stays f s m n stop before is, refl)
 ]
 
-pub not_empty : (f : List ℕ → List ℕ) (n : ℕ) (s : State) (answer : Answer) → 0 < length s.log → Generates f n s answer → answer ≡ Err (Refused (StoreNotEmpty (length s.log)))
+pub not_empty : (f : List ℕ → List ℕ) (n : ℕ) (s : State) (answer : GrowthAnswer) → 0 < length s.log → Generates f n s answer → answer ≡ Err (Refused (StoreNotEmpty (length s.log)))
 not_empty f n s answer some is = by (length s.log == 0) refl is
   where
     by : (b : Bool) → (length s.log == 0) ≡ b → Unless (cond b None (Some (StoreNotEmpty (length s.log)))) (Grows f s n) answer → answer ≡ Err (Refused (StoreNotEmpty (length s.log)))

@@ -15,7 +15,7 @@ ghost use Rattle.mtn_base.specs.declared.id.Id.{Id};
 ghost use Rattle.mtn_base.specs.declared.refusal.Cause.{Cause};
 ghost use Rattle.mtn_base.specs.declared.refusal.Cause.TheVariants.{StoreNotEmpty};
 ghost use Rattle.mtn_changes.specs.declared.change.Edge.{Edge};
-ghost use Rattle.mtn_generated.specs.Growing.{Answer, Generates, Grows, Stop};
+ghost use Rattle.mtn_generated.specs.Growing.{GrowthAnswer, Generates, Grows, Stop};
 ghost use Rattle.mtn_generated.specs.Growing.Stop.{Refused};
 ghost use Rattle.mtn_generated.specs.Numbered.{directory_at, edge_fault, file_at, file_text, files_to, merges_to, work_at};
 ghost use Rattle.mtn_generated.specs.Numbered.Work.{Patches, Renames};
@@ -56,7 +56,7 @@ pub fn faults_are_refusals()
 
 /// Where the log has a revision, their number is the refusal.
 pub fn log_must_be_empty()
-    ensures { (f : List ℕ → List ℕ) (n : ℕ) (s : State) (answer : Answer) → 0 < length s.log → Generates f n s answer → answer ≡ Err (Refused (StoreNotEmpty (length s.log))) }
+    ensures { (f : List ℕ → List ℕ) (n : ℕ) (s : State) (answer : GrowthAnswer) → 0 < length s.log → Generates f n s answer → answer ≡ Err (Refused (StoreNotEmpty (length s.log))) }
 {}
 
 /// What has stopped at a revision stays so, however many more were asked for.

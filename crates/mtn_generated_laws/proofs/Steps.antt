@@ -6,14 +6,14 @@ use Rattle.mtn_base.specs.Hex.{id_of}
 use Rattle.mtn_base.specs.declared.id.Id.{Id}
 use Rattle.mtn_base.specs.declared.refusal.Cause.{Cause}
 use Rattle.mtn_certs.specs.Certificates.{IsIdBytes}
-use Rattle.mtn_generated.specs.Growing.{Adds, AddsWork, Answer, Carries, Grown, Grows, MergesTips, Onward, PutsEdge, PutsText, files_refusal, grown, grown_or, with_files}
+use Rattle.mtn_generated.specs.Growing.{Adds, AddsWork, GrowthAnswer, Carries, Grown, Grows, MergesTips, Onward, PutsEdge, PutsText, files_refusal, grown, grown_or, with_files}
 use Rattle.mtn_generated.specs.Numbered.{Tips, Work, edge_fault, edge_of, edge_text, files_of, no_tips, tips_after, work_at, work_by}
 use Rattle.mtn_generated.specs.Numbered.Work.{Begins, Joins, Patches, Renames, Sets}
 use Rattle.mtn_generated.proofs.Counted.{later, split}
 use Rattle.mtn_history_laws.specs.History.{Revision}
 use Rattle.mtn_model.specs.State.{State}
 use Rattle.mtn_plans.specs.Plans.{Plan}
-use Rattle.mtn_plans.specs.declared.outcome.Outcome.TheVariants.{Conflicted, Merged}
+use Rattle.mtn_plans.specs.declared.outcome.MergeOutcome.TheVariants.{Conflicted, Merged}
 use Rattle.mtn_replay.specs.Accepting.{Decides}
 use Rattle.mtn_replay.specs.Lawful.{IsHistory}
 use Rattle.mtn_step_laws.proofs.LawfulGrowth.{went_on}
@@ -92,7 +92,7 @@ pub record HasGrown (f : List ℕ → List ℕ) (s : State) (n : ℕ) (g : Grown
 pub last_of : (f : List ℕ → List ℕ) (s : State) (n : ℕ) (g : Grown) → Grows f s (suc n) (Ok g) → HasGrown f s n g
 last_of f s n g is = by is.0 is.1 is.2
   where
-    by : (before : Answer) → Grows f s n before → Onward before (Adds f (suc n) (work_at (suc n))) (Ok g) → HasGrown f s n g
+    by : (before : GrowthAnswer) → Grows f s n before → Onward before (Adds f (suc n) (work_at (suc n))) (Ok g) → HasGrown f s n g
     by (Err stop) grew on = absurd cc
     by (Ok b) grew on = record { before = b; grew = grew; adds = on }
 

@@ -11,7 +11,7 @@ use Rattle.mtn_changeset_laws.specs.Changes.{tree_after}
 use Rattle.mtn_conflicts.specs.declared.lists.Conflicts.{Conflicts}
 use Rattle.mtn_decide.specs.Decisions.{IsInOrder, Merge}
 use Rattle.mtn_decide.specs.Graph.{IsMergeOf}
-use Rattle.mtn_generated.specs.Growing.{Adds, AddsWork, Answer, Carries, Generates, Grown, Grows, MergesTips, Onward, PutsEdge, PutsText, Stop, Unless, files_refusal, grown, grown_or, store_refusal, with_files}
+use Rattle.mtn_generated.specs.Growing.{Adds, AddsWork, GrowthAnswer, Carries, Generates, Grown, Grows, MergesTips, Onward, PutsEdge, PutsText, Stop, Unless, files_refusal, grown, grown_or, store_refusal, with_files}
 use Rattle.mtn_generated.specs.Growing.Stop.{Conflicting}
 use Rattle.mtn_generated.specs.Numbered.{Tips, Work, changes_of, content_of, edge_fault, edge_of, edge_text, file_at, files_of, path_at, tips_after, work_at}
 use Rattle.mtn_generated.specs.Numbered.Work.{Begins, Joins, Patches, Renames, Sets}
@@ -20,7 +20,7 @@ use Rattle.mtn_model.specs.State.{State}
 use Rattle.mtn_model.specs.Table.{Table}
 use Rattle.mtn_plans.specs.Plans.{Ends, EndsUnless, Merges, Plan, PlansGiven, PlansPayload, PlansSides, Unless as UnlessPlan, limit_refusal, merge_text, merged_or}
 use Rattle.mtn_plans.specs.Sides.{left_of, right_of, side_refusal}
-use Rattle.mtn_plans.specs.declared.outcome.Outcome.TheVariants.{Conflicted, Merged}
+use Rattle.mtn_plans.specs.declared.outcome.MergeOutcome.TheVariants.{Conflicted, Merged}
 use Rattle.mtn_replay.specs.Lawful.{IsHistory}
 use Rattle.mtn_replay.specs.Making.{place_of}
 use Rattle.mtn_replay.proofs.Histories.{history_is_grown}
@@ -178,7 +178,7 @@ module _ (f : List ℕ → List ℕ) (makes : (text : List ℕ) → IsIdBytes (f
 -- ---- what stops
 
 module _ (f : List ℕ → List ℕ) (l r : Id) (c : Conflicts) where
-  abbrev torn : Answer
+  abbrev torn : GrowthAnswer
   torn = Err (Conflicting l r c)
 
   no_text : (work : Work) (tips : Tips) (s : State) (text : List ℕ) → PutsText f work tips s text torn → ⊥
@@ -235,7 +235,7 @@ module _ (f : List ℕ → List ℕ) (l r : Id) (c : Conflicts) where
     no_growth zero small is = absurd cc
     no_growth (suc n) small is = by is.0 is.1 is.2 (λ grows. no_growth n (omega (arith, small)) grows)
       where
-        by : (before : Answer) → Grows f s n before → Onward before (Adds f (suc n) (work_at (suc n))) torn → (Grows f s n torn → ⊥) → ⊥
+        by : (before : GrowthAnswer) → Grows f s n before → Onward before (Adds f (suc n) (work_at (suc n))) torn → (Grows f s n torn → ⊥) → ⊥
         by (Err stop) grew on earlier = earlier (subst (λ (x : Stop). Grows f s n (Err x)) (let same : stop ≡ Conflicting l r c = cc in same) grew)
         by (Ok g) grew on earlier = no_adding (suc n) (work_at (suc n)) g (λ joins h spelled. pair_before f makes s n g (omega (arith, small)) joins grew h spelled) on
 

@@ -16,7 +16,7 @@ ghost use Rattle.mtn_conflicts.specs.Lists.{AreConflictsOf, IsNone};
 ghost use Rattle.mtn_conflicts.specs.declared.lists.Conflicts.{Conflicts};
 ghost use Rattle.mtn_decide.specs.Decisions.{IsInOrder, Merge};
 ghost use Rattle.mtn_decide.specs.Graph.{IsMergeOf};
-ghost use Rattle.mtn_generated.specs.Growing.{Answer, Generates, Grown};
+ghost use Rattle.mtn_generated.specs.Growing.{GrowthAnswer, Generates, Grown};
 ghost use Rattle.mtn_generated.specs.Growing.Stop.{Conflicting};
 ghost use Rattle.mtn_generated.specs.Numbered.{Tips, Work, changes_of, edge_of, files_of, work_at};
 ghost use Rattle.mtn_generated.specs.Numbered.Work.{Begins, Joins};
@@ -28,12 +28,12 @@ ghost use Rattle.mtn_replay.specs.Lawful.{IsLawful, Keeps};
 
 /// Generating a number of revisions over a state comes to one thing at most.
 pub fn one_generation()
-    ensures { (f : List ℕ → List ℕ) (n : ℕ) (s : State) (a b : Answer) → Generates f n s a → Generates f n s b → a ≡ b }
+    ensures { (f : List ℕ → List ℕ) (n : ℕ) (s : State) (a b : GrowthAnswer) → Generates f n s a → Generates f n s b → a ≡ b }
 {}
 
 /// Over a lawful state it comes to something.
 pub fn some_generation()
-    ensures { (f : List ℕ → List ℕ) (n : ℕ) (s : State) → IsLawful f s → (answer : Answer) × Generates f n s answer }
+    ensures { (f : List ℕ → List ℕ) (n : ℕ) (s : State) → IsLawful f s → (answer : GrowthAnswer) × Generates f n s answer }
 {}
 
 /// The state with all revisions is lawful.

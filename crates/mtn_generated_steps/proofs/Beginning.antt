@@ -11,7 +11,7 @@ use Rattle.mtn_changes.specs.declared.change.Edge.{Edge}
 use Rattle.mtn_changes.specs.declared.change.Revision.{Revision as Spelled}
 use Rattle.mtn_changes.proofs.OneValue.{same_revision}
 use Rattle.mtn_changeset_laws.specs.Changes.{first_fault, or_else, tree_after}
-use Rattle.mtn_generated.specs.Growing.{Adds, Answer, Grown, files_refusal, grown, with_files}
+use Rattle.mtn_generated.specs.Growing.{Adds, GrowthAnswer, Grown, files_refusal, grown, with_files}
 use Rattle.mtn_generated.specs.Numbered.{Tips, content_of, edge_of, edge_text, file_text, files_of, no_id, no_tips, ten, tips_after}
 use Rattle.mtn_generated.specs.Numbered.Work.{Begins}
 use Rattle.mtn_generated_laws.proofs.Children.{placed}
@@ -35,7 +35,7 @@ use Rattle.mtn_generated_steps.proofs.First.{form, new, new_sane}
 use Rattle.mtn_generated_steps.proofs.Lengthening.{lengthened}
 use Rattle.mtn_generated_steps.proofs.Moving.{Comes, behind_files}
 use Rattle.mtn_generated_steps.proofs.Short.{all_few, edge_short, file_short}
-use Rattle.mtn_generated_steps.proofs.Stages.{Stands}
+use Rattle.mtn_generated_steps.proofs.Stages.{WorkStands}
 use Rattle.mtn_generated_steps.proofs.Twins.{same_manifest}
 
 short_files : (js : List ℕ) → AllByRecursion (λ j. j < 10) js → AllByRecursion (λ text. length text ≤ 67108864) (map (λ j. file_text j 0) js)
@@ -111,7 +111,7 @@ module _ (f : List ℕ → List ℕ) where
             manifest = ap manifest_of (tree_is h (id_of (f text))) ∙ same_manifest f (id_of (f text)) no_id (makes text).twenty refl ∙ sym (ap manifest_of (tree_is h no_id));
           }
 
-      begun : (g : Grown) → IsEdgePut f Begins no_tips behind g 1 → Stands f Begins 1 g
+      begun : (g : Grown) → IsEdgePut f Begins no_tips behind g 1 → WorkStands f Begins 1 g
       begun g put =
           let one = one_history f behind.files behind.log put.history h put.spelled law_behind.log in
           let decides : Decides f behind text None g.state = subst (λ k. Decides f behind (edge_text f k e) None g.state) one put.put.decides in
@@ -137,12 +137,12 @@ module _ (f : List ℕ → List ℕ) where
             };
           }
 
-    pub first_step : (answer : Answer) → Adds f 1 Begins start answer → Comes (Stands f Begins 1) answer
-    first_step answer adds = behind_files f 1 Begins start (λ b. cc) answer (short_files ten all_few) adds (Stands f Begins 1)
+    pub first_step : (answer : GrowthAnswer) → Adds f 1 Begins start answer → Comes (WorkStands f Begins 1) answer
+    first_step answer adds = behind_files f 1 Begins start (λ b. cc) answer (short_files ten all_few) adds (WorkStands f Begins 1)
         (λ fine puts put.
         let leave = ap (λ (x : List Logged). length x) (files_leave f texts s) in
         to fine (edge_put f behind (h fine) (law_behind fine).log (omega (arith, leave, empty)) Begins no_tips 1 (applies fine) answer puts) put)
       where
-        to : (fine : files_refusal f s texts ≡ None) → IsPutOrCollides answer → ((g : Grown) → answer ≡ Ok g → IsEdgePut f Begins no_tips behind g 1) → Comes (Stands f Begins 1) answer
+        to : (fine : files_refusal f s texts ≡ None) → IsPutOrCollides answer → ((g : Grown) → answer ≡ Ok g → IsEdgePut f Begins no_tips behind g 1) → Comes (WorkStands f Begins 1) answer
         to fine (inl a) put = inl (a.0, a.1, begun fine a.0 (put a.0 a.1))
         to fine (inr c) put = inr c

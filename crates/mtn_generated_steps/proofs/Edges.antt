@@ -13,7 +13,7 @@ use Rattle.mtn_changes.specs.declared.change.Revision.{Revision as Spelled}
 use Rattle.mtn_changes.specs.declared.error.ChangeTextError.TheVariants as error
 use Rattle.mtn_changes.proofs.OneValue.{no_revision_fault, same_revision}
 use Rattle.mtn_changeset_laws.specs.Laws.{IsFresh}
-use Rattle.mtn_generated.specs.Growing.{Answer, Grown, PutsEdge, PutsText, Unless, grown, grown_or}
+use Rattle.mtn_generated.specs.Growing.{GrowthAnswer, Grown, PutsEdge, PutsText, Unless, grown, grown_or}
 use Rattle.mtn_generated.specs.Numbered.{Tips, Work, edge_fault, edge_of, edge_text, no_id, tips_after}
 use Rattle.mtn_generated_trees.specs.Joined.{IsCollision}
 use Rattle.mtn_history_laws.specs.History.{Revision}
@@ -43,7 +43,7 @@ pub record Applies (f : List ℕ → List ℕ) (s : State) (h : List Revision) (
   pub paths : (x : Id) → IsFresh h x → too_long (edge_tree h x e) ≡ None
   pub manifest : manifest_of (edge_tree h (id_of (f (edge_text f h e))) e) ≡ manifest_of (edge_tree h no_id e)
 
-abbrev pub IsPutOrCollides : Answer → Type 0
+abbrev pub IsPutOrCollides : GrowthAnswer → Type 0
 IsPutOrCollides answer = ((g : Grown) × (answer ≡ Ok g)) ⊎ IsCollision answer
 
 no_cause : (c : Cause) → fault_cause error.NoMemory ≡ Some c → ⊥
@@ -103,7 +103,7 @@ module _ (f : List ℕ → List ℕ) (s : State) (h : List Revision) (is : IsHis
       let one : z.history ≡ h = one_history f s.files s.log z.history h z.spelled is in
       subst IsFine (sym (z.is ∙ (λ x. refusal_beside (text_under s.log (f text)) f s.files (one x) text (read x)))) (beside (text_under s.log (f text)) refl)
 
-  put : (answer : Answer) → PutsText f work tips s text answer → IsPutOrCollides answer
+  put : (answer : GrowthAnswer) → PutsText f work tips s text answer → IsPutOrCollides answer
   put answer p = by p.refusal (told p.refusal p.after p.decides) p.is
     where
       by : (refusal : Option Cause) → IsFine refusal → answer ≡ grown_or refusal (grown p.after (tips_after work new tips)) → IsPutOrCollides answer
@@ -113,7 +113,7 @@ module _ (f : List ℕ → List ℕ) (s : State) (h : List Revision) (is : IsHis
   fault : edge_fault h e ≡ None
   fault = join_none (unknown_parent h (e ∷ [])) (bad_change h 1 (e ∷ [])) applies.parent applies.changes
 
-  pub edge_put : (answer : Answer) → PutsEdge f work tips s n answer → IsPutOrCollides answer
+  pub edge_put : (answer : GrowthAnswer) → PutsEdge f work tips s n answer → IsPutOrCollides answer
   edge_put answer p =
       let one = one_history f s.files s.log p.history h p.spelled is in
       let puts = subst (λ g. Unless (edge_fault g e) (PutsText f work tips s (edge_text f g e)) answer) one p.puts in

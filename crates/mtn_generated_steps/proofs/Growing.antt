@@ -10,7 +10,7 @@ use Rattle.mtn_base.specs.declared.refusal.Cause.{Cause}
 use Rattle.mtn_base.specs.declared.refusal.Cause.TheVariants.{Collision, StoreNotEmpty}
 use Rattle.mtn_base.proofs.IdOrder.{contains_head}
 use Rattle.mtn_certs.specs.Certificates.{IsIdBytes}
-use Rattle.mtn_generated.specs.Growing.{Adds, Answer, Generates, Grown, Grows, Onward, Stop, Unless, store_refusal}
+use Rattle.mtn_generated.specs.Growing.{Adds, GrowthAnswer, Generates, Grown, Grows, Onward, Stop, Unless, store_refusal}
 use Rattle.mtn_generated.specs.Growing.Stop.{Refused}
 use Rattle.mtn_generated.specs.Numbered.{Work, file_at, file_text, files_of, work_at, work_by}
 use Rattle.mtn_generated.specs.Numbered.Work.{Begins, Joins, Patches, Renames, Sets}
@@ -24,7 +24,7 @@ use Rattle.mtn_step_laws.proofs.LawfulGrowth.{lawful_growth}
 use Rattle.mtn_step_laws.proofs.SomeGeneration.{some_of}
 use Rattle.mtn_generated_steps.proofs.Beginning.{first_step}
 use Rattle.mtn_generated_steps.proofs.Moving.{Comes}
-use Rattle.mtn_generated_steps.proofs.Stages.{BothAhead, LeftAhead, OneTip, Stands, StandsBy, merge_step, patch_step, rename_step, set_step}
+use Rattle.mtn_generated_steps.proofs.Stages.{BothAhead, LeftAhead, OneTip, WorkStands, StandsBy, merge_step, patch_step, rename_step, set_step}
 
 -- ---- what the revision before one did
 
@@ -78,11 +78,11 @@ first_text (suc (suc (suc (suc (suc (suc (suc (suc (suc (suc j)))))))))) few = a
 
 module _ (f : List ℕ → List ℕ) (makes : (text : List ℕ) → IsIdBytes (f text)) (s : State) (law : IsLawful f s) where
   -- what has grown, and the next revision
-  record IsReady (i : ℕ) (g : Grown) (w : Work) (answer : Answer) : Type 0 where
+  record IsReady (i : ℕ) (g : Grown) (w : Work) (answer : GrowthAnswer) : Type 0 where
     some : 0 < i
     low : i < 2147483648
     grows : Grows f s i (Ok g)
-    stands : Stands f (work_at i) i g
+    stands : WorkStands f (work_at i) i g
     adds : Adds f (suc i) w g answer
     is : work_at (suc i) ≡ w
 
@@ -105,38 +105,38 @@ module _ (f : List ℕ → List ℕ) (makes : (text : List ℕ) → IsIdBytes (f
   one_tip v i g (inr (inl e)) by = subst (λ w. StandsBy f w i g) e by
   one_tip v i g (inr (inr e)) by = subst (λ w. StandsBy f w i g) e by
 
-  module _ (g : Grown) (answer : Answer) where
-    patches : (i : ℕ) → IsReady i g Patches answer → IsPrior Patches (work_at i) → Comes (Stands f Patches (suc i)) answer
+  module _ (g : Grown) (answer : GrowthAnswer) where
+    patches : (i : ℕ) → IsReady i g Patches answer → IsPrior Patches (work_at i) → Comes (WorkStands f Patches (suc i)) answer
     patches i r before =
         let tip = one_tip (work_at i) i g (⊎_elim (λ a. inl a) (λ b. inr (inl b)) before) r.stands.by in
         patch_step f makes i r.some r.low g (lawful_growth f s i g law r.grows) r.stands.room tip (tips_are_ids f makes s i g r.grows) r.is (was_held i g r.some r.grows r.is) answer r.adds
 
-    renames : (i : ℕ) → IsReady i g Renames answer → IsPrior Renames (work_at i) → Comes (Stands f Renames (suc i)) answer
+    renames : (i : ℕ) → IsReady i g Renames answer → IsPrior Renames (work_at i) → Comes (WorkStands f Renames (suc i)) answer
     renames i r before =
         let tip = one_tip (work_at i) i g (inr (inr before)) r.stands.by in
         rename_step f makes i r.some r.low g (lawful_growth f s i g law r.grows) r.stands.room tip (tips_are_ids f makes s i g r.grows) r.is answer r.adds
 
-    sets_at : (k : ℕ) → LeftAhead f k g → IsReady (suc k) g Sets answer → work_at (suc k) ≡ Patches → Comes (Stands f Sets (suc (suc k))) answer
+    sets_at : (k : ℕ) → LeftAhead f k g → IsReady (suc k) g Sets answer → work_at (suc k) ≡ Patches → Comes (WorkStands f Sets (suc (suc k))) answer
     sets_at zero ahead r before = absurd (let z : Begins ≡ Patches = before in cc)
     sets_at (suc k) ahead r before =
         set_step f makes (suc k) (omega arith) r.low g (lawful_growth f s (suc (suc k)) g law r.grows) r.stands.room ahead (tips_are_ids f makes s (suc (suc k)) g r.grows) before r.is answer r.adds
 
-    sets : (i : ℕ) → IsReady i g Sets answer → work_at i ≡ Patches → Comes (Stands f Sets (suc i)) answer
+    sets : (i : ℕ) → IsReady i g Sets answer → work_at i ≡ Patches → Comes (WorkStands f Sets (suc i)) answer
     sets i r before =
         let by : StandsBy f Patches i g = subst (λ w. StandsBy f w i g) before r.stands.by in
-        subst (λ n. Comes (Stands f Sets (suc n)) answer) (sym by.1) (sets_at by.0 by.2 (subst (λ n. IsReady n g Sets answer) by.1 r) (ap work_at (sym by.1) ∙ before))
+        subst (λ n. Comes (WorkStands f Sets (suc n)) answer) (sym by.1) (sets_at by.0 by.2 (subst (λ n. IsReady n g Sets answer) by.1 r) (ap work_at (sym by.1) ∙ before))
 
-    joins_at : (k : ℕ) → BothAhead f k g → IsReady (suc (suc k)) g Joins answer → work_at (suc (suc k)) ≡ Sets → Comes (Stands f Joins (suc (suc (suc k)))) answer
+    joins_at : (k : ℕ) → BothAhead f k g → IsReady (suc (suc k)) g Joins answer → work_at (suc (suc k)) ≡ Sets → Comes (WorkStands f Joins (suc (suc (suc k)))) answer
     joins_at zero ahead r before = absurd (let z : Patches ≡ Sets = before in cc)
     joins_at (suc k) ahead r before =
         merge_step f makes (suc k) (omega arith) r.low g (lawful_growth f s (suc (suc (suc k))) g law r.grows) r.stands.room ahead before r.is answer r.adds
 
-    joins : (i : ℕ) → IsReady i g Joins answer → work_at i ≡ Sets → Comes (Stands f Joins (suc i)) answer
+    joins : (i : ℕ) → IsReady i g Joins answer → work_at i ≡ Sets → Comes (WorkStands f Joins (suc i)) answer
     joins i r before =
         let by : StandsBy f Sets i g = subst (λ w. StandsBy f w i g) before r.stands.by in
-        subst (λ n. Comes (Stands f Joins (suc n)) answer) (sym by.1) (joins_at by.0 by.2 (subst (λ n. IsReady n g Joins answer) by.1 r) (ap work_at (sym by.1) ∙ before))
+        subst (λ n. Comes (WorkStands f Joins (suc n)) answer) (sym by.1) (joins_at by.0 by.2 (subst (λ n. IsReady n g Joins answer) by.1 r) (ap work_at (sym by.1) ∙ before))
 
-    next_step : (i : ℕ) (w : Work) → IsReady i g w answer → IsPrior w (work_at i) → Comes (Stands f w (suc i)) answer
+    next_step : (i : ℕ) (w : Work) → IsReady i g w answer → IsPrior w (work_at i) → Comes (WorkStands f w (suc i)) answer
     next_step i Begins r before = absurd before
     next_step i Patches r before = patches i r before
     next_step i Sets r before = sets i r before
@@ -146,12 +146,12 @@ module _ (f : List ℕ → List ℕ) (makes : (text : List ℕ) → IsIdBytes (f
   -- ---- all revisions
 
   module _ (empty : length s.log ≡ 0) where
-    stands_at : (n : ℕ) → suc n ≤ 2147483648 → (answer : Answer) → Grows f s (suc n) answer → Comes (Stands f (work_at (suc n)) (suc n)) answer
-    stands_at zero low answer is = first_step f makes s law empty answer (subst (λ (before : Answer). Onward before (Adds f 1 Begins) answer) is.1 is.2)
+    stands_at : (n : ℕ) → suc n ≤ 2147483648 → (answer : GrowthAnswer) → Grows f s (suc n) answer → Comes (WorkStands f (work_at (suc n)) (suc n)) answer
+    stands_at zero low answer is = first_step f makes s law empty answer (subst (λ (before : GrowthAnswer). Onward before (Adds f 1 Begins) answer) is.1 is.2)
     stands_at (suc n) low answer is = by is.0 is.1 is.2 (stands_at n (omega (arith, low)) is.0 is.1)
       where
-        by : (before : Answer) → Grows f s (suc n) before → Onward before (Adds f (suc (suc n)) (work_at (suc (suc n)))) answer → Comes (Stands f (work_at (suc n)) (suc n)) before → Comes (Stands f (work_at (suc (suc n))) (suc (suc n))) answer
-        by before grew on (inr c) = inr (c.0, subst (λ (x : Answer). Onward x (Adds f (suc (suc n)) (work_at (suc (suc n)))) answer) c.1 on)
+        by : (before : GrowthAnswer) → Grows f s (suc n) before → Onward before (Adds f (suc (suc n)) (work_at (suc (suc n)))) answer → Comes (WorkStands f (work_at (suc n)) (suc n)) before → Comes (WorkStands f (work_at (suc (suc n))) (suc (suc n))) answer
+        by before grew on (inr c) = inr (c.0, subst (λ (x : GrowthAnswer). Onward x (Adds f (suc (suc n)) (work_at (suc (suc n)))) answer) c.1 on)
         by before grew on (inl a) =
             next_step a.0 answer (suc n) (work_at (suc (suc n)))
             record {
@@ -159,7 +159,7 @@ module _ (f : List ℕ → List ℕ) (makes : (text : List ℕ) → IsIdBytes (f
               low = omega (arith, low);
               grows = subst (Grows f s (suc n)) a.1 grew;
               stands = a.2;
-              adds = subst (λ (x : Answer). Onward x (Adds f (suc (suc n)) (work_at (suc (suc n)))) answer) a.1 on;
+              adds = subst (λ (x : GrowthAnswer). Onward x (Adds f (suc (suc n)) (work_at (suc (suc n)))) answer) a.1 on;
               is = refl;
             }
             (prior n (work_at (suc (suc n))) refl)
@@ -168,7 +168,7 @@ module _ (f : List ℕ → List ℕ) (makes : (text : List ℕ) → IsIdBytes (f
     stops zero low stop is = absurd cc
     stops (suc n) low stop is = by (stands_at n low (Err stop) is)
       where
-        by : Comes (Stands f (work_at (suc n)) (suc n)) (Err stop) → (id : Id) × (stop ≡ Refused (Collision id))
+        by : Comes (WorkStands f (work_at (suc n)) (suc n)) (Err stop) → (id : Id) × (stop ≡ Refused (Collision id))
         by (inl a) = absurd (let z = a.1 in cc)
         by (inr c) = (c.0, (let z = c.1 in let same : stop ≡ Refused (Collision c.0) = cc in same))
 
@@ -181,6 +181,6 @@ module _ (f : List ℕ → List ℕ) (makes : (text : List ℕ) → IsIdBytes (f
     pub all_or_collision : (n : ℕ) → n ≤ 2147483648 → ((g : Grown) × Generates f n s (Ok g)) ⊎ ((id : Id) × Generates f n s (Err (Refused (Collision id))))
     all_or_collision n low = let some = some_of f n s law in by some.0 some.1
       where
-        by : (answer : Answer) → Generates f n s answer → ((g : Grown) × Generates f n s (Ok g)) ⊎ ((id : Id) × Generates f n s (Err (Refused (Collision id))))
+        by : (answer : GrowthAnswer) → Generates f n s answer → ((g : Grown) × Generates f n s (Ok g)) ⊎ ((id : Id) × Generates f n s (Err (Refused (Collision id))))
         by (Ok g) is = inl (g, is)
         by (Err stop) is = let c = only_collisions n low stop is in inr (c.0, subst (λ (x : Stop). Generates f n s (Err x)) c.1 is)

@@ -13,7 +13,7 @@ use Rattle.mtn_changeset_laws.specs.Changes.{Fault, first_fault, or_else, tree_a
 use Rattle.mtn_changeset_laws.specs.Laws.{IsFresh, NoneBornIn, RenamesDiffer}
 use Rattle.mtn_changeset_laws.proofs.AfterSane.{after_is_sane}
 use Rattle.mtn_changeset_laws.proofs.Stepping.{unborn_at}
-use Rattle.mtn_generated.specs.Growing.{Adds, AddsWork, Answer, Grown, PutsEdge, Unless, files_refusal, with_files}
+use Rattle.mtn_generated.specs.Growing.{Adds, AddsWork, GrowthAnswer, Grown, PutsEdge, Unless, files_refusal, with_files}
 use Rattle.mtn_generated.specs.Growing.Stop.{Refused}
 use Rattle.mtn_generated.specs.Numbered.{Tips, Work, changes_of, edge_of, edge_text, files_of, no_id, parent_of, tips_after}
 use Rattle.mtn_generated.specs.Numbered.Work.{Begins, Joins, Patches, Renames, Sets}
@@ -45,7 +45,7 @@ pub record FitsTree (f : List ℕ → List ℕ) (t : Tree) (changes : List Chang
   pub same : (x y : Id) → tree_after t changes x ≡ tree_after t changes y
 
 -- what a step comes to
-abbrev pub Comes : (Grown → Type 0) → Answer → Type 0
+abbrev pub Comes : (Grown → Type 0) → GrowthAnswer → Type 0
 Comes Is answer = ((g : Grown) × (answer ≡ Ok g) × Is g) ⊎ IsCollision answer
 
 -- a revision that was put behind its parent
@@ -135,7 +135,7 @@ module _ (f : List ℕ → List ℕ) (s : State) (law : IsLawful f s) (h : List 
         form = subst (IsFormed f i m) (sym (child.tree ∙ ap (λ u. tree_after u changes (id_of (f text))) tree)) (fits.form (id_of (f text)) unborn);
       }
 
-  pub edge_moves : (answer : Answer) → PutsEdge f work tips s n answer → ((g : Grown) → answer ≡ Ok g → IsEdgePut f work tips s g n) → Comes (IsMoved f s h work tips parent place changes i m) answer
+  pub edge_moves : (answer : GrowthAnswer) → PutsEdge f work tips s n answer → ((g : Grown) → answer ≡ Ok g → IsEdgePut f work tips s g n) → Comes (IsMoved f s h work tips parent place changes i m) answer
   edge_moves answer puts put = by (edge_put f s h is room work tips n applies answer puts)
     where
       by : ((g : Grown) × (answer ≡ Ok g)) ⊎ IsCollision answer → Comes (IsMoved f s h work tips parent place changes i m) answer
@@ -148,7 +148,7 @@ module _ (f : List ℕ → List ℕ) (n : ℕ) (work : Work) (g : Grown) (other 
   abbrev behind : State
   behind = with_files f g.state (files_of n work)
 
-  as_edge : (w : Work) → w ≢ Joins → (answer : Answer) → AddsWork f n g.tips (with_files f g.state (files_of n w)) w answer → PutsEdge f w g.tips (with_files f g.state (files_of n w)) n answer
+  as_edge : (w : Work) → w ≢ Joins → (answer : GrowthAnswer) → AddsWork f n g.tips (with_files f g.state (files_of n w)) w answer → PutsEdge f w g.tips (with_files f g.state (files_of n w)) n answer
   as_edge Joins differ answer adds = absurd (differ refl)
   as_edge Begins differ answer adds = adds
   as_edge Patches differ answer adds = adds
@@ -156,7 +156,7 @@ module _ (f : List ℕ → List ℕ) (n : ℕ) (work : Work) (g : Grown) (other 
   as_edge Renames differ answer adds = adds
 
   -- its files collide, or it is put
-  pub behind_files : (answer : Answer) → AllByRecursion (λ text. length text ≤ 67108864) (files_of n work) → Adds f n work g answer → (Is : Grown → Type 0) →
+  pub behind_files : (answer : GrowthAnswer) → AllByRecursion (λ text. length text ≤ 67108864) (files_of n work) → Adds f n work g answer → (Is : Grown → Type 0) →
       (files_refusal f g.state (files_of n work) ≡ None → PutsEdge f work g.tips behind n answer → ((h : Grown) → answer ≡ Ok h → IsEdgePut f work g.tips behind h n) → Comes Is answer) → Comes Is answer
   behind_files answer short adds Is then = by (files_refusal f g.state (files_of n work)) refl adds
     where

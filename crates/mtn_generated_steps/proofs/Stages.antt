@@ -8,7 +8,7 @@ use Rattle.mtn_base.specs.declared.refusal.Cause.TheVariants.{UnknownFile}
 use Rattle.mtn_base.proofs.IdOrder.{contains_head}
 use Rattle.mtn_certs.specs.Certificates.{IsIdBytes}
 use Rattle.mtn_changeset_laws.specs.Changes.{tree_after}
-use Rattle.mtn_generated.specs.Growing.{Adds, Answer, Grown, files_refusal, with_files}
+use Rattle.mtn_generated.specs.Growing.{Adds, GrowthAnswer, Grown, files_refusal, with_files}
 use Rattle.mtn_generated.specs.Numbered.{Tips, Work, changes_of, content_of, directory_at, edge_of, file_at, file_text, path_at, work_at}
 use Rattle.mtn_generated.specs.Numbered.Work.{Begins, Joins, Patches, Renames, Sets}
 use Rattle.mtn_generated.proofs.Texts.{differ as texts_differ}
@@ -88,7 +88,7 @@ module _ (f : List ℕ → List ℕ) where
   StandsBy Patches n g = (i : ℕ) × (n ≡ suc i) × LeftAhead i g
   StandsBy Sets n g = (i : ℕ) × (n ≡ suc (suc i)) × BothAhead i g
 
-  pub record Stands (w : Work) (n : ℕ) (g : Grown) : Type 0 where
+  pub record WorkStands (w : Work) (n : ℕ) (g : Grown) : Type 0 where
     pub room : length g.state.log ≤ n
     pub by : StandsBy w n g
 
@@ -141,7 +141,7 @@ module _ (f : List ℕ → List ℕ) (makes : (text : List ℕ) → IsIdBytes (f
       abbrev Moved : Grown → Type 0
       Moved h = IsMoved f s tip.history Patches g.tips g.tips.left tip.place (changes_of f (suc i) Patches) (suc i) tip.attrs h
 
-      stands : (h : Grown) → Moved h → Stands f Patches (suc i) h
+      stands : (h : Grown) → Moved h → WorkStands f Patches (suc i) h
       stands h m =
           let grown_more = history_is_grown f h.state.files h.state.log m.history m.spelled in
           let left : m.id ≡ h.tips.left = sym (ap (λ (x : Tips). x.left) m.behind) in
@@ -170,8 +170,8 @@ module _ (f : List ℕ → List ℕ) (makes : (text : List ℕ) → IsIdBytes (f
             );
           }
 
-    pub patch_step : (answer : Answer) → Adds f (suc i) Patches g answer → Comes (Stands f Patches (suc i)) answer
-    patch_step answer adds = behind_files f (suc i) Patches g (λ e. cc) answer (file_short j (suc i) (omega (arith, few)) (omega (arith, low)), tt) adds (Stands f Patches (suc i))
+    pub patch_step : (answer : GrowthAnswer) → Adds f (suc i) Patches g answer → Comes (WorkStands f Patches (suc i)) answer
+    patch_step answer adds = behind_files f (suc i) Patches g (λ e. cc) answer (file_short j (suc i) (omega (arith, few)) (omega (arith, low)), tt) adds (WorkStands f Patches (suc i))
         (λ fine puts put.
         let leave = files_leave f its_files g.state in
         let same = ap (λ (l : List Logged). length l) leave in
@@ -179,7 +179,7 @@ module _ (f : List ℕ → List ℕ) (makes : (text : List ℕ) → IsIdBytes (f
         (later_spells f makes tip.history (suc i) Patches g.tips (omega (arith, low)) ids.left ids.right (λ e. cc) (λ e. cc))
         (edge_short f makes tip.history (suc i) Patches g.tips (omega (arith, low)) (λ e. absurd cc) ids.left ids.right) answer puts put))
       where
-        to : (fine : files_refusal f g.state its_files ≡ None) → Comes (Moved fine) answer → Comes (Stands f Patches (suc i)) answer
+        to : (fine : files_refusal f g.state its_files ≡ None) → Comes (Moved fine) answer → Comes (WorkStands f Patches (suc i)) answer
         to fine (inl a) = inl (a.0, a.1, stands fine a.0 a.2)
         to fine (inr c) = inr c
 
@@ -198,7 +198,7 @@ module _ (f : List ℕ → List ℕ) (makes : (text : List ℕ) → IsIdBytes (f
     abbrev Renamed : Grown → Type 0
     Renamed h = IsMoved f g.state tip.history Renames g.tips g.tips.left tip.place (changes_of f (suc i) Renames) (suc i) tip.attrs h
 
-    renamed_stands : (h : Grown) → Renamed h → Stands f Renames (suc i) h
+    renamed_stands : (h : Grown) → Renamed h → WorkStands f Renames (suc i) h
     renamed_stands h m =
         let left : m.id ≡ h.tips.left = sym (ap (λ (x : Tips). x.left) m.behind) in
         record {
@@ -215,13 +215,13 @@ module _ (f : List ℕ → List ℕ) (makes : (text : List ℕ) → IsIdBytes (f
           };
         }
 
-    pub rename_step : (answer : Answer) → Adds f (suc i) Renames g answer → Comes (Stands f Renames (suc i)) answer
-    rename_step answer adds = behind_files f (suc i) Renames g (λ e. cc) answer tt adds (Stands f Renames (suc i))
+    pub rename_step : (answer : GrowthAnswer) → Adds f (suc i) Renames g answer → Comes (WorkStands f Renames (suc i)) answer
+    rename_step answer adds = behind_files f (suc i) Renames g (λ e. cc) answer tt adds (WorkStands f Renames (suc i))
         (λ fine puts put. to (edge_moves f g.state law tip.history tip.spelled (omega (arith, room, low)) Renames g.tips (suc i) g.tips.left tip.place refl tip.at (suc i) tip.attrs moves refl
         (later_spells f makes tip.history (suc i) Renames g.tips (omega (arith, low)) ids.left ids.right (λ e. cc) (λ e. cc))
         (edge_short f makes tip.history (suc i) Renames g.tips (omega (arith, low)) (λ e. absurd cc) ids.left ids.right) answer puts put))
       where
-        to : Comes Renamed answer → Comes (Stands f Renames (suc i)) answer
+        to : Comes Renamed answer → Comes (WorkStands f Renames (suc i)) answer
         to (inl a) = inl (a.0, a.1, renamed_stands a.0 a.2)
         to (inr c) = inr c
 
@@ -262,7 +262,7 @@ module _ (f : List ℕ → List ℕ) (makes : (text : List ℕ) → IsIdBytes (f
         let contents = sym b.2.content ∙ ap (λ (e : Entry). e.body) one ∙ a.2.content in
         ahead.differ (ap (content_of f j) (sym (named_before i work_before)) ∙ same_file contents ∙ ap (content_of f j) (at_patch (suc i) j (patches_it (suc i) j work_before refl)))
 
-    set_stands : (h : Grown) → GotSet h → Stands f Sets n h
+    set_stands : (h : Grown) → GotSet h → WorkStands f Sets n h
     set_stands h m =
         let grown_more = history_is_grown f h.state.files h.state.log m.history m.spelled in
         let left : h.tips.left ≡ g.tips.left = ap (λ (x : Tips). x.left) m.behind in
@@ -297,13 +297,13 @@ module _ (f : List ℕ → List ℕ) (makes : (text : List ℕ) → IsIdBytes (f
           );
         }
 
-    pub set_step : (answer : Answer) → Adds f n Sets g answer → Comes (Stands f Sets n) answer
-    set_step answer adds = behind_files f n Sets g (λ e. cc) answer tt adds (Stands f Sets n)
+    pub set_step : (answer : GrowthAnswer) → Adds f n Sets g answer → Comes (WorkStands f Sets n) answer
+    set_step answer adds = behind_files f n Sets g (λ e. cc) answer tt adds (WorkStands f Sets n)
         (λ fine puts put. to (edge_moves f g.state law ahead.history ahead.spelled (omega (arith, room, low)) Sets g.tips n g.tips.right ahead.parent refl ahead.at.right_at i n gives refl
         (later_spells f makes ahead.history n Sets g.tips (omega (arith, low)) ids.left ids.right (λ e. cc) (λ e. cc))
         (edge_short f makes ahead.history n Sets g.tips (omega (arith, low)) (λ e. absurd cc) ids.left ids.right) answer puts put))
       where
-        to : Comes GotSet answer → Comes (Stands f Sets n) answer
+        to : Comes GotSet answer → Comes (WorkStands f Sets n) answer
         to (inl a) = inl (a.0, a.1, set_stands a.0 a.2)
         to (inr c) = inr c
 
@@ -311,7 +311,7 @@ module _ (f : List ℕ → List ℕ) (makes : (text : List ℕ) → IsIdBytes (f
 
   module _ (i : ℕ) (some : 0 < i) (low : suc (suc i) < 2147483648) (g : Grown) (law : IsLawful f g.state) (room : length g.state.log ≤ suc (suc i)) (ahead : BothAhead f i g)
       (work_before : work_at (suc (suc i)) ≡ Sets) (work : work_at (suc (suc (suc i))) ≡ Joins) where
-    joined_stands : (h : Grown) → IsOneTip f (suc i) (suc (suc i)) g.state h → Stands f Joins (suc (suc (suc i))) h
+    joined_stands : (h : Grown) → IsOneTip f (suc i) (suc (suc i)) g.state h → WorkStands f Joins (suc (suc (suc i))) h
     joined_stands h tip = record {
       room = let longer = tip.longer in omega (arith, longer, room);
       by = record {
@@ -327,10 +327,10 @@ module _ (f : List ℕ → List ℕ) (makes : (text : List ℕ) → IsIdBytes (f
       };
     }
 
-    pub merge_step : (answer : Answer) → Adds f (suc (suc (suc i))) Joins g answer → Comes (Stands f Joins (suc (suc (suc i)))) answer
+    pub merge_step : (answer : GrowthAnswer) → Adds f (suc (suc (suc i))) Joins g answer → Comes (WorkStands f Joins (suc (suc (suc i)))) answer
     merge_step answer adds = to (joined f makes g.state law ahead.history ahead.spelled (omega (arith, room, low)) g.tips ahead.parent ahead.left ahead.right ahead.at ahead.kin (suc i) ahead.attrs i (suc (suc i))
         (omega (arith, low)) (let most = ahead.most in omega (arith, most, low)) (omega (arith, low)) (omega (arith, low)) ahead.of_left ahead.of_right answer adds)
       where
-        to : IsJoined f (suc i) (suc (suc i)) g.state answer → Comes (Stands f Joins (suc (suc (suc i)))) answer
+        to : IsJoined f (suc i) (suc (suc i)) g.state answer → Comes (WorkStands f Joins (suc (suc (suc i)))) answer
         to (inl a) = inl (a.0, a.1, joined_stands a.0 a.2)
         to (inr c) = inr c

@@ -15,7 +15,7 @@ use Rattle.mtn_changes.specs.declared.change.Revision.{Revision as Spelled}
 use Rattle.mtn_changes.specs.declared.error.ChangeTextError.TheVariants as error
 use Rattle.mtn_changes.proofs.OneValue.{no_revision_fault, same_revision}
 use Rattle.mtn_conflicts.specs.Result.{result_of}
-use Rattle.mtn_generated.specs.Growing.{Answer, Carries, MergesTips, PutsText, grown, grown_or}
+use Rattle.mtn_generated.specs.Growing.{GrowthAnswer, Carries, MergesTips, PutsText, grown, grown_or}
 use Rattle.mtn_generated.specs.Numbered.{Tips, tips_after}
 use Rattle.mtn_generated.specs.Numbered.Work.{Joins}
 use Rattle.mtn_history_laws.specs.History.{IsGrown, IsPlaceOf, Revision, revision_tree, tree_at}
@@ -25,7 +25,7 @@ use Rattle.mtn_order.specs.Free.{MakesIds}
 use Rattle.mtn_planned_trees.proofs.Ordering.{lesser}
 use Rattle.mtn_plans.specs.Plans.{Merges, Plan, merge_revision, merge_text, merged_or}
 use Rattle.mtn_plans.specs.Sides.{left_of, right_of}
-use Rattle.mtn_plans.specs.declared.outcome.Outcome.TheVariants.{Merged}
+use Rattle.mtn_plans.specs.declared.outcome.MergeOutcome.TheVariants.{Merged}
 use Rattle.mtn_replay.specs.Accepting.{Decides, fault_cause, logged_beside, refusal_beside}
 use Rattle.mtn_replay.specs.Lawful.{IsHistory, IsLawful, IsNext, Spells}
 use Rattle.mtn_replay.specs.Making.{log_full, made, place_of}
@@ -176,7 +176,7 @@ module _ (f : List ℕ → List ℕ) (ids : MakesIds f) (s : State) (law : IsLaw
           form = subst (IsFormed f i n) (sym (ap revision_tree v.1 ∙ it.1)) form;
         }
 
-    answered : (answer : Answer) → PutsText f Joins tips s text answer → IsJoined f i n s answer
+    answered : (answer : GrowthAnswer) → PutsText f Joins tips s text answer → IsJoined f i n s answer
     answered answer put = by (text_under s.log (f text)) refl
       where
         t : IsTold put.refusal put.after
@@ -204,7 +204,7 @@ module _ (f : List ℕ → List ℕ) (ids : MakesIds f) (s : State) (law : IsLaw
             let more : put.after ≡ logged_beside None f s text = t.leaves ∙ ap (λ o. logged_beside o f s text) e in
             inl (grown (logged_beside None f s text) one_tip, said None (logged_beside None f s text) none more, added fresh)
 
-  pub joined : (answer : Answer) → MergesTips f Joins tips s answer → IsJoined f i n s answer
+  pub joined : (answer : GrowthAnswer) → MergesTips f Joins tips s answer → IsJoined f i n s answer
   joined answer does =
       let same = one_history f s.files s.log does.history h does.spelled is in
       let u = planned h gr p l r kin tips.left tips.right at.left_at at.right_at f s.files does.plan (subst (λ g. Merges f s.files g tips.left tips.right false [] does.plan) same does.planned) in

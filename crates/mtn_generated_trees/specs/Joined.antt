@@ -2,7 +2,7 @@
 use Rattle.std.specs.Prelude.{◌≡◌, ◌≤◌, ◌⊎◌, ℕ, suc, List, length, Some, Ok, Err}
 use Rattle.mtn_base.specs.declared.id.Id.{Id}
 use Rattle.mtn_base.specs.declared.refusal.Cause.TheVariants.{Collision}
-use Rattle.mtn_generated.specs.Growing.{Answer, Grown}
+use Rattle.mtn_generated.specs.Growing.{GrowthAnswer, Grown}
 use Rattle.mtn_generated.specs.Growing.Stop.{Refused}
 use Rattle.mtn_generated.specs.Numbered.{Tips}
 use Rattle.mtn_generated_trees.specs.Formed.{IsFormed}
@@ -28,8 +28,8 @@ pub record IsOneTip (f : List ℕ → List ℕ) (i m : ℕ) (s : State) (g : Gro
   pub form : IsFormed f i m (tree_at history place)
 
 -- the text that was made has another's id
-abbrev pub IsCollision : Answer → Type 0
+abbrev pub IsCollision : GrowthAnswer → Type 0
 IsCollision answer = (id : Id) × (answer ≡ Err (Refused (Collision id)))
 
-abbrev pub IsJoined : (List ℕ → List ℕ) → ℕ → ℕ → State → Answer → Type 0
+abbrev pub IsJoined : (List ℕ → List ℕ) → ℕ → ℕ → State → GrowthAnswer → Type 0
 IsJoined f i m s answer = ((g : Grown) × (answer ≡ Ok g) × IsOneTip f i m s g) ⊎ IsCollision answer

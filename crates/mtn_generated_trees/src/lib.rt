@@ -17,7 +17,7 @@ ghost use Rattle.mtn_changes.specs.declared.change.Change.TheVariants.{Patch, Se
 ghost use Rattle.mtn_changeset_laws.specs.Changes.{tree_after};
 ghost use Rattle.mtn_conflicts.specs.Result.{result_of};
 ghost use Rattle.mtn_decide.specs.Decisions.{Merge};
-ghost use Rattle.mtn_generated.specs.Growing.{Answer, MergesTips};
+ghost use Rattle.mtn_generated.specs.Growing.{GrowthAnswer, MergesTips};
 ghost use Rattle.mtn_generated.specs.Numbered.{Tips, work_at};
 ghost use Rattle.mtn_generated.specs.Numbered.Work.{Joins, Renames};
 ghost use Rattle.mtn_generated_trees.specs.Formed.{IsFormed, is_patch};
@@ -81,7 +81,7 @@ pub fn merge_texts_are_short()
 /// Over a lawful state whose log has room, a merge of tips of the form comes to one tip of the form, with the names and contents of
 /// left and the attributes of right; or to a collision.
 pub fn merges_join_the_tips()
-    ensures { (f : List ℕ → List ℕ) (s : State) (h : List Revision) (tips : Tips) (parent left right i m k n : ℕ) (answer : Answer) → MakesIds f → IsLawful f s → IsHistory f s.files s.log h →
+    ensures { (f : List ℕ → List ℕ) (s : State) (h : List Revision) (tips : Tips) (parent left right i m k n : ℕ) (answer : GrowthAnswer) → MakesIds f → IsLawful f s → IsHistory f s.files s.log h →
         length s.log < MAX_LOG → AreAt h tips left right → AreTips h parent left right → i < 2 ^ 64 → m < 2 ^ 64 → k < 2 ^ 64 → n < 2 ^ 64 →
         IsFormed f i m (tree_at h left) → IsFormed f k n (tree_at h right) → MergesTips f Joins tips s answer → IsJoined f i n s answer }
 {}

@@ -7,7 +7,7 @@ use Rattle.mtn_conflicts.specs.ConflictText.{IsLesser}
 use Rattle.mtn_conflicts.specs.declared.lists.Conflicts.{Conflicts}
 use Rattle.mtn_base.specs.declared.refusal.Cause.{Cause}
 use Rattle.mtn_generated.specs.Growing.Stop.{Refused}
-use Rattle.mtn_generated.specs.Growing.{Adds, AddsWork, Answer, MergesTips, PutsEdge, PutsText, Unless, files_refusal, grown, with_files}
+use Rattle.mtn_generated.specs.Growing.{Adds, AddsWork, GrowthAnswer, MergesTips, PutsEdge, PutsText, Unless, files_refusal, grown, with_files}
 use Rattle.mtn_generated.specs.Numbered.{Work as GeneratedWork, edge_fault, edge_of, edge_text, files_of, no_id, tips_after}
 use Rattle.mtn_generated.specs.Numbered.Work.{Begins as GeneratedBegins, Patches as GeneratedPatches, Sets as GeneratedSets, Joins as GeneratedJoins, Renames as GeneratedRenames}
 use Rattle.mtn_history.specs.Damage.{IsDamage}
@@ -29,8 +29,8 @@ use Rattle.mtn_merge.specs.declared.answer.Planned.TheVariants as planned
 use Rattle.mtn_model.specs.State.{State}
 use Rattle.mtn_model.specs.Table.{Contents}
 use Rattle.mtn_plans.specs.Plans.{Merges}
-use Rattle.mtn_plans.specs.declared.outcome.Outcome.{Outcome as PlannedOutcome}
-use Rattle.mtn_plans.specs.declared.outcome.Outcome.TheVariants.{Conflicted, Merged}
+use Rattle.mtn_plans.specs.declared.outcome.MergeOutcome.{MergeOutcome as PlannedOutcome}
+use Rattle.mtn_plans.specs.declared.outcome.MergeOutcome.TheVariants.{Conflicted, Merged}
 use Rattle.mtn_ports.specs.Causes.{Rose}
 use Rattle.mtn_ports.specs.Kept.{Same, Stays, with_all}
 use Rattle.mtn_ports.proofs.KeptLemmas.{stays_trans}
@@ -63,32 +63,32 @@ fails e = Err e
 -- ---- why it ends
 
 -- the error that is answered says no more than that of the call
-pub ends_as : (Is : Answer → Type 0) (e : HistoryError) (answer : GenerateError) → IsAnsweredBy e answer → Ends (error.Failed e) Is → Ends answer Is
+pub ends_as : (Is : GrowthAnswer → Type 0) (e : HistoryError) (answer : GenerateError) → IsAnsweredBy e answer → Ends (error.Failed e) Is → Ends answer Is
 ends_as Is (history.Refused cause) answer is ends = subst (λ (x : GenerateError). Ends x Is) (sym is) ends
 ends_as Is (history.Store Failed) answer is ends = subst (λ (x : GenerateError). Ends x Is) (sym is) tt
 ends_as Is (history.Store NoMemory) answer is ends = subst (λ (x : GenerateError). Ends x Is) (sym is) tt
 ends_as Is (history.Store (Damaged came)) answer is ends = absurd ends
 
 -- what is so of one answer is so of another
-pub ends_more : (Is More : Answer → Type 0) → ((answer : Answer) → Is answer → More answer) → (e : GenerateError) → Ends e Is → Ends e More
+pub ends_more : (Is More : GrowthAnswer → Type 0) → ((answer : GrowthAnswer) → Is answer → More answer) → (e : GenerateError) → Ends e Is → Ends e More
 ends_more Is More on (error.Conflicting left right conflicts) ends = on _ ends
 ends_more Is More on (error.Failed (history.Refused cause)) ends = on _ ends
 ends_more Is More on (error.Failed (history.Store e)) ends = ends
 
 -- there was no tree
-pub ends_treeless : (Is : Answer → Type 0) (fault : Option Cause) (e : GenerateError) → ((cause : Cause) → fault ≡ Some cause → Is (Err (Refused cause))) → IsTreeless fault e → Ends e Is
+pub ends_treeless : (Is : GrowthAnswer → Type 0) (fault : Option Cause) (e : GenerateError) → ((cause : Cause) → fault ≡ Some cause → Is (Err (Refused cause))) → IsTreeless fault e → Ends e Is
 ends_treeless Is fault (error.Conflicting left right conflicts) refuses treeless = absurd treeless
 ends_treeless Is fault (error.Failed (history.Refused cause)) refuses treeless = refuses cause treeless
 ends_treeless Is fault (error.Failed (history.Store e)) refuses treeless = treeless
 
 -- ---- a refusal, or none
 
-unless_none : (o : Option Cause) (Is : Answer → Type 0) (answer : Answer) → o ≡ None → Is answer → Unless o Is answer
+unless_none : (o : Option Cause) (Is : GrowthAnswer → Type 0) (answer : GrowthAnswer) → o ≡ None → Is answer → Unless o Is answer
 unless_none o Is answer none is = subst (λ x. Unless x Is answer) (sym none) is
 
-unless_some : (o : Option Cause) (Is : Answer → Type 0) (cause : Cause) → o ≡ Some cause → Unless o Is (Err (Refused cause))
+unless_some : (o : Option Cause) (Is : GrowthAnswer → Type 0) (cause : Cause) → o ≡ Some cause → Unless o Is (Err (Refused cause))
 unless_some o Is cause some =
-    let stop : Answer = Err (Refused cause) in
+    let stop : GrowthAnswer = Err (Refused cause) in
     let is : stop ≡ Err (Refused cause) = refl in
     subst (λ x. Unless x Is stop) (sym some) is
 
@@ -146,7 +146,7 @@ rose_sooner a b c rose after = omega (arith, rose, after)
 
 module _ (f : List ℕ → List ℕ) {K : Type 0} (contents : K → Option Contents) (leaves : K → Contents → Type 0) (faults : K → ℕ) where
   -- memory is wanting
-  pub wanting : (old new : K) (before after : Pending) (Comes : State → Answer → Type 0) (result : Result Tips GenerateError) → Stays contents leaves faults old new →
+  pub wanting : (old new : K) (before after : Pending) (Comes : State → GrowthAnswer → Type 0) (result : Result Tips GenerateError) → Stays contents leaves faults old new →
       result ≡ Err (error.Failed (history.Store NoMemory)) → Goes f contents leaves faults old new before after Comes result
   wanting old new before after Comes result stays is = subst (Goes f contents leaves faults old new before after Comes) (sym is) record {
     stays = stays;
@@ -157,7 +157,7 @@ module _ (f : List ℕ → List ℕ) {K : Type 0} (contents : K → Option Conte
   }
 
   -- a call failed
-  pub went_wrong : (old mid new : K) (before after : Pending) (Comes : State → Answer → Type 0) (e : HistoryError) (answer : GenerateError) → Stays contents leaves faults old mid → Stays contents leaves faults mid new →
+  pub went_wrong : (old mid new : K) (before after : Pending) (Comes : State → GrowthAnswer → Type 0) (e : HistoryError) (answer : GenerateError) → Stays contents leaves faults old mid → Stays contents leaves faults mid new →
       IsAnsweredBy e answer → ((c : Contents) (s : State) → contents mid ≡ Some c → IsDraft f c before s → Ends (error.Failed e) (Comes s)) → IsOrdered answer → IfSome (contents new) (λ c. IfGenerateDamage answer (IsShownWith c)) →
       (e ≡ history.Store Failed → Rose (faults old) (faults mid)) → (answer ≡ error.Failed (history.Store Failed) → (e ≡ history.Store Failed) ⊎ Rose (faults mid) (faults new)) →
       Goes f contents leaves faults old new before after Comes (Err answer)
@@ -170,13 +170,13 @@ module _ (f : List ℕ → List ℕ) {K : Type 0} (contents : K → Option Conte
         (λ later. rose_later (faults old) (faults mid) (faults new) first.later later) (failed (let both : fails answer ≡ fails (error.Failed (history.Store Failed)) = same in cc));
   }
 
-  reaches_more : (c : Contents) (Is More : Answer → Type 0) → ((answer : Answer) → Is answer → More answer) → (result : Result Tips GenerateError) (p : Pending) → Reaches f c Is result p → Reaches f c More result p
+  reaches_more : (c : Contents) (Is More : GrowthAnswer → Type 0) → ((answer : GrowthAnswer) → Is answer → More answer) → (result : Result Tips GenerateError) (p : Pending) → Reaches f c Is result p → Reaches f c More result p
   reaches_more c Is More on (Ok tips) p so = (so.0, on _ so.1, so.2)
   reaches_more c Is More on (Err e) p so = ends_more Is More on e so
 
   -- behind a call that led to a state, what the next one does
-  pub goes_on : (old mid new : K) (before middle after : Pending) (Next Comes : State → Answer → Type 0) (result : Result Tips GenerateError) → Stays contents leaves faults old mid →
-      ((c : Contents) (s : State) → contents mid ≡ Some c → IsDraft f c before s → (t : State) × IsDraft f c middle t × ((answer : Answer) → Next t answer → Comes s answer)) →
+  pub goes_on : (old mid new : K) (before middle after : Pending) (Next Comes : State → GrowthAnswer → Type 0) (result : Result Tips GenerateError) → Stays contents leaves faults old mid →
+      ((c : Contents) (s : State) → contents mid ≡ Some c → IsDraft f c before s → (t : State) × IsDraft f c middle t × ((answer : GrowthAnswer) → Next t answer → Comes s answer)) →
       Goes f contents leaves faults mid new middle after Next result → Goes f contents leaves faults old new before after Comes result
   goes_on old mid new before middle after Next Comes result first leads goes = record {
     stays = stays_trans contents leaves faults old mid new first goes.stays;
@@ -189,7 +189,7 @@ module _ (f : List ℕ → List ℕ) {K : Type 0} (contents : K → Option Conte
   -- ---- a text
 
   module _ (work : Work) (tips : Tips) (text : List ℕ) where
-    abbrev pub Puts : State → Answer → Type 0
+    abbrev pub Puts : State → GrowthAnswer → Type 0
     Puts s = PutsText f (work_of work) (tips_of tips) s text
 
     pub text_put : (old new : K) (before after : Pending) (id : Id) (next : Tips) → id.0 ≡ f text → tips_of next ≡ tips_after (work_of work) id (tips_of tips) → Stays contents leaves faults old new →
@@ -212,7 +212,7 @@ module _ (f : List ℕ → List ℕ) {K : Type 0} (contents : K → Option Conte
   -- ---- a revision with one edge
 
   module _ (i : ℕ) (work : Work) (tips : Tips) where
-    abbrev pub PutsOne : State → Answer → Type 0
+    abbrev pub PutsOne : State → GrowthAnswer → Type 0
     PutsOne s = PutsEdge f (work_of work) (tips_of tips) s i
 
     abbrev the_edge : Edge
@@ -283,7 +283,7 @@ module _ (f : List ℕ → List ℕ) {K : Type 0} (contents : K → Option Conte
   -- ---- a merge
 
   module _ (tips : Tips) where
-    abbrev pub MergesBoth : State → Answer → Type 0
+    abbrev pub MergesBoth : State → GrowthAnswer → Type 0
     MergesBoth s = MergesTips f GeneratedJoins (tips_of tips) s
 
     abbrev pub PlansOver : Option Contents → Pending → Result PlannedOutcome HistoryError → Type 0
@@ -330,7 +330,7 @@ module _ (f : List ℕ → List ℕ) {K : Type 0} (contents : K → Option Conte
   -- ---- files, and what is put behind them
 
   module _ (i : ℕ) (work : Work) (tips : Tips) where
-    abbrev pub AddsOne : State → Answer → Type 0
+    abbrev pub AddsOne : State → GrowthAnswer → Type 0
     AddsOne s = Adds f i (work_of work) (grown s (tips_of tips))
 
     files_end : (c : Contents) (s : State) (p : Pending) (e : HistoryError) → PutsFiles f c s (files_of i (work_of work)) (Err e) p → Ends (error.Failed e) (AddsOne s)

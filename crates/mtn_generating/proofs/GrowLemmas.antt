@@ -1,6 +1,6 @@
 -- The revisions, one behind the other.
 use Rattle.std.proofs.Common.{◌≡◌, ◌≤◌, ℕ, suc, List, Option, Some, Result, Ok, Err, sym, subst}
-use Rattle.mtn_generated.specs.Growing.{Adds, Answer, Grows, grown}
+use Rattle.mtn_generated.specs.Growing.{Adds, GrowthAnswer, Grows, grown}
 use Rattle.mtn_generated.specs.Numbered.{Work as GeneratedWork, work_at}
 use Rattle.mtn_generated.proofs.Stopping.{stays as stop_stays}
 use Rattle.mtn_history.specs.Stands.{IsDraft}
@@ -30,7 +30,7 @@ ends_later f s m n (error.Failed (history.Store e)) most ends = ends
 module _ (f : List ℕ → List ℕ) {K : Type 0} (contents : K → Option Contents) (leaves : K → Contents → Type 0) (faults : K → ℕ) (old mid new : K) (before middle after : Pending) (n : ℕ) (tips : Tips)
     (first : Stays contents leaves faults old mid) (grew : (c : Contents) (s : State) → contents mid ≡ Some c → IsDraft f c before s → HasGrown f c s n tips middle) (work : Work) (i : ℕ) (next : i ≡ suc n)
     (does : work_of work ≡ work_at i) where
-  one_more : (s t : State) → Grows f s n (Ok (grown t (tips_of tips))) → (answer : Answer) → Adds f i (work_of work) (grown t (tips_of tips)) answer → Grows f s i answer
+  one_more : (s t : State) → Grows f s n (Ok (grown t (tips_of tips))) → (answer : GrowthAnswer) → Adds f i (work_of work) (grown t (tips_of tips)) answer → Grows f s i answer
   one_more s t so answer adds =
       let named : Adds f i (work_at i) (grown t (tips_of tips)) answer = subst (λ (w : GeneratedWork). Adds f i w (grown t (tips_of tips)) answer) does adds in
       subst (λ k. Grows f s k answer) (sym next) (Ok (grown t (tips_of tips)), so, subst (λ k. Adds f k (work_at k) (grown t (tips_of tips)) answer) next named)

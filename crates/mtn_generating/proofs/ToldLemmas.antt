@@ -7,7 +7,7 @@ use Rattle.mtn_base.specs.declared.refusal.Cause.{Cause}
 use Rattle.mtn_base.specs.declared.refusal.Cause.TheVariants.{StoreNotEmpty}
 use Rattle.mtn_conflicts.specs.declared.lists.Conflicts.{Conflicts}
 use Rattle.mtn_generated.specs.Growing.Stop.{Conflicting, Refused}
-use Rattle.mtn_generated.specs.Growing.{Answer, Generates, Grows, Unless, grown, store_refusal}
+use Rattle.mtn_generated.specs.Growing.{GrowthAnswer, Generates, Grows, Unless, grown, store_refusal}
 use Rattle.mtn_generated.specs.Numbered.{summary_text}
 use Rattle.mtn_history.specs.Damage.{IsBad}
 use Rattle.mtn_history.specs.Errors.{IfStoreDamage}
@@ -25,7 +25,7 @@ use Rattle.mtn_ports.specs.Kept.{with_all}
 use Rattle.mtn_ports.specs.declared.batch.Put.{Put}
 use Rattle.mtn_reading.specs.Unfit.{IsAsked, IsUnfit, SpoilsReading}
 use Rattle.mtn_reading.proofs.UnfitReading.{no_state, spoils}
-use Rattle.mtn_generating.specs.Generating.{IfGenerateDamage, Reaches, Sums, Tells}
+use Rattle.mtn_generating.specs.Generating.{IfGenerateDamage, Reaches, Sums, TellsGrowth}
 use Rattle.mtn_generating.specs.Numbered.{tips_of}
 use Rattle.mtn_generating.specs.Unfit.{IsFirstShown, IsShownWith, IsToldAs, IsToldOf}
 use Rattle.mtn_generating.specs.declared.error.GenerateError.{GenerateError}
@@ -47,7 +47,7 @@ store_full s some = by (length s.log == 0) refl
     by false e = refl
     by true e = absurd (grind (arith, nat_tests))
 
-unless_at : (o p : Option Cause) (Is : Answer → Type 0) (answer : Answer) → o ≡ p → Unless p Is answer → Unless o Is answer
+unless_at : (o p : Option Cause) (Is : GrowthAnswer → Type 0) (answer : GrowthAnswer) → o ≡ p → Unless p Is answer → Unless o Is answer
 unless_at o p Is answer same is = subst (λ x. Unless x Is answer) (sym same) is
 
 module _ (f : List ℕ → List ℕ) (c : Contents) (s : State) (n : ℕ) (before : Pending) (draft : IsDraft f c before s) where
@@ -55,12 +55,12 @@ module _ (f : List ℕ → List ℕ) (c : Contents) (s : State) (n : ℕ) (befor
   pub not_empty : (count : ℕ) (p : Pending) → count ≡ before.count → 0 < count → Sums f c s n (Err (error.Failed (history.Refused (StoreNotEmpty count)))) p
   not_empty count p is some =
       let same : count ≡ length s.log = is ∙ draft.count in
-      let stop : Answer = Err (Refused (StoreNotEmpty count)) in
+      let stop : GrowthAnswer = Err (Refused (StoreNotEmpty count)) in
       let stopped : stop ≡ Err (Refused (StoreNotEmpty (length s.log))) = ap (λ (k : ℕ). Err (Refused (StoreNotEmpty k))) same in
       unless_at (store_refusal s) (Some (StoreNotEmpty (length s.log))) (Grows f s n) stop (store_full s (omega (arith, same, some))) stopped
 
   module _ (empty : before.count ≡ 0) where
-    generates : (answer : Answer) → Grows f s n answer → Generates f n s answer
+    generates : (answer : GrowthAnswer) → Grows f s n answer → Generates f n s answer
     generates answer grows = unless_at (store_refusal s) None (Grows f s n) answer (store_empty s (sym draft.count ∙ empty)) grows
 
     pub told : (tips : Tips) (text : List ℕ) (p : Pending) → Reaches f c (Grows f s n) (Ok tips) p → text ≡ summary_text n tips.last → Sums f c s n (Ok text) p
@@ -89,10 +89,10 @@ first_unfit f c none d (inr is) = record { shown = is.0; asked = bad_is_asked c 
 
 module _ (f : List ℕ → List ℕ) (n : ℕ) (unconflicted : (s : State) (left right : Id) (found : Conflicts) → Generates f n s (Err (Conflicting left right found)) → ⊥) where
   -- what `generate` answers
-  pub told_as : (c : Contents) (s : State) (p q : Pending) (e : GenerateError) (x : HistoryError) → Sums f c s n (Err e) p → IsToldAs e x → Tells f c s n (Err x) q
+  pub told_as : (c : Contents) (s : State) (p q : Pending) (e : GenerateError) (x : HistoryError) → Sums f c s n (Err e) p → IsToldAs e x → TellsGrowth f c s n (Err x) q
   told_as c s p q (error.Conflicting left right found) x sums is = absurd (unconflicted s left right found sums)
-  told_as c s p q (error.Failed (history.Refused cause)) x sums is = subst (λ (y : HistoryError). Tells f c s n (Err y) q) (sym is) sums
-  told_as c s p q (error.Failed (history.Store e)) x sums is = subst (λ (y : HistoryError). Tells f c s n (Err y) q) (sym is) sums
+  told_as c s p q (error.Failed (history.Refused cause)) x sums is = subst (λ (y : HistoryError). TellsGrowth f c s n (Err y) q) (sym is) sums
+  told_as c s p q (error.Failed (history.Store e)) x sums is = subst (λ (y : HistoryError). TellsGrowth f c s n (Err y) q) (sym is) sums
 
   pub told_damage : (c : Contents) (before : Pending) → before.batch ≡ [] → IsMetaOf (with_all c before.batch) (record { count = before.count; is_new = before.is_new }) →
       (p : Pending) (e : GenerateError) (x : HistoryError) → ((s : State) → IsDraft f c before s → Sums f c s n (Err e) p) → IfGenerateDamage e (IsShownWith c) → IsToldOf c e x → IfStoreDamage x (SpoilsReading f (with_all c before.batch))

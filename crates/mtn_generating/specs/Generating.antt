@@ -2,7 +2,7 @@
 use Rattle.std.specs.Prelude.{◌≡◌, ℕ, List, Option, Some, None, Result, Ok, Err, IfErr, IfSome, ⊤}
 use Rattle.mtn_base.specs.declared.refusal.Cause.{Cause}
 use Rattle.mtn_conflicts.specs.ConflictText.{IsLesser}
-use Rattle.mtn_generated.specs.Growing.{Answer, Generates, Grown, files_refusal, grown, with_files}
+use Rattle.mtn_generated.specs.Growing.{GrowthAnswer, Generates, Grown, files_refusal, grown, with_files}
 use Rattle.mtn_generated.specs.Growing.Stop.{Conflicting, Refused}
 use Rattle.mtn_generated.specs.Numbered.{summary_text}
 use Rattle.mtn_history.specs.Errors.{IfDamage, IfStoreDamage}
@@ -39,19 +39,19 @@ IsTreeless fault (error.Failed (history.Refused cause)) = fault ≡ Some cause
 IsTreeless fault (error.Failed (history.Store e)) = IfDamage e (λ _. ⊥)
 
 -- why it ends, over a state: it is so of the answer, and no damage comes
-abbrev pub Ends : GenerateError → (Answer → Type 0) → Type 0
+abbrev pub Ends : GenerateError → (GrowthAnswer → Type 0) → Type 0
 Ends (error.Conflicting left right conflicts) Is = Is (Err (Conflicting left right conflicts))
 Ends (error.Failed (history.Refused cause)) Is = Is (Err (Refused cause))
 Ends (error.Failed (history.Store e)) Is = IfDamage e (λ _. ⊥)
 
 -- the tips, and a draft that stands for the state that was reached; or why it ends
-abbrev pub Reaches : (List ℕ → List ℕ) → Contents → (Answer → Type 0) → Result Tips GenerateError → Pending → Type 0
+abbrev pub Reaches : (List ℕ → List ℕ) → Contents → (GrowthAnswer → Type 0) → Result Tips GenerateError → Pending → Type 0
 Reaches f c Is (Ok tips) p = (t : State) × Is (Ok (grown t (tips_of tips))) × IsDraft f c p t
 Reaches f c Is (Err e) p = Ends e Is
 
 -- What each call does over a draft. `Comes` says what it is to come to from a state
 pub record Goes (f : List ℕ → List ℕ) {K : Type 0} (contents : K → Option Contents) (leaves : K → Contents → Type 0) (faults : K → ℕ) (old new : K) (before after : Pending)
-    (Comes : State → Answer → Type 0) (result : Result Tips GenerateError) : Type 0 where
+    (Comes : State → GrowthAnswer → Type 0) (result : Result Tips GenerateError) : Type 0 where
   pub stays : Stays contents leaves faults old new
   pub done : (c : Contents) (s : State) → contents new ≡ Some c → IsDraft f c before s → Reaches f c (Comes s) result after
   pub ordered : IfErr result IsOrdered
@@ -75,7 +75,7 @@ Sums f c s n (Err e) p = Ends e (Generates f n s)
 
 -- The answer of `generate` over a draft that stands for a state: the summary of what grew, and a draft that stands for it; or the
 -- refusal by which nothing is kept
-abbrev pub Tells : (List ℕ → List ℕ) → Contents → State → ℕ → Result (List ℕ) HistoryError → Pending → Type 0
-Tells f c s n (Ok text) p = Summed f c s n text p
-Tells f c s n (Err (history.Refused cause)) p = Generates f n s (Err (Refused cause))
-Tells f c s n (Err (history.Store e)) p = IfDamage e (λ _. ⊥)
+abbrev pub TellsGrowth : (List ℕ → List ℕ) → Contents → State → ℕ → Result (List ℕ) HistoryError → Pending → Type 0
+TellsGrowth f c s n (Ok text) p = Summed f c s n text p
+TellsGrowth f c s n (Err (history.Refused cause)) p = Generates f n s (Err (Refused cause))
+TellsGrowth f c s n (Err (history.Store e)) p = IfDamage e (λ _. ⊥)

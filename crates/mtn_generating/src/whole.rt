@@ -1,6 +1,6 @@
 // The call `generate`.
 ghost use Rattle.std.specs.Prelude.{◌≡◌, [], Err, IfErr, IfSome, OnErr, Some};
-ghost use Rattle.mtn_generating.specs.Generating.{IfGenerateDamage, Sums, Tells};
+ghost use Rattle.mtn_generating.specs.Generating.{IfGenerateDamage, Sums, TellsGrowth};
 ghost use Rattle.mtn_generating.specs.Unfit.{IsShownWith};
 ghost use Rattle.mtn_history.specs.Errors.{IfStoreDamage};
 ghost use Rattle.mtn_history.specs.Meta.{IsMetaOf};
@@ -59,7 +59,7 @@ pub fn generate<I: Ident, K: Keeper>(
     ensures same_reference { draft.new.keeper.ghost_name ≡ draft.old.keeper.ghost_name }
     ensures stays { Stays K.contents K.leaves K.faults draft.old.keeper.now draft.new.keeper.now }
     ensures generates { (c : Contents) (s : State) → K.contents draft.new.keeper.now ≡ Some c → IsDraft (I.meaning ident.now) c draft.old.pending s →
-        Tells (I.meaning ident.now) c s count result draft.new.pending }
+        TellsGrowth (I.meaning ident.now) c s count result draft.new.pending }
     ensures err { OnErr result (draft.new.pending ≡ draft.old.pending) }
     ensures damaged { IfSome (K.contents draft.new.keeper.now) (λ c. IsMetaOf (with_all c draft.old.pending.batch) (record { count = draft.old.pending.count; is_new = draft.old.pending.is_new }) →
         IfErr result (λ e. IfStoreDamage e (SpoilsReading (I.meaning ident.now) (with_all c draft.old.pending.batch)))) }

@@ -16,7 +16,7 @@ use Rattle.mtn_ancestry.specs.Sets.{IsAscendingListOf}
 use Rattle.mtn_ancestry.specs.declared.pos.LogEntry.{LogEntry}
 use Rattle.mtn_ancestry.proofs.Ancestry.{proper_through}
 use Rattle.mtn_history_laws.specs.History.{Revision, IsPlaceOf}
-use Rattle.mtn_replay.specs.Graphs.{Tells}
+use Rattle.mtn_replay.specs.Graphs.{IsGraphOf}
 use Rattle.mtn_replay.specs.Making.{place_of}
 use Rattle.mtn_replay.proofs.Places.{inside}
 use Rattle.mtn_graph_queries.specs.Places.{ids_at}
@@ -52,7 +52,7 @@ id_of_at log (b ∷ at) a x c is = ⊎_elim
     (λ e. subst (λ o. Contains (cons_option o (ids_at log at)) x) (sym (ap (id_at log) e ∙ is)) (contains_head x (ids_at log at)))
     (λ d. also_later (id_at log b) (ids_at log at) x (id_of_at log at a x d is)) (contains_cases b at a c)
 
-module _ (h : List Revision) (log : List LogEntry) (tells : Tells h log) (is : IsLog log) where
+module _ (h : List Revision) (log : List LogEntry) (tells : IsGraphOf h log) (is : IsLog log) where
   -- the ids at positions are those with P
   taken : (order : Id → Id → Ordering) (P : Id → Type 0) (found : List ℕ) (ids : List Id) → IsListOf order (Contains (ids_at log found)) ids →
       ((a : ℕ) (x : Id) → Contains found a → IsPlaceOf h x a → P x) → ((x : Id) → P x → (a : ℕ) × Contains found a × IsPlaceOf h x a) → IsListOf order P ids

@@ -6,7 +6,7 @@ use Rattle.mtn_ancestry.specs.Ancestors.{IsAncestor, IsProperAncestor, itself, t
 use Rattle.mtn_ancestry.specs.Log.{id_at, parents_of, IsLog}
 use Rattle.mtn_ancestry.specs.declared.pos.LogEntry.{LogEntry}
 use Rattle.mtn_history_laws.specs.History.{Revision, parents_at, IsPlaceOf}
-use Rattle.mtn_replay.specs.Graphs.{Tells}
+use Rattle.mtn_replay.specs.Graphs.{IsGraphOf}
 use Rattle.mtn_replay.specs.Making.{place_of}
 use Rattle.mtn_replay.proofs.Places.{inside, within, place_has, no_place}
 use Rattle.mtn_answers.specs.Queries.{IsAbove, IsProperlyAbove, IsParent}
@@ -19,7 +19,7 @@ same_ancestors f g same (through {r = r} {p = p} c above) = through (subst (λ p
 pub one_id : (h : List Revision) (x y : Id) (a : ℕ) → IsPlaceOf h x a → IsPlaceOf h y a → x ≡ y
 one_id h x y a p q = let same : p.0 ≡ q.0 = (let t = sym p.1 ∙ q.1 in cc) in sym p.2 ∙ ap (λ (r : Revision). r.id) same ∙ q.2
 
-module _ (h : List Revision) (log : List LogEntry) (tells : Tells h log) where
+module _ (h : List Revision) (log : List LogEntry) (tells : IsGraphOf h log) where
   pub place_from : (x : Id) (a : ℕ) → id_at log a ≡ Some x → IsPlaceOf h x a
   place_from x a is = by (slice_get log a) refl is
     where

@@ -2,7 +2,7 @@
 ghost use Rattle.std.specs.Prelude.{◌≡◌, ◌<◌, List as Seq, Some, length, IfOk};
 ghost use Rattle.mtn_base.specs.declared.id.Id.{Id};
 ghost use Rattle.mtn_history_laws.specs.History.{IsPlaceOf, Revision};
-ghost use Rattle.mtn_replay.specs.Graphs.{Tells};
+ghost use Rattle.mtn_replay.specs.Graphs.{IsGraphOf};
 ghost use Rattle.mtn_base.specs.Ids.{by_id};
 ghost use Rattle.mtn_base.specs.Lists.{IsListOf};
 ghost use Rattle.mtn_answers.specs.Queries.{IsAnswer, IsParent};
@@ -18,7 +18,7 @@ use std::alloc::Global;
 
 /// The answer to a query; Unknown with the first id that it names and the graph does not have.
 pub fn answer(alloc: Global, graph: &Graph, query: &Query) -> Result<List<Id>, QueryError>
-    ensures { (h : Seq Revision) → Tells h graph.now → AnswersQuery h query.now result }
+    ensures { (h : Seq Revision) → IsGraphOf h graph.now → AnswersQuery h query.now result }
 {
     match query {
         Query::Parents { of } => parents(alloc, graph, *of),
@@ -42,7 +42,7 @@ pub fn answer(alloc: Global, graph: &Graph, query: &Query) -> Result<List<Id>, Q
 // The parents of the revision at a position, by ascending ids.
 pub fn parents_at(alloc: Global, graph: &Graph, at: Pos) -> Result<List<Id>, NoMemory>
     requires { at < length graph.now }
-    ensures { IfOk result (λ ids. (h : Seq Revision) → (id : Id) → Tells h graph.now → IsPlaceOf h id at → IsListOf by_id (λ x. IsParent h x id) ids) }
+    ensures { IfOk result (λ ids. (h : Seq Revision) → (id : Id) → IsGraphOf h graph.now → IsPlaceOf h id at → IsListOf by_id (λ x. IsParent h x id) ids) }
 {
     match graph.entries()[at.0 as usize].parents {
         ParentList::Zero => sorted_ids(alloc, graph, &[]),
@@ -52,14 +52,14 @@ pub fn parents_at(alloc: Global, graph: &Graph, at: Pos) -> Result<List<Id>, NoM
 }
 
 fn parents(alloc: Global, graph: &Graph, of: Id) -> Result<List<Id>, QueryError>
-    ensures { (h : Seq Revision) → Tells h graph.now → AnswersQuery h (Query.Parents of) result }
+    ensures { (h : Seq Revision) → IsGraphOf h graph.now → AnswersQuery h (Query.Parents of) result }
 {
     let at = place(graph, of)?;
     Ok(parents_at(alloc, graph, at)?)
 }
 
 fn children(alloc: Global, graph: &Graph, of: Id) -> Result<List<Id>, QueryError>
-    ensures { (h : Seq Revision) → Tells h graph.now → AnswersQuery h (Query.Children of) result }
+    ensures { (h : Seq Revision) → IsGraphOf h graph.now → AnswersQuery h (Query.Children of) result }
 {
     let at = place(graph, of)?;
     let found = places_of(alloc, graph, &Wanted::Children { of: at })?;
@@ -67,7 +67,7 @@ fn children(alloc: Global, graph: &Graph, of: Id) -> Result<List<Id>, QueryError
 }
 
 fn ancestors(alloc: Global, graph: &Graph, of: &[Id]) -> Result<List<Id>, QueryError>
-    ensures { (h : Seq Revision) → Tells h graph.now → AnswersQuery h (Query.Ancestors of.now) result }
+    ensures { (h : Seq Revision) → IsGraphOf h graph.now → AnswersQuery h (Query.Ancestors of.now) result }
 {
     let at = places(alloc, graph, of)?;
     let found = graph.ancestors(alloc, &at)?;
@@ -75,7 +75,7 @@ fn ancestors(alloc: Global, graph: &Graph, of: &[Id]) -> Result<List<Id>, QueryE
 }
 
 fn descendents(alloc: Global, graph: &Graph, of: &[Id]) -> Result<List<Id>, QueryError>
-    ensures { (h : Seq Revision) → Tells h graph.now → AnswersQuery h (Query.Descendents of.now) result }
+    ensures { (h : Seq Revision) → IsGraphOf h graph.now → AnswersQuery h (Query.Descendents of.now) result }
 {
     let at = places(alloc, graph, of)?;
     let found = graph.descendents(alloc, &at)?;
@@ -83,7 +83,7 @@ fn descendents(alloc: Global, graph: &Graph, of: &[Id]) -> Result<List<Id>, Quer
 }
 
 fn common(alloc: Global, graph: &Graph, of: Id, others: &[Id]) -> Result<List<Id>, QueryError>
-    ensures { (h : Seq Revision) → Tells h graph.now → AnswersQuery h (Query.CommonAncestors of others.now) result }
+    ensures { (h : Seq Revision) → IsGraphOf h graph.now → AnswersQuery h (Query.CommonAncestors of others.now) result }
 {
     let first = place(graph, of)?;
     let mut at = places(alloc, graph, others)?;
@@ -93,7 +93,7 @@ fn common(alloc: Global, graph: &Graph, of: Id, others: &[Id]) -> Result<List<Id
 }
 
 fn erase_ancestors(alloc: Global, graph: &Graph, of: &[Id]) -> Result<List<Id>, QueryError>
-    ensures { (h : Seq Revision) → Tells h graph.now → AnswersQuery h (Query.EraseAncestors of.now) result }
+    ensures { (h : Seq Revision) → IsGraphOf h graph.now → AnswersQuery h (Query.EraseAncestors of.now) result }
 {
     let at = places(alloc, graph, of)?;
     let found = graph.erase_ancestors(alloc, &at)?;
@@ -101,7 +101,7 @@ fn erase_ancestors(alloc: Global, graph: &Graph, of: &[Id]) -> Result<List<Id>, 
 }
 
 fn toposort(alloc: Global, graph: &Graph, of: &[Id]) -> Result<List<Id>, QueryError>
-    ensures { (h : Seq Revision) → Tells h graph.now → AnswersQuery h (Query.Toposort of.now) result }
+    ensures { (h : Seq Revision) → IsGraphOf h graph.now → AnswersQuery h (Query.Toposort of.now) result }
 {
     let at = places(alloc, graph, of)?;
     let found = graph.toposort(alloc, &at)?;
@@ -109,7 +109,7 @@ fn toposort(alloc: Global, graph: &Graph, of: &[Id]) -> Result<List<Id>, QueryEr
 }
 
 fn difference(alloc: Global, graph: &Graph, of: Id, others: &[Id]) -> Result<List<Id>, QueryError>
-    ensures { (h : Seq Revision) → Tells h graph.now → AnswersQuery h (Query.AncestryDifference of others.now) result }
+    ensures { (h : Seq Revision) → IsGraphOf h graph.now → AnswersQuery h (Query.AncestryDifference of others.now) result }
 {
     let first = place(graph, of)?;
     let at = places(alloc, graph, others)?;
@@ -121,7 +121,7 @@ fn difference(alloc: Global, graph: &Graph, of: Id, others: &[Id]) -> Result<Lis
 }
 
 fn leaves(alloc: Global, graph: &Graph) -> Result<List<Id>, NoMemory>
-    ensures { IfOk result (λ ids. (h : Seq Revision) → Tells h graph.now → IsAnswer h Query.Leaves ids) }
+    ensures { IfOk result (λ ids. (h : Seq Revision) → IsGraphOf h graph.now → IsAnswer h Query.Leaves ids) }
 {
     let all = places_of(alloc, graph, &Wanted::Any)?;
     let found = graph.erase_ancestors(alloc, &all)?;
@@ -129,7 +129,7 @@ fn leaves(alloc: Global, graph: &Graph) -> Result<List<Id>, NoMemory>
 }
 
 fn roots(alloc: Global, graph: &Graph) -> Result<List<Id>, NoMemory>
-    ensures { IfOk result (λ ids. (h : Seq Revision) → Tells h graph.now → IsAnswer h Query.Roots ids) }
+    ensures { IfOk result (λ ids. (h : Seq Revision) → IsGraphOf h graph.now → IsAnswer h Query.Roots ids) }
 {
     let found = places_of(alloc, graph, &Wanted::Roots)?;
     sorted_ids(alloc, graph, &found)

@@ -1,7 +1,7 @@
 // The whole graph as lines.
 ghost use Rattle.std.specs.Prelude.{◌≡◌, List as Seq, IfOk};
 ghost use Rattle.mtn_history_laws.specs.History.{Revision};
-ghost use Rattle.mtn_replay.specs.Graphs.{Tells};
+ghost use Rattle.mtn_replay.specs.Graphs.{IsGraphOf};
 ghost use Rattle.mtn_answers.specs.Lines.{HasParents, IsGraph};
 
 use crate::Line;
@@ -15,7 +15,7 @@ use std::alloc::Global;
 // A revision with its parents; an id that the graph does not have has none.
 fn line(alloc: Global, graph: &Graph, id: Id) -> Result<Line, NoMemory>
     ensures id { IfOk result (λ line. line.id ≡ id) }
-    ensures parents { IfOk result (λ line. (h : Seq Revision) → Tells h graph.now → HasParents h line) }
+    ensures parents { IfOk result (λ line. (h : Seq Revision) → IsGraphOf h graph.now → HasParents h line) }
 {
     let parents = match graph.find(id) {
         Some(at) => parents_at(alloc, graph, at)?,
@@ -26,7 +26,7 @@ fn line(alloc: Global, graph: &Graph, id: Id) -> Result<Line, NoMemory>
 
 /// A line for each revision, by ascending ids, with its parents, ascending too.
 pub fn lines(alloc: Global, graph: &Graph) -> Result<List<Line>, NoMemory>
-    ensures { IfOk result (λ lines. (h : Seq Revision) → Tells h graph.now → IsGraph h lines) }
+    ensures { IfOk result (λ lines. (h : Seq Revision) → IsGraphOf h graph.now → IsGraph h lines) }
 {
     let all = places_of(alloc, graph, &Wanted::Any)?;
     let ids = sorted_ids(alloc, graph, &all)?;

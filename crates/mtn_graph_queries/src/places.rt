@@ -2,7 +2,7 @@
 ghost use Rattle.std.specs.Prelude.{◌∷◌, [], ◌<◌, List, length, All, IfOk, IfErr};
 ghost use Rattle.std.specs.List.{AllZip};
 ghost use Rattle.mtn_history_laws.specs.History.{IsPlaceOf, Revision};
-ghost use Rattle.mtn_replay.specs.Graphs.{Tells};
+ghost use Rattle.mtn_replay.specs.Graphs.{IsGraphOf};
 ghost use Rattle.mtn_graph_queries.specs.Queries.{NamesUnknown};
 
 use crate::QueryError;
@@ -13,8 +13,8 @@ use std::alloc::Global;
 // Where a revision stands.
 pub fn place(graph: &Graph, id: Id) -> Result<Pos, QueryError>
     ensures within { IfOk result (λ at. at < length graph.now) }
-    ensures found { (h : List Revision) → Tells h graph.now → IfOk result (IsPlaceOf h id) }
-    ensures unknown { (h : List Revision) → Tells h graph.now → IfErr result (NamesUnknown h (id ∷ [])) }
+    ensures found { (h : List Revision) → IsGraphOf h graph.now → IfOk result (IsPlaceOf h id) }
+    ensures unknown { (h : List Revision) → IsGraphOf h graph.now → IfErr result (NamesUnknown h (id ∷ [])) }
 {
     match graph.find(id) {
         Some(at) => Ok(at),
@@ -25,8 +25,8 @@ pub fn place(graph: &Graph, id: Id) -> Result<Pos, QueryError>
 // Where these stand, in their order, or the first that stands nowhere.
 pub fn places(alloc: Global, graph: &Graph, ids: &[Id]) -> Result<Vec<Pos>, QueryError>
     ensures within { IfOk result (λ v. All (λ at. at < length graph.now) v.items) }
-    ensures found { (h : List Revision) → Tells h graph.now → IfOk result (λ v. AllZip (IsPlaceOf h) ids.now v.items) }
-    ensures unknown { (h : List Revision) → Tells h graph.now → IfErr result (NamesUnknown h ids.now) }
+    ensures found { (h : List Revision) → IsGraphOf h graph.now → IfOk result (λ v. AllZip (IsPlaceOf h) ids.now v.items) }
+    ensures unknown { (h : List Revision) → IsGraphOf h graph.now → IfErr result (NamesUnknown h ids.now) }
 {
     let mut at = Vec::new(alloc);
     for id in ids {

@@ -31,7 +31,7 @@ use Rattle.mtn_step_laws.proofs.Accepting.{text_none}
 use Rattle.mtn_plans.specs.Given.{IsGiven}
 use Rattle.mtn_plans.specs.Plans.{Ends, IsUnborn, Merges, Plan, PlansPayload, Unless, limit_refusal, merge_revision, merge_text, merged_or, text_refusal}
 use Rattle.mtn_plans.specs.Sides.{left_of, right_of}
-use Rattle.mtn_plans.specs.declared.outcome.Outcome.TheVariants.{Conflicted}
+use Rattle.mtn_plans.specs.declared.outcome.MergeOutcome.TheVariants.{Conflicted}
 use Rattle.mtn_replay.specs.Accepting.{Decides, fault_cause, logged_beside, refusal_beside}
 use Rattle.mtn_replay.specs.Lawful.{IsHistory, IsLawful, IsNext, Spells}
 use Rattle.mtn_replay.specs.Making.{is_above, log_full, made, made_tree, place_of, refusal_of, too_long, too_many}

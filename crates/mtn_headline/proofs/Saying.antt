@@ -8,7 +8,7 @@ use Rattle.mtn_history_laws.specs.History.{Revision}
 use Rattle.mtn_model.specs.Outcome.{Outcome}
 use Rattle.mtn_model.specs.State.{State}
 use Rattle.mtn_plans.specs.Plans.{IsUnborn, Merges, Plan, merge_text}
-use Rattle.mtn_plans.specs.declared.outcome.Outcome.TheVariants.{Conflicted, Merged}
+use Rattle.mtn_plans.specs.declared.outcome.MergeOutcome.TheVariants.{Conflicted, Merged}
 use Rattle.mtn_replay.specs.Lawful.{IsHistory, IsLawful}
 use Rattle.mtn_replay.proofs.Histories.{one_history}
 use Rattle.mtn_step.specs.Certifying.{AreHeads, merge_said, said_certs, said_refusal, with_certs}

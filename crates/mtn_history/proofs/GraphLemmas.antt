@@ -3,7 +3,7 @@ use Rattle.std.specs.Prelude.{MatchBool}
 use Rattle.std.proofs.Common.{◌≡◌, ℕ, Bool, true, false, List, [], length, sym, ap, ◌∙◌, subst, arith}
 use Rattle.mtn_ancestry.specs.declared.pos.LogEntry.{LogEntry}
 use Rattle.mtn_history_laws.specs.History.{Revision}
-use Rattle.mtn_replay.specs.Graphs.{Tells}
+use Rattle.mtn_replay.specs.Graphs.{IsGraphOf}
 use Rattle.mtn_replay.specs.Lawful.{IsHistory}
 use Rattle.mtn_replay.proofs.Histories.{history_is_grown, history_none}
 use Rattle.mtn_replay.proofs.Places.{inside}
@@ -24,7 +24,7 @@ module _ (f : List ℕ → List ℕ) (c : Contents) (p : Pending) (s : State) wh
   no_revision same new = same ∙ ap (λ (t : State). length t.log) new.state
 
   told_by : (b : Bool) → p.count ≡ length s.log → MatchBool b (IsNew (with_all c p.batch) s) (StandsFor f (with_all c p.batch) s) → (entries : List LogEntry) → IsReadTo (with_all c p.batch) p.count entries →
-      (h : List Revision) × IsHistory f s.files s.log h × Tells h entries
+      (h : List Revision) × IsHistory f s.files s.log h × IsGraphOf h entries
   told_by true same new entries read = (
     [],
     subst (λ l. IsHistory f s.files l []) (sym (ap (λ (t : State). t.log) new.state)) (history_none f s.files),
@@ -38,7 +38,7 @@ module _ (f : List ℕ → List ℕ) (c : Contents) (p : Pending) (s : State) wh
       )
 
   -- the graph that was read tells the history of the state
-  pub graph_told : IsDraft f c p s → (entries : List LogEntry) → IsReadTo (with_all c p.batch) p.count entries → (h : List Revision) × IsHistory f s.files s.log h × Tells h entries
+  pub graph_told : IsDraft f c p s → (entries : List LogEntry) → IsReadTo (with_all c p.batch) p.count entries → (h : List Revision) × IsHistory f s.files s.log h × IsGraphOf h entries
   graph_told draft = told_by p.is_new draft.count draft.stands
 
   sound_by : (b : Bool) → p.count ≡ length s.log → MatchBool b (IsNew (with_all c p.batch) s) (StandsFor f (with_all c p.batch) s) → (d : Damage) → WrongBelow p.count (with_all c p.batch) d → ⊥

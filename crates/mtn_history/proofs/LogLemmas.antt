@@ -15,7 +15,7 @@ use Rattle.mtn_history.specs.declared.errors.StoreError.TheVariants.{Failed, Dam
 use Rattle.mtn_history.specs.declared.errors.Damage.TheVariants.{Bad, Missing}
 use Rattle.mtn_history.specs.Errors.{IfDamage}
 use Rattle.mtn_history.specs.Logs.{IsLogged, UnloggedAt, RepeatedAt, IsHeldAt, WrongBelow, IsReadTo}
-use Rattle.mtn_replay.specs.Graphs.{Tells}
+use Rattle.mtn_replay.specs.Graphs.{IsGraphOf}
 use Rattle.mtn_replay.proofs.Histories.{Place, in_front, at_back, place, kept_at, last_at}
 use Rattle.mtn_replay.proofs.Places.{inside, within}
 use Rattle.mtn_history_laws.specs.History.{Revision, IsGrown}
@@ -148,7 +148,7 @@ module _ (c : Contents) (h : List Revision) (ks : List Kept) (grown : IsGrown h)
       ⊎_elim (never_unlogged wrong.place d lt) (never_repeated wrong.place d lt) wrong.wrong
 
   -- the graph that was read is that of the history
-  pub read_tells : (entries : List LogEntry) → IsReadTo c (length h) entries → Tells h entries
+  pub read_tells : (entries : List LogEntry) → IsReadTo c (length h) entries → IsGraphOf h entries
   read_tells entries read = record {
     long = read.long;
     each = λ r e v here at.

@@ -17,7 +17,7 @@ use Rattle.mtn_model.specs.Table.{Contents, body_at}
 use Rattle.mtn_ports.specs.Kept.{Same, with_all}
 use Rattle.mtn_records.specs.declared.record.LogRecord.{LogRecord}
 use Rattle.mtn_ancestry.specs.declared.pos.LogEntry.{LogEntry}
-use Rattle.mtn_replay.specs.Graphs.{Tells}
+use Rattle.mtn_replay.specs.Graphs.{IsGraphOf}
 use Rattle.mtn_records.specs.Fields.{number_text}
 use Rattle.mtn_history.specs.declared.errors.Damage.{Damage}
 use Rattle.mtn_history.specs.declared.errors.Damage.TheVariants.{Bad, Missing}
@@ -72,7 +72,7 @@ module _ (f : List ℕ → List ℕ) (told : Option Contents) (p : Pending) (s :
       (told_of told d.records (λ c. IsLogged (with_all c p.batch) r log) d.tells found) low in
       (t.0, t.3, sym is.0)
 
-  pub graph_is : (entries : List LogEntry) → IfSome told (λ c. IsReadTo (with_all c p.batch) p.count entries) → Tells d.stands.history entries
+  pub graph_is : (entries : List LogEntry) → IfSome told (λ c. IsReadTo (with_all c p.batch) p.count entries) → IsGraphOf d.stands.history entries
   graph_is entries read =
       read_tells (own f told p s d) d.stands.history d.stands.kept (grown f told p s d) d.stands.revisions.long (log_of f told p s d) entries
       (subst (λ n. IsReadTo (own f told p s d) n entries) (counted f told p s d) (told_of told d.records (λ c. IsReadTo (with_all c p.batch) p.count entries) d.tells read))

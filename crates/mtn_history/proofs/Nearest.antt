@@ -11,7 +11,7 @@ use Rattle.std.specs.declared.cmp.Ordering.{Ordering}
 use Rattle.std.specs.declared.cmp.Ordering.TheVariants.{Less, Equal, Greater}
 use Rattle.mtn_model.specs.State.{State}
 use Rattle.mtn_model.specs.Table.{Contents, body_at}
-use Rattle.mtn_ports.specs.Kept.{IsAbove, IsAboveIf, IsBody, IsNext, Same, over, with_all}
+use Rattle.mtn_ports.specs.Kept.{IsAbove, IsAboveIf, IsBody, IsNextKey, Same, over, with_all}
 use Rattle.mtn_ports.proofs.KeptLemmas.{body_at-over, newest}
 use Rattle.mtn_history.specs.Asking.{HasTwenty, IsJustBelow}
 use Rattle.mtn_ports.specs.Ident.{MakesIds}
@@ -83,7 +83,7 @@ less_below (suc k) (x ∷ xs) long some =
     same_first x (slice_cmp nat_cmp (take (suc k) (slice_set xs k (slice_index_or xs k 0 - 1))) xs) (less_below k xs (omega (arith, long)) some)
 
 -- where no key of twenty bytes stands between, a key that does not follow is not there
-pub never_there : (told : Option Contents) (table : ℕ) (after key next : List ℕ) (found : Bool) → IsAbove after key → IsJustBelow after key → IfSome told (λ c. IsNext c table after found next) → IsAboveIf after found next →
+pub never_there : (told : Option Contents) (table : ℕ) (after key next : List ℕ) (found : Bool) → IsAbove after key → IsJustBelow after key → IfSome told (λ c. IsNextKey c table after found next) → IsAboveIf after found next →
     (found && bytes_eq next key) ≡ false → IfSome told (λ c. HasTwenty c table → body_at c table key ≡ None)
 never_there None table after key next found above just steps over missed = tt
 never_there (Some c) table after key next false above just steps over missed = λ twenty. steps key above
@@ -112,7 +112,7 @@ abbrev answer : Bool → Result Bool StoreError
 answer b = Ok b
 
 -- the same by whether it follows
-pub never_missed : (told : Option Contents) (table : ℕ) (after key next : List ℕ) (found r : Bool) → IsAbove after key → IsJustBelow after key → IfSome told (λ c. IsNext c table after found next) → IsAboveIf after found next →
+pub never_missed : (told : Option Contents) (table : ℕ) (after key next : List ℕ) (found r : Bool) → IsAbove after key → IsJustBelow after key → IfSome told (λ c. IsNextKey c table after found next) → IsAboveIf after found next →
     found ≡ true → r ≡ bytes_eq next key → IfSome told (λ c. HasTwenty c table → answer r ≡ answer false → body_at c table key ≡ None)
 never_missed told table after key next found true above just steps over is same = by told
   where

@@ -8,7 +8,7 @@ use Rattle.std.specs.declared.cmp.Ordering.{Ordering}
 use Rattle.std.specs.declared.cmp.Ordering.TheVariants.{Less, Equal, Greater}
 use Rattle.std.proofs.lemmas.Cmp.{nat_list_cmp_total}
 use Rattle.mtn_model.specs.Table.{Contents, body_at, nothing}
-use Rattle.mtn_ports.specs.Kept.{IsAbove, IsAboveIf, IsBodyIf, IsLeast, IsNext, over, with_all}
+use Rattle.mtn_ports.specs.Kept.{IsAbove, IsAboveIf, IsBodyIf, IsLeast, IsNextKey, over, with_all}
 use Rattle.mtn_ports.specs.declared.batch.Put.{Put}
 use Rattle.mtn_ports.proofs.KeptLemmas.{body_at-over, least_has_body, newest}
 use Rattle.mtn_history.specs.Asking.{first_key}
@@ -55,16 +55,16 @@ module _ (c : Contents) (ps : List Put) (table : ℕ) (after : List ℕ) where
   some_kept k b some = let o = over_some (pending k) b in (o.0, both_are k ∙ ap (over (pending k)) some ∙ o.1)
 
   -- none is pending
-  none_next : (found : Bool) (key : List ℕ) → IsLeast (with_all nothing ps) table after None → IsNext c table after found key → IsNext (with_all c ps) table after found key
+  none_next : (found : Bool) (key : List ℕ) → IsLeast (with_all nothing ps) table after None → IsNextKey c table after found key → IsNextKey (with_all c ps) table after found key
   none_next true key least next = (some_kept key next.0.0 next.0.1, λ other a b. none_pending other (least other a) ∙ next.1 other a b)
   none_next false key least next = λ other a. none_pending other (least other a) ∙ next other a
 
   -- the lesser of both is the next
-  first_next : (found : Bool) (key first : List ℕ) → IsLeast (with_all nothing ps) table after (Some first) → IsNext c table after found key → IsNext (with_all c ps) table after true (first_key found key first)
+  first_next : (found : Bool) (key first : List ℕ) → IsLeast (with_all nothing ps) table after (Some first) → IsNextKey c table after found key → IsNextKey (with_all c ps) table after true (first_key found key first)
   first_next false key first least next = ((least.1.0, some_pending first least.1.0 least.1.1), λ other a b. none_pending other (least.2 other a b) ∙ next other a)
   first_next true key first least next = by (is_lt (slice_cmp nat_cmp first key)) refl
     where
-      by : (b : Bool) → is_lt (slice_cmp nat_cmp first key) ≡ b → IsNext (with_all c ps) table after true (cond (true && not b) key first)
+      by : (b : Bool) → is_lt (slice_cmp nat_cmp first key) ≡ b → IsNextKey (with_all c ps) table after true (cond (true && not b) key first)
       by true is = (
         (least.1.0, some_pending first least.1.0 least.1.1),
         λ other a b. none_pending other (least.2 other a b) ∙ next.1 other a (nat_list_cmp_total.trans other first key b (less (slice_cmp nat_cmp first key) is)),
@@ -97,15 +97,15 @@ module _ (c : Contents) (ps : List Put) (table : ℕ) (after : List ℕ) where
 
 -- the same where the records are told
 pub next_alone : (told : Option Contents) (ps : List Put) (table : ℕ) (after key : List ℕ) (found : Bool) → IsLeast (with_all nothing ps) table after None →
-    IfSome told (λ c. IsNext c table after found key) → IfSome told (λ c. IsNext (with_all c ps) table after found key)
+    IfSome told (λ c. IsNextKey c table after found key) → IfSome told (λ c. IsNextKey (with_all c ps) table after found key)
 next_alone None ps table after key found least next = tt
 next_alone (Some c) ps table after key found least next = none_next c ps table after found key least next
 
 pub next_first : (told : Option Contents) (ps : List Put) (table : ℕ) (after key first taken : List ℕ) (found : Bool) → IsLeast (with_all nothing ps) table after (Some first) → taken ≡ first_key found key first →
-    IfSome told (λ c. IsNext c table after found key) → IfSome told (λ c. IsNext (with_all c ps) table after true taken)
+    IfSome told (λ c. IsNextKey c table after found key) → IfSome told (λ c. IsNextKey (with_all c ps) table after true taken)
 next_first None ps table after key first taken found least is next = tt
 next_first (Some c) ps table after key first taken found least is next =
-    subst (IsNext (with_all c ps) table after true) (sym is) (first_next c ps table after found key first least next)
+    subst (IsNextKey (with_all c ps) table after true) (sym is) (first_next c ps table after found key first least next)
 
 -- and it stands above, whatever is told
 pub first_above : (ps : List Put) (table : ℕ) (after key first taken : List ℕ) (found : Bool) → IsLeast (with_all nothing ps) table after (Some first) → taken ≡ first_key found key first → IsAboveIf after found key → IsAbove after taken

@@ -2,7 +2,7 @@
 ghost use Rattle.std.specs.Prelude.{◌≡◌, ◌<◌, ◌≤◌, ◌+◌, ◌^◌, ◌++◌, [], true, false, length, take, Ok, Err, Some, None, IfOk, IfErr, IfSome, IsSome, IsTrue, OnOk, OnErr, option_map};
 ghost use Rattle.mtn_model.specs.Table.{Contents, body_at};
 ghost use Rattle.mtn_ports.specs.Causes.{Rose};
-ghost use Rattle.mtn_ports.specs.Kept.{AreKeyed, Gets, IsAbove, IsBody, IsBodyIf, IsNext, StaysAbove, Steps, TellsBody, over, with_all};
+ghost use Rattle.mtn_ports.specs.Kept.{AreKeyed, Gets, IsAbove, IsBody, IsBodyIf, IsNextKey, StaysAbove, TellsNextKey, TellsBody, over, with_all};
 ghost use Rattle.mtn_history.specs.Asking.{HasTwenty, IsJustBelow, OnlyAsks, first_key};
 ghost use Rattle.mtn_history.specs.Errors.{IfDamage};
 ghost use Rattle.mtn_history.specs.Marked.{IsCounted};
@@ -131,7 +131,7 @@ impl<'a, K: Keeper> Draft<'a, K> {
     ) -> Result<bool, StoreError>
         ensures asks { OnlyAsks K.contents K.leaves K.faults K.reads 1 self.old self.new }
 
-        ensures found { Steps (K.contents self.new.keeper.now) table after.now result key.new.items }
+        ensures found { TellsNextKey (K.contents self.new.keeper.now) table after.now result key.new.items }
         ensures told { TellsBody (K.contents self.new.keeper.now) table result key.new.items body.new.items }
         ensures keyed { OnOk result (IfSome (K.contents self.new.keeper.now) AreKeyed) }
         ensures failed { result ≡ Err StoreError.Failed → Rose (K.faults self.old.keeper.now) (K.faults self.new.keeper.now) }
@@ -177,7 +177,7 @@ impl<'a, K: Keeper> Draft<'a, K> {
     ) -> Result<bool, StoreError>
         ensures asks { OnlyAsks K.contents K.leaves K.faults K.reads 1 self.old self.new }
 
-        ensures found { IfSome (K.contents self.new.keeper.now) (λ c. IfOk result (λ found. IsNext (with_all c self.old.pending.batch) table after.now found key.new.items)) }
+        ensures found { IfSome (K.contents self.new.keeper.now) (λ c. IfOk result (λ found. IsNextKey (with_all c self.old.pending.batch) table after.now found key.new.items)) }
         ensures told { IfSome (K.contents self.new.keeper.now) (λ c. IfOk result (λ found. IsBodyIf (with_all c self.old.pending.batch) table found key.new.items body.new.items)) }
         ensures above { StaysAbove after.now result key.new.items }
         ensures failed { result ≡ Err StoreError.Failed → Rose (K.faults self.old.keeper.now) (K.faults self.new.keeper.now) }

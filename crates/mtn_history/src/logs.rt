@@ -1,7 +1,7 @@
 // The log, and the graph that it tells.
 ghost use Rattle.std.specs.Prelude.{◌≡◌, ◌<◌, ◌≤◌, ◌+◌, List, ℕ, Err, IfOk, IfErr, IfSome};
 ghost use Rattle.mtn_history_laws.specs.History.{IsPlaceOf};
-ghost use Rattle.mtn_replay.specs.Graphs.{Tells};
+ghost use Rattle.mtn_replay.specs.Graphs.{IsGraphOf};
 ghost use Rattle.mtn_model.specs.State.{State};
 ghost use Rattle.mtn_ports.specs.Causes.{Rose};
 ghost use Rattle.mtn_ports.specs.Kept.{Stays, with_all};
@@ -108,7 +108,7 @@ impl<'a, K: Keeper> Draft<'a, K> {
         ensures pending { self.new.pending ≡ self.old.pending }
         ensures reads { K.reads self.new.keeper.now ≤ K.reads self.old.keeper.now + (self.old.pending.count + 1) }
         ensures read { IfSome (K.contents self.new.keeper.now) (λ c. IfOk result (IsReadTo (with_all c self.old.pending.batch) self.old.pending.count)) }
-        ensures found { (f : List ℕ → List ℕ) (s : State) (d : IsFounded f (K.contents self.new.keeper.now) self.old.pending s) → IfOk result (Tells d.stands.history) }
+        ensures found { (f : List ℕ → List ℕ) (s : State) (d : IsFounded f (K.contents self.new.keeper.now) self.old.pending s) → IfOk result (IsGraphOf d.stands.history) }
         ensures damaged { IfSome (K.contents self.new.keeper.now) (λ c. IfErr result (λ e. IfDamage e (WrongBelow self.old.pending.count (with_all c self.old.pending.batch)))) }
         ensures failed { result ≡ Err StoreError.Failed → Rose (K.faults self.old.keeper.now) (K.faults self.new.keeper.now) }
     {

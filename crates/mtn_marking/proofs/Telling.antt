@@ -12,7 +12,7 @@ use Rattle.mtn_base.proofs.Tests.{same_bytes-is, same_bytes-self}
 use Rattle.mtn_marking.specs.declared.node.AttrMarks.{AttrMarks}
 use Rattle.mtn_marking.specs.declared.side.Have.{Have}
 use Rattle.mtn_marking.specs.Marking.{side, attr_marks_of}
-use Rattle.mtn_marking.specs.Parts.{Tells}
+use Rattle.mtn_marking.specs.Parts.{TellsSide}
 use Rattle.mtn_marking.proofs.Keyed.{found_there}
 
 abbrev pub key_of : Attr → List ℕ
@@ -43,8 +43,8 @@ attr_there attrs marks h e k i a m ea em f =
     (ap (option_map (λ (a : Attr). a.value)) hit, ap (option_map (λ (m : AttrMarks). m.marks)) hit')
 
 pub told_attr : (v w : Option (List ℕ)) (o : Option (Option (List ℕ))) (marks : Option (List ℕ)) (set : List ℕ) (h : Have) →
-    o ≡ Some w → marks ≡ Some set → IsTrue h.equal ↔ (v ≡ w) → h.marks.now ≡ set → Tells (AttrValue v) (side (option_map AttrValue o) marks) (Some h)
+    o ≡ Some w → marks ≡ Some set → IsTrue h.equal ↔ (v ≡ w) → h.marks.now ≡ set → TellsSide (AttrValue v) (side (option_map AttrValue o) marks) (Some h)
 told_attr v w o marks set h eo em t e =
-    subst (λ z. Tells (AttrValue v) (side (option_map AttrValue z) marks) (Some h)) (sym eo)
-    (subst (λ z. Tells (AttrValue v) (side (Some (AttrValue w)) z) (Some h)) (sym em)
+    subst (λ z. TellsSide (AttrValue v) (side (option_map AttrValue z) marks) (Some h)) (sym eo)
+    (subst (λ z. TellsSide (AttrValue v) (side (Some (AttrValue w)) z) (Some h)) (sym em)
     ((λ k. ap AttrValue (t.0 k), λ d. t.1 (let g : v ≡ w = cc in g)), e))

@@ -13,7 +13,7 @@ use Rattle.mtn_roster.specs.declared.entry.Entry.{Entry}
 use Rattle.mtn_roster.specs.Tree.{Tree}
 use Rattle.mtn_base.specs.Lists.{rises}
 use Rattle.mtn_marking.specs.declared.against.Against.{Against}
-use Rattle.mtn_marking.specs.declared.known.Known.{Known}
+use Rattle.mtn_marking.specs.declared.known.ParentNode.{ParentNode}
 use Rattle.mtn_marking.specs.declared.side.Have.{Have}
 use Rattle.mtn_marking.specs.declared.node.AttrMarks.{AttrMarks}
 use Rattle.mtn_marking.specs.declared.node.Marking.{Marking}
@@ -21,20 +21,20 @@ use Rattle.mtn_marking.specs.declared.node.NodeMarks.{NodeMarks}
 use Rattle.mtn_marking.specs.Marking.{Marks, Basis, IsFor, marks_of, side_of, birth_by, AreByRule}
 
 -- Tells what a parent has of a scalar: nothing, or its marks and whether its value is this one
-abbrev pub Tells : Value → Option (Side Value) → Option Have → Type 0
-Tells v None None = Unit {0}
-Tells v None (Some h) = ⊥
-Tells v (Some s) None = ⊥
-Tells v (Some s) (Some h) = (IsTrue h.equal ↔ (v ≡ s.value)) × (h.marks.now ≡ s.marks)
+abbrev pub TellsSide : Value → Option (Side Value) → Option Have → Type 0
+TellsSide v None None = Unit {0}
+TellsSide v None (Some h) = ⊥
+TellsSide v (Some s) None = ⊥
+TellsSide v (Some s) (Some h) = (IsTrue h.equal ↔ (v ≡ s.value)) × (h.marks.now ≡ s.marks)
 
 -- the marks are those of the rule, whatever the sides are that were told
 abbrev pub AreMarksBy : ℕ → List ℕ → List ℕ → Option Have → Option Have → List ℕ → Type 0
 AreMarksBy at only_left only_right left right marks =
-    (v : Value) (l r : Option (Side Value)) → Tells v l left → Tells v r right → (x : ℕ) → Contains marks x ↔ IsMarkByRule Value at v only_left only_right l r x
+    (v : Value) (l r : Option (Side Value)) → TellsSide v l left → TellsSide v r right → (x : ℕ) → Contains marks x ↔ IsMarkByRule Value at v only_left only_right l r x
 
 -- the entry and the marking that a look-up gave
-abbrev pub seen : Option Known → Option (Entry × Marking)
-seen = option_map (λ (k : Known). (k.node.now, k.marking.now))
+abbrev pub seen : Option ParentNode → Option (Entry × Marking)
+seen = option_map (λ (k : ParentNode). (k.node.now, k.marking.now))
 
 -- the keys of the entry ascend, and the marking has the same
 abbrev pub IsOrderly : Option (Entry × Marking) → Type 0

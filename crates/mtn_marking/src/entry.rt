@@ -6,7 +6,7 @@ ghost use Rattle.mtn_marking.specs.Marking.{IsFor};
 ghost use Rattle.mtn_marking.specs.Parts.{seen, IsOrderly, HasHere, IsMarkedAttr, IsMarkedContent, IsMarkedNode, basis_of};
 
 use crate::against::Against;
-use crate::known::{Known, birth_from, have_attr, have_content, have_slot, known_from};
+use crate::known::{ParentNode, birth_from, have_attr, have_content, have_slot, known_from};
 use crate::side::mark_side;
 use crate::{AttrMarks, Marking, NodeMarks};
 use mtn_ancestry::PosSet;
@@ -19,8 +19,8 @@ fn mark_attr(
     alloc: Global,
     against: &Against,
     attr: &Attr,
-    left: Option<Known>,
-    right: Option<Known>,
+    left: Option<ParentNode>,
+    right: Option<ParentNode>,
 ) -> Result<AttrMarks, NoMemory>
     requires here { HasHere against.now }
     requires left { IsOrderly (seen left) }
@@ -44,8 +44,8 @@ fn mark_attrs(
     alloc: Global,
     against: &Against,
     attrs: &[Attr],
-    left: Option<Known>,
-    right: Option<Known>,
+    left: Option<ParentNode>,
+    right: Option<ParentNode>,
 ) -> Result<Vec<AttrMarks>, NoMemory>
     requires here { HasHere against.now }
     requires left { IsOrderly (seen left) }
@@ -64,8 +64,8 @@ fn mark_content(
     alloc: Global,
     against: &Against,
     body: &Body,
-    left: Option<Known>,
-    right: Option<Known>,
+    left: Option<ParentNode>,
+    right: Option<ParentNode>,
 ) -> Result<Option<PosSet>, NoMemory>
     requires here { HasHere against.now }
     ensures { IfOk result (λ marks. (n : NodeName) → IsMarkedContent n against.now.at against.now.only_left.now against.now.only_right.now (seen left.entry) (seen right.entry) body.now marks) }

@@ -4,7 +4,7 @@ ghost use Rattle.mtn_base.specs.declared.name.NodeName.{NodeName};
 ghost use Rattle.mtn_history_laws.specs.Scalars.Scalar.{SlotOf, ContentOf, AttrOf};
 ghost use Rattle.mtn_history_laws.specs.Scalars.Value.{SlotValue, ContentValue, AttrValue};
 ghost use Rattle.mtn_marking.specs.Marking.{birth_or, known_by, side_of};
-ghost use Rattle.mtn_marking.specs.Parts.{seen, IsOrderly, Tells};
+ghost use Rattle.mtn_marking.specs.Parts.{seen, IsOrderly, TellsSide};
 
 use crate::Marking;
 use crate::marked::MarkedRoster;
@@ -16,13 +16,13 @@ use mtn_roster::{Attr, Body, Entry, Slot};
 
 /// A node of a parent: its entry and its marking.
 #[derive(Clone, Copy)]
-pub struct Known<'a> {
+pub struct ParentNode<'a> {
     pub node: &'a Entry,
     pub marking: &'a Marking,
 }
 
 /// What a parent has of a node; none where there is no such parent.
-pub fn known_from<'a>(parent: Option<&'a MarkedRoster>, name: &NodeName) -> Option<Known<'a>>
+pub fn known_from<'a>(parent: Option<&'a MarkedRoster>, name: &NodeName) -> Option<ParentNode<'a>>
     ensures known { seen result ≡ known_by (option_map (λ t. t.now) parent.entry) name.now }
     ensures orderly { IsOrderly (seen result) }
 {
@@ -33,7 +33,7 @@ pub fn known_from<'a>(parent: Option<&'a MarkedRoster>, name: &NodeName) -> Opti
 }
 
 /// The birth that the first parent tells that has the node, and the new position where none does.
-pub fn birth_from(at: Pos, left: Option<Known>, right: Option<Known>) -> Pos
+pub fn birth_from(at: Pos, left: Option<ParentNode>, right: Option<ParentNode>) -> Pos
     ensures { result ≡ birth_or (seen left.entry) (birth_or (seen right.entry) at) }
 {
     match left {
@@ -46,8 +46,8 @@ pub fn birth_from(at: Pos, left: Option<Known>, right: Option<Known>) -> Pos
 }
 
 /// What a parent has of the slot of a node, whose new slot this is.
-pub fn have_slot<'a>(known: Option<Known<'a>>, slot: &Slot) -> Option<Have<'a>>
-    ensures { (n : NodeName) → Tells (SlotValue slot.now) (side_of (SlotOf n) (seen known.entry)) result }
+pub fn have_slot<'a>(known: Option<ParentNode<'a>>, slot: &Slot) -> Option<Have<'a>>
+    ensures { (n : NodeName) → TellsSide (SlotValue slot.now) (side_of (SlotOf n) (seen known.entry)) result }
 {
     match known {
         None => None,
@@ -59,8 +59,8 @@ pub fn have_slot<'a>(known: Option<Known<'a>>, slot: &Slot) -> Option<Have<'a>>
 }
 
 /// What a parent has of the content of a node, whose new content this is.
-pub fn have_content<'a>(known: Option<Known<'a>>, content: Id) -> Option<Have<'a>>
-    ensures { (n : NodeName) → Tells (ContentValue content) (side_of (ContentOf n) (seen known.entry)) result }
+pub fn have_content<'a>(known: Option<ParentNode<'a>>, content: Id) -> Option<Have<'a>>
+    ensures { (n : NodeName) → TellsSide (ContentValue content) (side_of (ContentOf n) (seen known.entry)) result }
 {
     match known {
         None => None,
@@ -78,9 +78,9 @@ pub fn have_content<'a>(known: Option<Known<'a>>, content: Id) -> Option<Have<'a
 }
 
 /// What a node of a parent has of an attribute, whose new value this is: the marks stand where the value does.
-fn attr_of_node<'a>(found: Known<'a>, attr: &Attr) -> Option<Have<'a>>
+fn attr_of_node<'a>(found: ParentNode<'a>, attr: &Attr) -> Option<Have<'a>>
     requires orderly { IsOrderly (seen (Some found)) }
-    ensures { (n : NodeName) → Tells (AttrValue attr.now.value) (side_of (AttrOf n attr.now.key) (seen (Some found.entry))) result }
+    ensures { (n : NodeName) → TellsSide (AttrValue attr.now.value) (side_of (AttrOf n attr.now.key) (seen (Some found.entry))) result }
 {
     let attrs = found.node.attrs.as_slice();
     let key = attr.key.as_slice();
@@ -97,9 +97,9 @@ fn attr_of_node<'a>(found: Known<'a>, attr: &Attr) -> Option<Have<'a>>
 }
 
 /// What a parent has of an attribute, whose new value this is.
-pub fn have_attr<'a>(known: Option<Known<'a>>, attr: &Attr) -> Option<Have<'a>>
+pub fn have_attr<'a>(known: Option<ParentNode<'a>>, attr: &Attr) -> Option<Have<'a>>
     requires orderly { IsOrderly (seen known) }
-    ensures { (n : NodeName) → Tells (AttrValue attr.now.value) (side_of (AttrOf n attr.now.key) (seen known.entry)) result }
+    ensures { (n : NodeName) → TellsSide (AttrValue attr.now.value) (side_of (AttrOf n attr.now.key) (seen known.entry)) result }
 {
     match known {
         None => None,

@@ -6,7 +6,7 @@ ghost use Rattle.mtn_marking.specs.Parts.{seen, IsOrderly};
 
 use crate::MarkMap;
 use crate::fits::are_for;
-use crate::known::Known;
+use crate::known::ParentNode;
 use mtn_base::{NoMemory, NodeName};
 use mtn_roster::Roster;
 use std::alloc::Global;
@@ -61,7 +61,7 @@ impl MarkedRoster {
     }
 
     /// What the roster and the marks have of a node: one search by halves, since both have it at one place.
-    pub fn known(&self, name: &NodeName) -> Option<Known>
+    pub fn known(&self, name: &NodeName) -> Option<ParentNode>
         ensures known { seen result ≡ known_in self.now name.now }
         ensures orderly { IsOrderly (seen result) }
     {
@@ -72,7 +72,7 @@ impl MarkedRoster {
                 None => None,
                 Some(entry) => match self.marks.at_place(place) {
                     None => None,
-                    Some(node) => Some(Known {
+                    Some(node) => Some(ParentNode {
                         node: entry,
                         marking: &node.marking,
                     }),

@@ -19,7 +19,7 @@ use Rattle.mtn_history.specs.declared.errors.HistoryError.{HistoryError}
 use Rattle.mtn_history.specs.declared.errors.HistoryError.TheVariants.{Refused, Store}
 use Rattle.mtn_history_laws.specs.History.{Revision, tree_at}
 use Rattle.mtn_plans.specs.Plans.{IsResult, IsUnborn, limit_refusal, merge_revision, merge_text, merged_or, text_refusal}
-use Rattle.mtn_plans.specs.declared.outcome.Outcome.TheVariants.{Merged}
+use Rattle.mtn_plans.specs.declared.outcome.MergeOutcome.TheVariants.{Merged}
 use Rattle.mtn_put_revision.specs.Finding.{IsRefusal}
 use Rattle.mtn_replay.specs.Making.{parent_tree, too_long, too_many}
 use Rattle.mtn_roster.specs.Tree.{Tree}

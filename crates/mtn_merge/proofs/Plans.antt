@@ -17,8 +17,8 @@ use Rattle.mtn_model.specs.Table.{Table}
 use Rattle.mtn_plans.specs.Given.{IsGiven}
 use Rattle.mtn_plans.specs.Plans.{Ends, Looks, Merges, Plan, Plans, PlansPayload, PlansSides, Unless}
 use Rattle.mtn_plans.specs.Sides.{left_of, right_of, side_refusal}
-use Rattle.mtn_plans.specs.declared.outcome.Outcome.{Outcome}
-use Rattle.mtn_plans.specs.declared.outcome.Outcome.TheVariants.{Conflicted}
+use Rattle.mtn_plans.specs.declared.outcome.MergeOutcome.{MergeOutcome}
+use Rattle.mtn_plans.specs.declared.outcome.MergeOutcome.TheVariants.{Conflicted}
 use Rattle.mtn_put_revision.specs.Finding.{IsRefusal}
 use Rattle.mtn_resolve.specs.Subjects.{AreApart}
 use Rattle.mtn_resolve.specs.Texts.{AreResolutions}
@@ -42,7 +42,7 @@ clear_kept f h l r m clear (Ok (planned.Merged text id tree)) has = (clear, has)
 clear_kept f h l r m clear (Ok (planned.Conflicted left right conflicts)) has = tt
 clear_kept f h l r m clear (Err e) has = tt
 
-pub gives_map : (Is Js : Plan → Type 0) (r : Result Outcome HistoryError) → ((plan : Plan) → Is plan → Js plan) → Gives Is r → Gives Js r
+pub gives_map : (Is Js : Plan → Type 0) (r : Result MergeOutcome HistoryError) → ((plan : Plan) → Is plan → Js plan) → Gives Is r → Gives Js r
 gives_map Is Js (Ok outcome) f is = f (Ok outcome) is
 gives_map Is Js (Err (Refused cause)) f is = f (Err cause) is
 gives_map Is Js (Err (Store e)) f is = tt
@@ -98,11 +98,11 @@ module _ (f : List ℕ → List ℕ) (files : Table) (h : List Revision) (a b : 
           (subst (λ i. Ends f h i x.right.id n plan) found.left e));
     })
 
-    pub resolved : (n : Merge) → Overrides files x.decisions x.conflicts rs (Ok n) → (r : Result Outcome HistoryError) → Gives (Ends f h x.left.id x.right.id n) r → Gives (Plans f files h a b rs) r
+    pub resolved : (n : Merge) → Overrides files x.decisions x.conflicts rs (Ok n) → (r : Result MergeOutcome HistoryError) → Gives (Ends f h x.left.id x.right.id n) r → Gives (Plans f files h a b rs) r
     resolved n over r g = gives_map (Ends f h x.left.id x.right.id n) (Plans f files h a b rs) r (ended n over) g
 
     -- without resolutions nothing is overridden
-    pub unresolved : rs ≡ [] → IsInOrder x.decisions → (r : Result Outcome HistoryError) → Gives (Ends f h x.left.id x.right.id x.decisions) r → Gives (Plans f files h a b rs) r
+    pub unresolved : rs ≡ [] → IsInOrder x.decisions → (r : Result MergeOutcome HistoryError) → Gives (Ends f h x.left.id x.right.id x.decisions) r → Gives (Plans f files h a b rs) r
     unresolved none order r g = resolved x.decisions (subst (λ l. Overrides files x.decisions x.conflicts l (Ok x.decisions)) (sym none) ((tt, refl), sym (not_overridden x.decisions order))) r g
 
 -- decisions that are not overridden any more
@@ -120,7 +120,7 @@ with_given f files h l r resolves payload rs is (Some cause) plan p = p
 with_given f files h l r resolves payload rs is None plan p = (Ok rs, is, p)
 
 module _ (f : List ℕ → List ℕ) (files : Table) (h : List Revision) (a b : Id) where
-  pub given_merges : (text : Option (List ℕ)) (rs : List Resolution) → GivesResolutions text (Ok rs) → (r : Result Outcome HistoryError) → Gives (Plans f files h a b rs) r → Gives (MergesText f files h a b text) r
+  pub given_merges : (text : Option (List ℕ)) (rs : List Resolution) → GivesResolutions text (Ok rs) → (r : Result MergeOutcome HistoryError) → Gives (Plans f files h a b rs) r → Gives (MergesText f files h a b text) r
   given_merges (Some text) rs is r g = gives_map (Plans f files h a b rs) (Merges f files h a b true text) r (with_given f files h (left_of a b) (right_of a b) true text rs is (side_refusal h a b)) g
   given_merges None rs is r g = gives_map (Plans f files h a b rs) (Merges f files h a b false []) r (with_given f files h (left_of a b) (right_of a b) false [] rs (ap Ok is) (side_refusal h a b)) g
 

@@ -16,8 +16,8 @@ use Rattle.mtn_history_laws.specs.History.{Revision}
 use Rattle.mtn_manifest.specs.Manifest.{manifest_of}
 use Rattle.mtn_model.specs.Table.{Table}
 use Rattle.mtn_plans.specs.Plans.{Plan, IsResult, IsUnborn, limit_refusal, merged_or, merge_revision, merge_text, Merges}
-use Rattle.mtn_plans.specs.declared.outcome.Outcome.{Outcome}
-use Rattle.mtn_plans.specs.declared.outcome.Outcome.TheVariants.{Merged, Conflicted}
+use Rattle.mtn_plans.specs.declared.outcome.MergeOutcome.{MergeOutcome}
+use Rattle.mtn_plans.specs.declared.outcome.MergeOutcome.TheVariants.{Merged, Conflicted}
 use Rattle.mtn_put_revision.specs.Keeping.{IsPlanned}
 use Rattle.mtn_replay.specs.Making.{place_of}
 use Rattle.mtn_roster.specs.Tree.{Tree}
@@ -25,17 +25,17 @@ use Rattle.mtn_merge.specs.declared.answer.Planned.{Planned}
 use Rattle.mtn_merge.specs.declared.answer.Planned.TheVariants as planned
 
 -- a call gives such a plan, unless the store fails
-abbrev pub Gives : (Plan → Type 0) → Result Outcome HistoryError → Type 0
+abbrev pub Gives : (Plan → Type 0) → Result MergeOutcome HistoryError → Type 0
 Gives Is (Ok outcome) = Is (Ok outcome)
 Gives Is (Err (Refused cause)) = Is (Err cause)
 Gives Is (Err (Store e)) = ⊤
 
 -- what is planned, without the text's id and its tree
-abbrev pub outcome_of : Planned → Outcome
+abbrev pub outcome_of : Planned → MergeOutcome
 outcome_of (planned.Merged text id tree) = Merged text
 outcome_of (planned.Conflicted left right conflicts) = Conflicted left right conflicts
 
-abbrev pub outcomes : Result Planned HistoryError → Result Outcome HistoryError
+abbrev pub outcomes : Result Planned HistoryError → Result MergeOutcome HistoryError
 outcomes (Ok plan) = Ok (outcome_of plan)
 outcomes (Err e) = Err e
 
@@ -45,7 +45,7 @@ HasIds f (planned.Merged text id tree) = id.0 ≡ f text
 HasIds f (planned.Conflicted left right conflicts) = IsLesser left right
 
 -- only conflicts are shown
-abbrev pub AreShown : Outcome → Type 0
+abbrev pub AreShown : MergeOutcome → Type 0
 AreShown (Merged text) = ⊥
 AreShown (Conflicted left right conflicts) = IsLesser left right
 

@@ -26,5 +26,5 @@ mod text;
 
 pub use answer::Planned;
 pub use births::unborn;
-pub use mtn_plans::Outcome;
+pub use mtn_plans::MergeOutcome;
 pub use planning::{look, plan, plan_with};

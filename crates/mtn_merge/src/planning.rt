@@ -27,7 +27,7 @@ use crate::sides::{Compared, sides_of};
 use mtn_base::Id;
 use mtn_conflicts::conflicts;
 use mtn_history::{Draft, HistoryError, StoreError};
-use mtn_plans::Outcome;
+use mtn_plans::MergeOutcome;
 use mtn_ports::{Ident, Keeper};
 use mtn_put_revision::roster_held;
 use mtn_resolve::Resolutions;
@@ -59,7 +59,7 @@ pub fn look<K: Keeper>(
     draft: &mut Draft<'_, K>,
     a: Id,
     b: Id,
-) -> Result<Outcome, HistoryError>
+) -> Result<MergeOutcome, HistoryError>
     ensures same_reference { draft.new.keeper.ghost_name ≡ draft.old.keeper.ghost_name }
     ensures stays { Stays K.contents K.leaves K.faults draft.old.keeper.now draft.new.keeper.now }
     ensures pending { draft.new.pending ≡ draft.old.pending }
@@ -74,7 +74,7 @@ pub fn look<K: Keeper>(
         decisions: _,
         conflicts,
     } = sides_of(alloc, draft, a, b)?;
-    Ok(Outcome::Conflicted {
+    Ok(MergeOutcome::Conflicted {
         left: left.id,
         right: right.id,
         conflicts,

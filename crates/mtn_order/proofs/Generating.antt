@@ -3,7 +3,7 @@ use Rattle.std.proofs.Common.{◌≡◌, ℕ, ◌<◌, Bool, true, false, cond, 
 use Rattle.std.specs.Prelude.{◌==◌, codes, decimal}
 use Rattle.std.proofs.lemmas.Bool.Decides.{nat_tests}
 use Rattle.mtn_base.specs.declared.refusal.Cause.TheVariants.{StoreNotEmpty}
-use Rattle.mtn_generated.specs.Growing.{Answer, Generates, Grows, Unless}
+use Rattle.mtn_generated.specs.Growing.{GrowthAnswer, Generates, Grows, Unless}
 use Rattle.mtn_generated.specs.Growing.Stop.{Refused, Conflicting}
 use Rattle.mtn_generated.proofs.Stopping.{not_empty}
 use Rattle.mtn_model.specs.Outcome.{Outcome}
@@ -34,10 +34,10 @@ module _ (f : List ℕ → List ℕ) (s t : State) (same : IsSameUpToOrder f s t
       λ i. record { files = same.files i; log = logs i; certs = same.certs i; keys = same.keys i }
 
 abbrev pub DoesGenerate : (List ℕ → List ℕ) → ℕ → State → Outcome → Type 0
-DoesGenerate f n s o = (answer : Answer) × Generates f n s answer × Generated n s answer o
+DoesGenerate f n s o = (answer : GrowthAnswer) × Generates f n s answer × Generated n s answer o
 
 -- what is done leaves a lawful state
-leaves_lawful : (f : List ℕ → List ℕ) (n : ℕ) (s : State) (o : Outcome) (answer : Answer) → IsLawful f s → Generates f n s answer → Generated n s answer o → IsLawful f o.state
+leaves_lawful : (f : List ℕ → List ℕ) (n : ℕ) (s : State) (o : Outcome) (answer : GrowthAnswer) → IsLawful f s → Generates f n s answer → Generated n s answer o → IsLawful f o.state
 leaves_lawful f n s o (Ok g) law does is = subst (λ (x : Outcome). IsLawful f x.state) (sym is) (generated_is_lawful f n s g law does)
 leaves_lawful f n s o (Err (Refused cause)) law does is = subst (λ (x : Outcome). IsLawful f x.state) (sym is) law
 leaves_lawful f n s o (Err (Conflicting left right conflicts)) law does is = subst (λ (x : Outcome). IsLawful f x.state) (sym is) law
@@ -53,7 +53,7 @@ stops_by f n s some = by (length s.log == 0) refl
     by false e = refl
     by true e = absurd (grind (arith, nat_tests))
 
-refused_of : (n : ℕ) (s : State) (o : Outcome) (answer : Answer) (k : ℕ) → answer ≡ Err (Refused (StoreNotEmpty k)) → Generated n s answer o → o ≡ refused (StoreNotEmpty k) s
+refused_of : (n : ℕ) (s : State) (o : Outcome) (answer : GrowthAnswer) (k : ℕ) → answer ≡ Err (Refused (StoreNotEmpty k)) → Generated n s answer o → o ≡ refused (StoreNotEmpty k) s
 refused_of n s o answer k is does = subst (λ a. Generated n s a o) is does
 
 module _ (f : List ℕ → List ℕ) (n : ℕ) (s t : State) (same : IsSameUpToOrder f s t) (o : Outcome) (does : DoesGenerate f n s o) where

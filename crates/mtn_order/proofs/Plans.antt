@@ -23,7 +23,7 @@ use Rattle.mtn_order.proofs.Queries.{same_unknown}
 use Rattle.mtn_order.specs.Free.{IsOrderFree, IsSameOutcome}
 use Rattle.mtn_plans.specs.Plans.{Ends, EndsUnless, IsConflicted, IsMade, IsResult, IsUnborn, Looks, LooksAtSides, Merges, Plan, PlansGiven, PlansPayload, PlansSides, Unless, merge_text, merged_or, text_refusal}
 use Rattle.mtn_plans.specs.Sides.{IsMergeAt, left_of, related, right_of, side_refusal}
-use Rattle.mtn_plans.specs.declared.outcome.Outcome.TheVariants.{Conflicted, Merged}
+use Rattle.mtn_plans.specs.declared.outcome.MergeOutcome.TheVariants.{Conflicted, Merged}
 use Rattle.mtn_renaming.proofs.Refusing.{same_above, same_parent, same_place}
 use Rattle.mtn_renaming.specs.Order.{IsSameUpToOrder}
 use Rattle.mtn_renaming.specs.Renaming.{IsRenaming}

@@ -22,14 +22,14 @@ use Rattle.mtn_replay.specs.Making.{parent_tree, too_many, too_long}
 use Rattle.mtn_resolve.specs.declared.resolution.Resolution.{Resolution}
 use Rattle.mtn_resolve.specs.Overriding.{overridden}
 use Rattle.mtn_roster.specs.Tree.{Tree}
-use Rattle.mtn_plans.specs.declared.outcome.Outcome.{Outcome}
-use Rattle.mtn_plans.specs.declared.outcome.Outcome.TheVariants.{Merged, Conflicted}
+use Rattle.mtn_plans.specs.declared.outcome.MergeOutcome.{MergeOutcome}
+use Rattle.mtn_plans.specs.declared.outcome.MergeOutcome.TheVariants.{Merged, Conflicted}
 use Rattle.mtn_plans.specs.Given.{IsChecked, IsGiven}
 use Rattle.mtn_plans.specs.Sides.{left_of, right_of, side_refusal, IsMergeAt}
 
 -- a merge that is not refused, or why it is
 abbrev pub Plan : Type 0
-Plan = Result Outcome Cause
+Plan = Result MergeOutcome Cause
 
 -- the id is no birth on either side
 abbrev pub IsUnborn : List Revision → Id → Id → Id → Type 0

@@ -10,4 +10,4 @@
 
 mod outcome;
 
-pub use outcome::Outcome;
+pub use outcome::MergeOutcome;

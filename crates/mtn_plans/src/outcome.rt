@@ -4,7 +4,7 @@ use mtn_conflicts::Conflicts;
 
 /// What a merge that is not refused comes to.
 #[derive(Drop)]
-pub enum Outcome {
+pub enum MergeOutcome {
     /// The text of the merged revision.
     Merged {
         text: Bytes,

@@ -13,7 +13,7 @@ use Rattle.std.proofs.lemmas.List.Elements.{Contains-append_left, Contains-push,
 use Rattle.std.proofs.lemmas.Slice.Eq.{starts_is}
 use Rattle.mtn_base.proofs.IdOrder.{contains_nil}
 use Rattle.mtn_model.specs.Table.{Contents, body_at}
-use Rattle.mtn_ports.specs.Kept.{IsAbove, IsAboveIf, IsBodyIf, IsNext, with_all}
+use Rattle.mtn_ports.specs.Kept.{IsAbove, IsAboveIf, IsBodyIf, IsNextKey, with_all}
 use Rattle.mtn_ports.specs.declared.batch.Put.{Put}
 use Rattle.mtn_history.specs.declared.pending.Pending.{Pending}
 use Rattle.mtn_put_certs.specs.Walking.{IsFollowing, IsFrom, IsHeldBehind}
@@ -65,10 +65,10 @@ module _ (c : Contents) (table : ℕ) (front last : List ℕ) where
   never : (other : List ℕ) → body_at c table other ≡ None → IsHeldBehind c table front other → ⊥
   never other none held = let some : is_some (body_at c table other) ≡ true = held.1 in let no : is_some (body_at c table other) ≡ false = ap is_some none in cc
 
-  pub none_follows : (key : List ℕ) → IsNext c table last false key → IsFollowing c table front last None
+  pub none_follows : (key : List ℕ) → IsNextKey c table last false key → IsFollowing c table front last None
   none_follows key next other above held = never other (next other above) held
 
-  pub record_follows : (key body : List ℕ) (test : Bool) → IsFrom front last → IsAbove last key → IsNext c table last true key → body_at c table key ≡ Some body → test ≡ pointwise eqb front (take (length front) key) → test ≡ true →
+  pub record_follows : (key body : List ℕ) (test : Bool) → IsFrom front last → IsAbove last key → IsNextKey c table last true key → body_at c table key ≡ Some body → test ≡ pointwise eqb front (take (length front) key) → test ≡ true →
       IsFollowing c table front last (Some (key, body))
   record_follows key body test from above next own is begins = (
     record { above = from_on front last key from above; rest = drop (length front) key; whole = (starts_is Decides-eqb key front test is).0 begins },
@@ -77,7 +77,7 @@ module _ (c : Contents) (table : ℕ) (front last : List ℕ) where
     λ other a b held. never other (next.1 other a b) held,
   )
 
-  pub past_front : (key : List ℕ) (test : Bool) → IsFrom front last → IsAbove last key → IsNext c table last true key → test ≡ pointwise eqb front (take (length front) key) → test ≡ false → IsFollowing c table front last None
+  pub past_front : (key : List ℕ) (test : Bool) → IsFrom front last → IsAbove last key → IsNextKey c table last true key → test ≡ pointwise eqb front (take (length front) key) → test ≡ false → IsFollowing c table front last None
   past_front key test from above next is begins other a held =
       ⊎_elim (λ b. never other (next.1 other a b) held)
       (λ r. ⊎_elim (λ e. goes_on held.0.rest (sym e ∙ held.0.whole)) (λ b. let m = between front key held.0.rest (from_on front last key from above) (subst (IsAbove key) held.0.whole b) in goes_on m.0 m.1) r)
@@ -124,17 +124,17 @@ module _ {A : Type 0} (Is : A → Type 0) (key_of : A → List ℕ) where
 -- ---- where the records are told
 
 module _ (told : Option Contents) (ps : List Put) (table : ℕ) (front last key body shown : List ℕ) (found test : Bool) (from : IsFrom front last) (there : found ≡ true) (above : IsAboveIf last found key)
-    (next : IfSome told (λ c. IsNext (with_all c ps) table last found key)) (own : IfSome told (λ c. IsBodyIf (with_all c ps) table found key body)) (shows : shown ≡ key) (is : test ≡ pointwise eqb front (take (length front) shown)) where
+    (next : IfSome told (λ c. IsNextKey (with_all c ps) table last found key)) (own : IfSome told (λ c. IsBodyIf (with_all c ps) table found key body)) (shows : shown ≡ key) (is : test ≡ pointwise eqb front (take (length front) shown)) where
   tests : test ≡ pointwise eqb front (take (length front) key)
   tests = is ∙ ap (λ k. pointwise eqb front (take (length front) k)) shows
 
   is_above : IsAbove last key
   is_above = subst (λ b. IsAboveIf last b key) there above
 
-  over : (P : Contents → Type 0) → ((c : Contents) → IsNext (with_all c ps) table last true key → body_at (with_all c ps) table key ≡ Some body → P c) →
-      (o : Option Contents) → IfSome o (λ c. IsNext (with_all c ps) table last found key) → IfSome o (λ c. IsBodyIf (with_all c ps) table found key body) → IfSome o P
+  over : (P : Contents → Type 0) → ((c : Contents) → IsNextKey (with_all c ps) table last true key → body_at (with_all c ps) table key ≡ Some body → P c) →
+      (o : Option Contents) → IfSome o (λ c. IsNextKey (with_all c ps) table last found key) → IfSome o (λ c. IsBodyIf (with_all c ps) table found key body) → IfSome o P
   over P f None h b = tt
-  over P f (Some c) h b = f c (subst (λ t. IsNext (with_all c ps) table last t key) there h) (subst (λ t. IsBodyIf (with_all c ps) table t key body) there b)
+  over P f (Some c) h b = f c (subst (λ t. IsNextKey (with_all c ps) table last t key) there h) (subst (λ t. IsBodyIf (with_all c ps) table t key body) there b)
 
   pub told_past : test ≡ false → IfSome told (λ c. IsFollowing (with_all c ps) table front last None)
   told_past ends = over (λ c. IsFollowing (with_all c ps) table front last None) (λ c n b. past_front (with_all c ps) table front last key test from is_above n tests ends) told next own

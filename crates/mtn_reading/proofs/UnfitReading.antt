@@ -22,7 +22,7 @@ use Rattle.mtn_history.proofs.MetaLemmas.{opened_by}
 use Rattle.mtn_model.specs.State.{State, empty_state}
 use Rattle.mtn_model.specs.Table.{Contents, body_at, nothing}
 use Rattle.mtn_packets.specs.declared.packet.Packet.{Packet}
-use Rattle.mtn_ports.specs.Kept.{AreKeyed, IsNext, Same, with_all}
+use Rattle.mtn_ports.specs.Kept.{AreKeyed, IsNextKey, Same, with_all}
 use Rattle.mtn_ports.specs.declared.batch.Put.{Put}
 use Rattle.mtn_reading.specs.Reading.{IfReadDamage, IsNumbered, ReadsTo}
 use Rattle.mtn_reading.specs.Unfit.{IsAnswered, IsAsked, IsRecordIn, IsShownFor, IsUnfit, SpoilsReading}
@@ -31,7 +31,7 @@ use Rattle.mtn_reading.specs.declared.error.ReadError.{ReadError}
 -- ---- a table without records, and contents without any
 
 -- no key stands above none
-pub none_in : (c : Contents) → AreKeyed c → (table : ℕ) (key : List ℕ) → IsNext c table [] false key → (k : List ℕ) → body_at c table k ≡ None
+pub none_in : (c : Contents) → AreKeyed c → (table : ℕ) (key : List ℕ) → IsNextKey c table [] false key → (k : List ℕ) → body_at c table k ≡ None
 none_in c keyed table key none [] = keyed.keys table
 none_in c keyed table key none (x ∷ xs) = none (x ∷ xs) refl
 

@@ -11,7 +11,7 @@ use Rattle.mtn_resolve.specs.declared.error.ResolveTextError.{ResolveTextError}
 use Rattle.mtn_resolve.specs.declared.error.ResolveTextError.TheVariants.{NotText, BadStanza, BadOrder, Repeated, NoMemory}
 use Rattle.mtn_resolve.specs.Subjects.{subject_of, is_about, is_repeat, AreApart}
 use Rattle.mtn_resolve.specs.Texts.{stanza_of, header, IsResolution, AreResolutions, StandsAt}
-use Rattle.mtn_resolve.specs.Reading.{IsNext, IsRefused, IsListFault}
+use Rattle.mtn_resolve.specs.Reading.{IsNextResolution, IsRefused, IsListFault}
 use Rattle.mtn_base.proofs.Dropping.{drop_step}
 
 none_left : {X : Type 0} (f : X → Bool) (xs ys : List X) → list_any f (xs ++ ys) ≡ false → list_any f xs ≡ false
@@ -52,7 +52,7 @@ pub record SoFar (stanzas : List (List LineText)) (at : ℕ) (rs : List Resoluti
   pub lawful : AreResolutions [] rs
   pub read : take at stanzas ≡ header ∷ map stanza_of rs
 
-pub next_so_far : (ss : List (List LineText)) (at : ℕ) (s : List LineText) (rs next : List Resolution) → at < length ss → s ≡ get_or ss at s → SoFar ss at rs → IsNext rs s next → SoFar ss (at + 1) next
+pub next_so_far : (ss : List (List LineText)) (at : ℕ) (s : List LineText) (rs next : List Resolution) → at < length ss → s ≡ get_or ss at s → SoFar ss at rs → IsNextResolution rs s next → SoFar ss (at + 1) next
 next_so_far ss at s rs next lt is far (r, spelled, lawful, fresh, whole) =
     subst (SoFar ss (at + 1)) (sym whole) (record {
       lawful = more [] rs r far.lawful lawful fresh;

@@ -2,7 +2,7 @@
 ghost use Rattle.std.specs.Prelude.{◌≡◌, [], ◌∷◌, map, IfOk, IfErr, OnOk};
 ghost use Rattle.mtn_basic_io.specs.Spelling.{AreStanzas};
 ghost use Rattle.mtn_resolve.specs.Texts.{IsResolutionsText, IsResolutionsFault, header, stanza_of};
-ghost use Rattle.mtn_resolve.specs.Reading.{IsPart, IsList, IsListFault, IsNext, IsRefused, IsFirstRefused};
+ghost use Rattle.mtn_resolve.specs.Reading.{IsPart, IsList, IsListFault, IsNextResolution, IsRefused, IsFirstRefused};
 
 use crate::error::ResolveTextError;
 use crate::resolution::{Resolution, Resolutions};
@@ -40,7 +40,7 @@ impl Part {
     /// Reads the stanza of a number behind the others.
     fn add(&mut self, alloc: Global, stanza: &Stanza, number: u64) -> Result<(), ResolveTextError>
         requires { IsPart self.old.items self.old.items self.old.subjects }
-        ensures ok { OnOk result (IsNext self.old.items stanza.now self.new.items) }
+        ensures ok { OnOk result (IsNextResolution self.old.items stanza.now self.new.items) }
         ensures part { OnOk result (IsPart self.new.items self.new.items self.new.subjects) }
         ensures err { IfErr result (IsRefused self.old.items stanza.now number) }
     {

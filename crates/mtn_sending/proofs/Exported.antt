@@ -26,7 +26,7 @@ use Rattle.mtn_model.specs.Table.{Contents}
 use Rattle.mtn_ports.specs.Kept.{Same, with_all}
 use Rattle.mtn_put_certs.proofs.HeldLemmas.{told_if}
 use Rattle.mtn_put_certs.proofs.LoggedLemmas.{shows_graph}
-use Rattle.mtn_replay.specs.Graphs.{Tells}
+use Rattle.mtn_replay.specs.Graphs.{IsGraphOf}
 use Rattle.mtn_replay.proofs.Places.{within}
 use Rattle.mtn_sending.specs.Sending.{AsksFor, Exports, Gives, IsShownBelow, WritesAll}
 use Rattle.mtn_sending.proofs.One.{FindsAll}
@@ -94,7 +94,7 @@ log_damages told p r e is wrong = as_error told p r e is (shows_graph {X = Unit 
 
 -- what was sent of the revisions of the graph that the log tells
 module _ (told now : Option Contents) (p q : Pending) (entries : List LogEntry) (id : Id) (have ids : List Id) (same : Same told now) (kept : q ≡ p)
-    (tells : (f : List ℕ → List ℕ) (s : State) (d : IsFounded f told p s) → Tells d.stands.history entries) (asks : (h : List Revision) → Tells h entries → AsksFor h id have (Ok ids)) where
+    (tells : (f : List ℕ → List ℕ) (s : State) (d : IsFounded f told p s) → IsGraphOf d.stands.history entries) (asks : (h : List Revision) → IsGraphOf h entries → AsksFor h id have (Ok ids)) where
   module _ {X : Type 0} (sent : Result X StoreError) (old new : List ℕ) (finds : FindsAll now q ids old new sent) where
     pub sent_of : (f : List ℕ → List ℕ) (s : State) (d : IsFounded f now p s) → Gives sent (λ _. WritesAll s ids old new)
     sent_of f s d =

@@ -11,7 +11,7 @@ use Rattle.mtn_base.specs.declared.id.Id.{Id}
 use Rattle.mtn_branches.specs.Graphs.{IsHeldBy}
 use Rattle.mtn_graph_queries.proofs.Telling.{place_to}
 use Rattle.mtn_history_laws.specs.History.{Revision}
-use Rattle.mtn_replay.specs.Graphs.{Tells}
+use Rattle.mtn_replay.specs.Graphs.{IsGraphOf}
 use Rattle.mtn_replay.proofs.Places.{inside}
 
 -- a revision that the graph has is found
@@ -33,7 +33,7 @@ bare e = record { id = e.id; parents = list_of e.parents; tree = [] }
 abbrev pub bare_history : List LogEntry → List Revision
 bare_history log = map bare log
 
-pub tells_bare : (log : List LogEntry) → Tells (bare_history log) log
+pub tells_bare : (log : List LogEntry) → IsGraphOf (bare_history log) log
 unfolding bare
 tells_bare log = record {
   long = sym (length-map log bare);

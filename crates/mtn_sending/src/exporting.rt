@@ -11,7 +11,7 @@ ghost use Rattle.mtn_model.specs.State.{State};
 ghost use Rattle.mtn_model.specs.Table.{Contents};
 ghost use Rattle.mtn_ports.specs.Causes.{Rose};
 ghost use Rattle.mtn_ports.specs.Kept.{Stays, with_all};
-ghost use Rattle.mtn_replay.specs.Graphs.{Tells};
+ghost use Rattle.mtn_replay.specs.Graphs.{IsGraphOf};
 ghost use Rattle.mtn_replay.specs.Lawful.{IsHistory};
 ghost use Rattle.mtn_sending.specs.Sending.{AsksFor, Exports};
 
@@ -25,7 +25,7 @@ use std::alloc::Global;
 
 // The revisions that are sent, in log order.
 fn revisions(alloc: Global, graph: &Graph, id: Id, have: &[Id]) -> Result<List<Id>, HistoryError>
-    ensures found { (h : Seq Revision) → Tells h graph.now → AsksFor h id have.now result }
+    ensures found { (h : Seq Revision) → IsGraphOf h graph.now → AsksFor h id have.now result }
     ensures known { IfOk result (λ ids. (x : Named) → Contains ids x → IsHeldBy graph.now x) }
     ensures sound { IfErr result (λ e. IfStoreDamage e (λ _. ⊥)) }
     ensures not_failed { result ≡ Err (HistoryError.Store StoreError.Failed) → ⊥ }

@@ -21,7 +21,7 @@ use Rattle.mtn_base.specs.declared.refusal.Refusal.{Refusal}
 use Rattle.mtn_changeset_laws.specs.Changes.{or_else}
 use Rattle.mtn_conflicts.specs.ConflictText.{conflict_stanzas}
 use Rattle.mtn_conflicts.specs.declared.lists.Conflicts.{Conflicts}
-use Rattle.mtn_generated.specs.Growing.{Answer, Generates}
+use Rattle.mtn_generated.specs.Growing.{GrowthAnswer, Generates}
 use Rattle.mtn_generated.specs.Growing.Stop.{Refused, Conflicting}
 use Rattle.mtn_generated.specs.Numbered.{summary_text}
 use Rattle.mtn_history_laws.specs.History.{Revision}
@@ -32,7 +32,7 @@ use Rattle.mtn_model.specs.Outcome.{Outcome}
 use Rattle.mtn_model.specs.State.{State}
 use Rattle.mtn_model.specs.declared.status.Status.TheVariants as status
 use Rattle.mtn_plans.specs.Plans.{Looks, Merges, Plan}
-use Rattle.mtn_plans.specs.declared.outcome.Outcome.TheVariants.{Conflicted, Merged}
+use Rattle.mtn_plans.specs.declared.outcome.MergeOutcome.TheVariants.{Conflicted, Merged}
 use Rattle.mtn_replay.specs.Accepting.{Decides}
 use Rattle.mtn_replay.specs.Certificates.{with_cert, with_key}
 use Rattle.mtn_replay.specs.Files.{file_refusal, with_file}
@@ -169,7 +169,7 @@ pub record ReadsPackets (f : List ℕ → List ℕ) (input : List ℕ) (s : Stat
   pub is : o ≡ read_outcome refusal s after new
 
 -- what n generated revisions are answered with: their summary, the refusal, or the conflicts of a merge
-abbrev pub Generated : ℕ → State → Answer → Outcome → Type 0
+abbrev pub Generated : ℕ → State → GrowthAnswer → Outcome → Type 0
 Generated n s (Ok g) o = o ≡ done g.state (summary_text n g.tips.last)
 Generated n s (Err (Refused cause)) o = o ≡ refused cause s
 Generated n s (Err (Conflicting left right conflicts)) o = o ≡ conflicted s (conflict_text left right conflicts)
@@ -207,7 +207,7 @@ Steps f (MergeHeads branch author date key resolves) payload s o = OfHistory f s
     HeadsMerged (λ left right. Merges f s.files h left right resolves payload) (λ left right. Commits f (merge_said key author branch date left right)) s o ids)
 Steps f (Packets id have) payload s o = OfHistory f s (λ h. Viewed (IsExported s h id have) s o)
 Steps f Read payload s o = ReadsPackets f payload s o
-Steps f (Generate n) payload s o = (answer : Answer) × Generates f n s answer × Generated n s answer o
+Steps f (Generate n) payload s o = (answer : GrowthAnswer) × Generates f n s answer × Generated n s answer o
 Steps f Check payload s o = o ≡ done s (sound_text s)
 Steps f Migrate payload s o = (given : Result (List KeyName) Cause) × IsTableOf payload given × (o ≡ refused (not_migrated given) s)
 

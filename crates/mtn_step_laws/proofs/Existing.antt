@@ -15,7 +15,7 @@ use Rattle.mtn_replay.specs.Texts.{text_under}
 use Rattle.mtn_replay.proofs.Histories.{history_is_grown}
 use Rattle.mtn_plans.specs.Plans.{Looks, LooksAtSides, Merges, Plan, Unless}
 use Rattle.mtn_plans.specs.Sides.{left_of, right_of, side_refusal}
-use Rattle.mtn_plans.specs.declared.outcome.Outcome.TheVariants.{Conflicted, Merged}
+use Rattle.mtn_plans.specs.declared.outcome.MergeOutcome.TheVariants.{Conflicted, Merged}
 use Rattle.mtn_answers.specs.Queries.{IsProperlyAbove}
 use Rattle.mtn_answers.proofs.Deciding.{tell_properly}
 use Rattle.mtn_step.specs.Certifying.{AreHeads, merge_said}

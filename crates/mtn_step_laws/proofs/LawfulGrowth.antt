@@ -2,12 +2,12 @@
 use Rattle.std.proofs.Common.{◌≡◌, ℕ, zero, suc, List, [], ◌∷◌, Option, Some, None, Ok, Err, refl, sym, ap, subst}
 use Rattle.mtn_base.specs.Hex.{id_of}
 use Rattle.mtn_base.specs.declared.refusal.Cause.{Cause}
-use Rattle.mtn_generated.specs.Growing.{Adds, AddsWork, Answer, Carries, Generates, Grown, Grows, MergesTips, Onward, PutsEdge, PutsText, Unless, files_refusal, grown, grown_or, store_refusal, with_files}
+use Rattle.mtn_generated.specs.Growing.{Adds, AddsWork, GrowthAnswer, Carries, Generates, Grown, Grows, MergesTips, Onward, PutsEdge, PutsText, Unless, files_refusal, grown, grown_or, store_refusal, with_files}
 use Rattle.mtn_generated.specs.Numbered.{Tips, Work, edge_fault, edge_of, edge_text, files_of, no_tips, tips_after, work_at}
 use Rattle.mtn_generated.specs.Numbered.Work.{Begins, Joins, Patches, Renames, Sets}
 use Rattle.mtn_model.specs.State.{State}
 use Rattle.mtn_plans.specs.Plans.{Plan}
-use Rattle.mtn_plans.specs.declared.outcome.Outcome.TheVariants.{Conflicted, Merged}
+use Rattle.mtn_plans.specs.declared.outcome.MergeOutcome.TheVariants.{Conflicted, Merged}
 use Rattle.mtn_replay.specs.Accepting.{Decides}
 use Rattle.mtn_replay.specs.Files.{file_refusal, with_file}
 use Rattle.mtn_replay.specs.Lawful.{IsLawful}
@@ -27,7 +27,7 @@ unrefused None g after e = (refl, let same : g ≡ after = cc in ap (λ (x : Gro
 unrefused (Some cause) g after e = absurd cc
 
 -- what is not stopped was not refused
-pub went_on : (refusal : Option Cause) (Is : Answer → Type 0) (g : Grown) → Unless refusal Is (Ok g) → (refusal ≡ None) × Is (Ok g)
+pub went_on : (refusal : Option Cause) (Is : GrowthAnswer → Type 0) (g : Grown) → Unless refusal Is (Ok g) → (refusal ≡ None) × Is (Ok g)
 went_on None Is g is = (refl, is)
 went_on (Some cause) Is g is = absurd cc
 
@@ -69,15 +69,15 @@ module _ (f : List ℕ → List ℕ) where
       record { files = t.0; put = put_work i before.tips (with_files f before.state (files_of i work)) work after t.1 }
 
   -- what has grown by one more revision: what grew before, and that revision
-  pub record IsNext (s : State) (n : ℕ) (g : Grown) : Type 0 where
+  pub record IsNextGrown (s : State) (n : ℕ) (g : Grown) : Type 0 where
     pub before : Grown
     pub grew : Grows f s n (Ok before)
     pub added : IsAdded (suc n) (work_at (suc n)) before g
 
-  pub next : (s : State) (n : ℕ) (g : Grown) → Grows f s (suc n) (Ok g) → IsNext s n g
+  pub next : (s : State) (n : ℕ) (g : Grown) → Grows f s (suc n) (Ok g) → IsNextGrown s n g
   next s n g is = by is.0 is.1 is.2
     where
-      by : (before : Answer) → Grows f s n before → Onward before (Adds f (suc n) (work_at (suc n))) (Ok g) → IsNext s n g
+      by : (before : GrowthAnswer) → Grows f s n before → Onward before (Adds f (suc n) (work_at (suc n))) (Ok g) → IsNextGrown s n g
       by (Err stop) grew on = absurd cc
       by (Ok b) grew on = record { before = b; grew = grew; added = added (suc n) (work_at (suc n)) b g on }
 

@@ -32,7 +32,7 @@ use Rattle.mtn_roster.specs.Tree.{Tree}
 use Rattle.mtn_plans.specs.Given.{IsChecked, IsGiven, IsRead, override_cause, text_cause}
 use Rattle.mtn_plans.specs.Plans.{Plan, IsUnborn, Ends, EndsUnless, IsConflicted, IsMade, LooksAtSides, Looks, Merges, PlansGiven, PlansPayload, PlansSides, Unless, limit_refusal, merge_text, merged_or, text_refusal}
 use Rattle.mtn_plans.specs.Sides.{IsMergeAt, left_of, right_of, side_refusal}
-use Rattle.mtn_plans.specs.declared.outcome.Outcome.TheVariants.{Conflicted}
+use Rattle.mtn_plans.specs.declared.outcome.MergeOutcome.TheVariants.{Conflicted}
 use Rattle.mtn_merge_laws.proofs.OneMerge.{one_merge}
 use Rattle.mtn_merge_laws.proofs.OneConflicts.{one_conflicts}
 use Rattle.mtn_merge_laws.proofs.OneReading.{one_text, no_fault_of, one_fault}

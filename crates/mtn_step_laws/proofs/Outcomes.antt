@@ -15,7 +15,7 @@ use Rattle.mtn_step.specs.Step.{Asked, Commits, Ended, Ending, Graphed, HeadsMer
 use Rattle.std.specs.List.{flat_map}
 use Rattle.mtn_base.specs.declared.id.Id.{Id}
 use Rattle.mtn_plans.specs.Plans.{Looks, Merges, Plan}
-use Rattle.mtn_plans.specs.declared.outcome.Outcome.TheVariants.{Conflicted, Merged}
+use Rattle.mtn_plans.specs.declared.outcome.MergeOutcome.TheVariants.{Conflicted, Merged}
 use Rattle.mtn_replay.specs.Lawful.{IsHistory}
 use Rattle.mtn_replay.specs.Texts.{text_under}
 use Rattle.mtn_answers.specs.Queries.{IsProperlyAbove}

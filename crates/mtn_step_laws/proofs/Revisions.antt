@@ -13,7 +13,7 @@ use Rattle.mtn_basic_io.specs.Spelling.{LineText, AreStanzas, spelling}
 use Rattle.mtn_changes.specs.Changes.{IsChange, rank}
 use Rattle.mtn_changes.specs.ChangesText.{AreChanges}
 use Rattle.mtn_changes.specs.Heads.{head_rank, head_stanza, IsHeadRead}
-use Rattle.mtn_changes.specs.Lists.{IsFault, Stands, is_taken, last_rank}
+use Rattle.mtn_changes.specs.Lists.{IsFault, StandsBehind, is_taken, last_rank}
 use Rattle.mtn_changes.specs.RevisionText.{AreEdges, Ascend, IsFront, IsHeadFault, IsNextFault, IsRevision, IsRevisionFault, IsStanzasFault, IsWrongAt, edge_stanzas}
 use Rattle.mtn_changes.specs.Stanzas.{IsRead, stanza_of}
 use Rattle.mtn_changes.specs.declared.change.Change.{Change}
@@ -38,7 +38,7 @@ IsDecided ss = ((r : Revision) × IsRevision ss r) ⊎ ((e : ChangeTextError) ×
 -- ---- one stanza behind changes
 
 data Next (before : List Change) (s : List LineText) : Type 0 where
-  stands : (c : Change) → s ≡ stanza_of c → Stands before c → Next before s
+  stands : (c : Change) → s ≡ stanza_of c → StandsBehind before c → Next before s
   bad : IsFault before s one.BadStanza → Next before s
   misplaced : IsFault before s one.BadOrder → Next before s
   again : IsFault before s one.Repeated → Next before s
@@ -65,13 +65,13 @@ next_of before s = by (read_change s).0 (read_change s).1 (read_head s).0 (read_
     by None read None head = bad (read, head)
 
 -- one more change
-changes_more : (cs : List Change) (c : Change) → AreChanges cs → Stands cs c → AreChanges (cs ++ c ∷ [])
+changes_more : (cs : List Change) (c : Change) → AreChanges cs → StandsBehind cs c → AreChanges (cs ++ c ∷ [])
 changes_more cs c lawful is k d lt = elim (cases_lt k (length cs)) [
-  | inl before ↦ subst (λ (bs : List Change). Stands bs (get_or (cs ++ c ∷ []) k d)) (sym (take-append-le k cs (c ∷ []) (omega (arith, before))))
-      (subst (λ (x : Change). Stands (take k cs) x) (sym (get_front cs c d k before)) (lawful k d before))
+  | inl before ↦ subst (λ (bs : List Change). StandsBehind bs (get_or (cs ++ c ∷ []) k d)) (sym (take-append-le k cs (c ∷ []) (omega (arith, before))))
+      (subst (λ (x : Change). StandsBehind (take k cs) x) (sym (get_front cs c d k before)) (lawful k d before))
   | inr le ↦ let at : k ≡ length cs = omega (arith, le, lt, length-append cs (c ∷ [])) in
-      subst (λ n. Stands (take n (cs ++ c ∷ [])) (get_or (cs ++ c ∷ []) n d)) (sym at)
-      (subst (λ (bs : List Change). Stands bs (get_or (cs ++ c ∷ []) (length cs) d)) (sym (take_front cs c)) (subst (λ (x : Change). Stands cs x) (sym (get_last cs c d)) is))
+      subst (λ n. StandsBehind (take n (cs ++ c ∷ [])) (get_or (cs ++ c ∷ []) n d)) (sym at)
+      (subst (λ (bs : List Change). StandsBehind bs (get_or (cs ++ c ∷ []) (length cs) d)) (sym (take_front cs c)) (subst (λ (x : Change). StandsBehind cs x) (sym (get_last cs c d)) is))
 ]
   where
     get_front : (cs : List Change) (c d : Change) (k : ℕ) → k < length cs → get_or (cs ++ c ∷ []) k d ≡ get_or cs k d

@@ -37,7 +37,7 @@ use Rattle.mtn_roster.specs.Tree.{Tree}
 use Rattle.mtn_plans.specs.Given.{IsChecked, IsGiven, IsRead, override_cause, text_cause, unknown_pick}
 use Rattle.mtn_plans.specs.Plans.{Plan, IsUnborn, Ends, EndsUnless, LooksAtSides, Looks, Merges, PlansGiven, PlansPayload, PlansSides, Unless, limit_refusal, merge_text, merged_or}
 use Rattle.mtn_plans.specs.Sides.{IsMergeAt, left_of, right_of, related, side_refusal}
-use Rattle.mtn_plans.specs.declared.outcome.Outcome.TheVariants.{Conflicted}
+use Rattle.mtn_plans.specs.declared.outcome.MergeOutcome.TheVariants.{Conflicted}
 use Rattle.mtn_merge_laws.proofs.SomeMerge.{some_merge}
 use Rattle.mtn_merge_laws.proofs.SomeConflicts.{some_conflicts}
 use Rattle.mtn_merge_laws.proofs.SomeReading.{some_reading}

@@ -2,7 +2,7 @@ use Rattle.std.proofs.Common.{◌≡◌, Some, None, IfSome, sym, ap, subst, ◌
 use Rattle.std.proofs.lemmas.Result.{IfOk-weaker}
 use Rattle.std.proofs.lemmas.List.{take_all}
 use Rattle.mtn_changes.specs.Stanzas.{IsRead}
-use Rattle.mtn_changes.specs.Slots.{AreApart}
+use Rattle.mtn_changes.specs.Targets.{AreApart}
 use Rattle.mtn_changes.specs.Lists.{last_rank}
 use Rattle.mtn_changes.specs.Runs.{IsRun, AreRising}
 use Rattle.mtn_changes.proofs.Fronts.{run_ends}

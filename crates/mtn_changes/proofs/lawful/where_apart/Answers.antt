@@ -1,6 +1,6 @@
 use Rattle.std.proofs.Common.{List, refl, subst}
 use Rattle.mtn_changes.specs.declared.change.Change.{Change}
-use Rattle.mtn_changes.specs.Slots.{AreApart}
+use Rattle.mtn_changes.specs.Targets.{AreApart}
 use Rattle.mtn_changes.proofs.lawful.where_apart.Goals as goal
 
 pub returns : goal.returns

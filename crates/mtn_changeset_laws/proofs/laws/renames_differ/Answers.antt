@@ -1,4 +1,4 @@
--- A path is one slot of its renames.
+-- A path is one target of its renames.
 use Rattle.mtn_changeset_laws.proofs.Renaming.{renames_differ}
 use Rattle.mtn_changeset_laws.proofs.laws.renames_differ.Goals as goal
 

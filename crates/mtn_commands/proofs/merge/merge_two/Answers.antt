@@ -2,7 +2,7 @@
 use Rattle.std.specs.Prelude.{option_copied}
 use Rattle.std.proofs.Common.{Ok, Err, sym, ap, ◌∙◌}
 use Rattle.std.proofs.lemmas.Result.{err_from_is_err_and}
-use Rattle.mtn_plans.specs.declared.outcome.Outcome.TheVariants.{Conflicted, Merged}
+use Rattle.mtn_plans.specs.declared.outcome.MergeOutcome.TheVariants.{Conflicted, Merged}
 use Rattle.mtn_commands.proofs.MergeLemmas.{found_conflicts, given_over, not_planned, put_replied, put_with}
 use Rattle.mtn_commands.proofs.merge.merge_two.Goals as goal
 

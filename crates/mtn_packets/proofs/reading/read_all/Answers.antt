@@ -4,7 +4,7 @@ use Rattle.mtn_base.specs.declared.refusal.PacketWhy.{PacketWhy}
 use Rattle.mtn_packets.specs.declared.packet.Packet.{Packet}
 use Rattle.mtn_packets.specs.Packets.{ArePackets}
 use Rattle.mtn_packets.specs.Faults.{FailsAt}
-use Rattle.mtn_packets.specs.Parts.{IsNext}
+use Rattle.mtn_packets.specs.Parts.{IsNextPacket}
 use Rattle.mtn_packets.proofs.Steps.{cut}
 use Rattle.mtn_packets.proofs.Inputs.{IsRead, read_none, read_more, fails_at, all_read, one_list, no_failure}
 use Rattle.mtn_packets.proofs.reading.read_all.Goals as goal
@@ -15,7 +15,7 @@ loop-at-init c = subst (λ (ps : List Packet). IsRead c.args.text.now ps c.space
 pub loop-at-preserved : goal.loop-at-preserved
 loop-at-preserved c =
     let text = c.args.text.now in
-    let next = subst (λ (r : Result (Packet × ℕ) PacketWhy). IsNext (cut c.loop-at.at text) r) c.in-Ok.is c.in_ok-packet.ensures in
+    let next = subst (λ (r : Result (Packet × ℕ) PacketWhy). IsNextPacket (cut c.loop-at.at text) r) c.in-Ok.is c.in_ok-packet.ensures in
     subst (λ (ps : List Packet). IsRead text ps (c.loop-at.at + c.in-Ok.len + c.space_len-at-in-loop-at.result)) (sym c.in_ok-push-in-Ok.ensures.ok)
     (read_more text c.loop-at.done c.in-Ok.packet c.loop-at.at c.in-Ok.len c.space_len-at-in-loop-at.result c.loop-at.invariant next.0 next.2 c.space_len-at-in-loop-at.ensures.value)
 
@@ -28,7 +28,7 @@ returns-clause-only c packets are = one_list c.into_vec.result.items packets c.a
 
 failing : (c : goal.After-drop-done-inside-in-Err) → FailsAt c.args.text.now (length c.loop-at.done + 1) c.in-Err.why
 failing c =
-    let fault = subst (λ (r : Result (Packet × ℕ) PacketWhy). IsNext (cut c.loop-at.at c.args.text.now) r) c.in-Err.is c.in_ok-packet.ensures in
+    let fault = subst (λ (r : Result (Packet × ℕ) PacketWhy). IsNextPacket (cut c.loop-at.at c.args.text.now) r) c.in-Err.is c.in_ok-packet.ensures in
     fails_at c.args.text.now c.loop-at.done c.loop-at.at _ c.in-Err.why c.loop-at.invariant c.loop-at-test.true refl fault
 
 pub returns-in-Err-clause-err : goal.returns-in-Err-clause-err

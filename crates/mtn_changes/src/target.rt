@@ -3,7 +3,7 @@ ghost use Rattle.std.specs.Prelude.{◌≡◌, nat_eq, refl, IfOk};
 ghost use Rattle.std.specs.Ordering.{nat_cmp, as_partial_cmp};
 ghost use Rattle.std.specs.Cmp.{partial_equiv_from_equiv, partial_order_from_agreeing_total};
 ghost use Rattle.std.specs.Cmp.Lexicographic.{pointwise, slice_cmp, nat_list_cmp_total, nat_list_eq_equiv, texts_ties};
-ghost use Rattle.mtn_changes.specs.Slots.{slot_cmp, slot_of as slot_for};
+ghost use Rattle.mtn_changes.specs.Targets.{target_cmp, target_of as target_for};
 
 use crate::change::Change;
 use mtn_base::{Bytes, List, NoMemory, Path};
@@ -65,24 +65,24 @@ impl PartialOrd for Key {
 
 /// What a change changes: a path in a way, or an attribute of a path. Clear and set change the same.
 #[derive(Drop, PartialEq, Eq, PartialOrd, Ord)]
-pub struct Slot {
+pub struct Target {
     pub kind: u8,
     pub path: Path,
     pub key: Key,
 }
 
-impl Slot {
-    pub fn compare(&self, other: &Slot) -> Ordering
-        ensures { result ≡ slot_cmp self.now other.now }
+impl Target {
+    pub fn compare(&self, other: &Target) -> Ordering
+        ensures { result ≡ target_cmp self.now other.now }
     {
         self.cmp(other)
     }
 }
 
-fn slot_at(alloc: Global, kind: u8, path: &Path, key: Bytes) -> Result<Slot, NoMemory>
+fn target_at(alloc: Global, kind: u8, path: &Path, key: Bytes) -> Result<Target, NoMemory>
     ensures { IfOk result (λ s. s ≡ record { kind = kind; path = path.now; key = key }) }
 {
-    Ok(Slot {
+    Ok(Target {
         kind,
         path: path.copy(alloc)?,
         key: Key { bytes: key },
@@ -90,24 +90,24 @@ fn slot_at(alloc: Global, kind: u8, path: &Path, key: Bytes) -> Result<Slot, NoM
 }
 
 /// What a change changes.
-pub fn slot_of(alloc: Global, change: &Change) -> Result<Slot, NoMemory>
-    ensures { IfOk result (λ s. s ≡ slot_for change.now) }
+pub fn target_of(alloc: Global, change: &Change) -> Result<Target, NoMemory>
+    ensures { IfOk result (λ s. s ≡ target_for change.now) }
 {
     match change {
-        Change::Delete { path } => slot_at(alloc, 1, path, List::new(alloc)),
-        Change::Rename { path, to: _ } => slot_at(alloc, 2, path, List::new(alloc)),
-        Change::AddDir { path } => slot_at(alloc, 3, path, List::new(alloc)),
-        Change::AddFile { path, content: _ } => slot_at(alloc, 4, path, List::new(alloc)),
+        Change::Delete { path } => target_at(alloc, 1, path, List::new(alloc)),
+        Change::Rename { path, to: _ } => target_at(alloc, 2, path, List::new(alloc)),
+        Change::AddDir { path } => target_at(alloc, 3, path, List::new(alloc)),
+        Change::AddFile { path, content: _ } => target_at(alloc, 4, path, List::new(alloc)),
         Change::Patch {
             path,
             from: _,
             to: _,
-        } => slot_at(alloc, 5, path, List::new(alloc)),
-        Change::Clear { path, key } => slot_at(alloc, 6, path, key.copy(alloc)?),
+        } => target_at(alloc, 5, path, List::new(alloc)),
+        Change::Clear { path, key } => target_at(alloc, 6, path, key.copy(alloc)?),
         Change::Set {
             path,
             key,
             value: _,
-        } => slot_at(alloc, 6, path, key.copy(alloc)?),
+        } => target_at(alloc, 6, path, key.copy(alloc)?),
     }
 }
