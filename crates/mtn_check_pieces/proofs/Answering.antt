@@ -1,6 +1,7 @@
 -- What the steps of a verdict answer.
+use Rattle.std.specs.Prelude.{is_some}
 use Rattle.std.specs.List.{AllZip}
-use Rattle.std.proofs.Common.{◌≡◌, ◌≢◌, ℕ, ◌≤◌, List, [], ◌∷◌, length, Option, Some, None, refl, sym, ◌∙◌, subst, arith}
+use Rattle.std.proofs.Common.{◌≡◌, ◌≢◌, false, ℕ, ◌≤◌, List, [], ◌∷◌, length, Option, Some, None, refl, sym, ◌∙◌, subst, arith}
 use Rattle.mtn_changes.specs.declared.change.Edge.{Edge}
 use Rattle.mtn_changes.specs.declared.change.Revision.{Revision}
 use Rattle.mtn_changes.specs.declared.error.ChangeTextError.{ChangeTextError}
@@ -12,10 +13,9 @@ use Rattle.mtn_records.specs.declared.record.RosterRecord.{RosterRecord}
 use Rattle.mtn_records.specs.declared.record.RosterRecord.TheVariants.{Whole, Delta}
 use Rattle.mtn_roster.specs.Tree.{Tree}
 use Rattle.mtn_roster_deltas.proofs.Spelling.{one_tree}
+use Rattle.mtn_check_pieces.specs.declared.job.Agreed.{Agreed}
 use Rattle.mtn_check_pieces.specs.declared.job.CheckJob.{CheckJob}
-use Rattle.mtn_check_pieces.specs.declared.job.Verdict.{Verdict}
-use Rattle.mtn_check_pieces.specs.declared.job.Verdict.TheVariants.{Agrees, Differs}
-use Rattle.mtn_check_pieces.specs.Verdict.{IsOneOf, IsRevisionOf, IsWholeOf, IsEdgeTree, IsJoining, IsMergedTree, IsTreeOf, IsMadeOf, IsMadeWith, IsAgreeing, IsAnswer, IsVerdict}
+use Rattle.mtn_check_pieces.specs.Verdict.{IsOneOf, IsRevisionOf, IsWholeOf, IsStoredOn, IsTaken, IsEdgeTree, IsJoining, IsMergedTree, IsTreeOf, IsMarkedOn, IsMadeOf, IsMadeWith, IsStoredOf, IsStoredWith, IsAgreed, IsAgreeing, basis_on}
 
 -- a text with a fault spells no revision
 pub unread : (text : List ℕ) (e : ChangeTextError) → e ≢ NoMemory → IsRevisionFault text e → (r : Revision) → IsRevisionOf text r → ⊥
@@ -64,16 +64,28 @@ one_parents (r ∷ rs) [] qs a b = absurd a
 one_parents (r ∷ rs) (p ∷ ps) [] a b = absurd b
 one_parents (r ∷ rs) (p ∷ ps) (q ∷ qs) a b = λ i. one_whole r p q a.0 b.0 i ∷ one_parents rs ps qs a.1 b.1 i
 
--- an answer is passed on to what is the same
-passed : (P Q : Type 0) → (P → Q) → (Q → P) → (v : Verdict) → IsAnswer P v → IsAnswer Q v
-passed P Q to back Agrees p = to p
-passed P Q to back Differs never = λ q. never (back q)
+module _ (job : CheckJob) (edges es : List Edge) (are : edges ≡ es) (rs : List RosterRecord) (ps : List MarkedTree) (spelled : AllZip IsWholeOf rs ps) where
+  pub over_records : (o : Option MarkedTree) → IsOneOf (IsStoredOf job es ps) o → IsOneOf (IsStoredWith job edges rs) o
+  over_records = one_of (IsStoredOf job es ps) (IsStoredWith job edges rs)
+      (λ t h. (h.0, record { parents = ps; spelled = spelled; made = subst (λ l. IsMadeOf job l t ps) (sym are) h.1 }))
+      (λ t w. (w.0, subst (IsMadeOf job es t) (one_parents rs w.1.parents ps w.1.spelled spelled) (subst (λ l. IsMadeOf job l t w.1.parents) are w.1.made)))
 
-module _ (job : CheckJob) (stored : MarkedTree) (edges es : List Edge) (are : edges ≡ es) (rs : List RosterRecord) (ps : List MarkedTree) (spelled : AllZip IsWholeOf rs ps) where
-  pub over_records : (v : Verdict) → IsAnswer (IsMadeOf job es stored ps) v → IsAnswer (IsMadeWith job edges stored rs) v
-  over_records = passed (IsMadeOf job es stored ps) (IsMadeWith job edges stored rs)
-      (λ m. record { parents = ps; spelled = spelled; made = subst (λ l. IsMadeOf job l stored ps) (sym are) m })
-      (λ w. subst (IsMadeOf job es stored) (one_parents rs w.parents ps w.spelled spelled) (subst (λ l. IsMadeOf job l stored w.parents) are w.made))
+module _ (job : CheckJob) (edges : List Edge) (ps : List MarkedTree) where
+  -- a roster is stored only where its tree is made
+  pub none_made : ((t : Tree) → IsTreeOf job ps edges t → ⊥) → (t : MarkedTree) → IsStoredOf job edges ps t → ⊥
+  none_made none t h = none t.tree h.1.tree
+
+  module _ (tree : Tree) where
+    -- and only where the record spells that one
+    pub none_on : ((u : Tree) → IsTreeOf job ps edges u → u ≡ tree) → (o : Option MarkedTree) → o ≡ None → IsOneOf (IsStoredOn job.stored tree) o → (t : MarkedTree) → IsStoredOf job edges ps t → ⊥
+    none_on one o is got t h = none_at (IsStoredOn job.stored tree) o is got t (h.0, one t.tree h.1.tree)
+
+    -- it is taken where it is marked so
+    pub taken : IsTreeOf job ps edges tree → (stored : MarkedTree) → IsStoredOn job.stored tree stored → (o : Option MarkedTree) →
+        IsTaken (IsMarkedOn (basis_on job ps) stored) stored o → IsOneOf (IsStoredOf job edges ps) o
+    taken made stored on None never = λ t h. never (subst (IsMarkedOn (basis_on job ps)) (one_whole job.stored t stored h.0 on.0) h.1.marked)
+    taken made stored on (Some y) both =
+        subst (IsStoredOf job edges ps) (sym both.1) (on.0, record { tree = subst (IsTreeOf job ps edges) (sym on.1) made; marked = both.0 })
 
 -- no tree is made of more parents than two
 pub too_many : (job : CheckJob) (edges : List Edge) (stored : MarkedTree) (rs : List RosterRecord) → 3 ≤ length rs → IsMadeWith job edges stored rs → ⊥
@@ -88,11 +100,26 @@ too_many job edges stored rs more w = by rs w.parents edges more w.spelled w.mad
     by (a ∷ b ∷ c ∷ rs) (p ∷ q ∷ []) es le z t = z.1.1
     by (a ∷ b ∷ c ∷ rs) (p ∷ q ∷ s ∷ ps) es le z t = t
 
-module _ (job : CheckJob) (revision : Revision) (stored : MarkedTree) (read : IsRevisionOf job.text revision) (spelled : IsWholeOf job.stored stored) where
-  pub verdict_is : (v : Verdict) → IsAnswer (IsMadeWith job revision.edges stored job.parents) v → IsVerdict job v
-  verdict_is = passed (IsMadeWith job revision.edges stored job.parents) (IsAgreeing job)
-      (λ m. record { revision = revision; read = read; stored = stored; spelled = spelled; made = m })
-      (λ g.
-      let one : g.revision ≡ revision = same_revision job.text g.revision revision g.read.ids read.ids g.read.spelled read.spelled in
-      subst (λ t. IsMadeWith job revision.edges t job.parents) (one_whole job.stored g.stored stored g.spelled spelled)
-      (subst (λ (r : Revision). IsMadeWith job r.edges g.stored job.parents) one g.made))
+module _ (job : CheckJob) (revision : Revision) (read : IsRevisionOf job.text revision) where
+  only_read : (a : Agreed) → IsAgreed job a → a.revision ≡ revision
+  only_read a h = same_revision job.text a.revision revision h.read.ids read.ids h.read.spelled read.spelled
+
+  -- where nothing is stored, nothing agrees
+  pub none_agreed : (o : Option MarkedTree) → o ≡ None → IsOneOf (IsStoredWith job revision.edges job.parents) o → (a : Agreed) → IsAgreed job a → ⊥
+  none_agreed o is none a h =
+      none_at (IsStoredWith job revision.edges job.parents) o is none a.stored (subst (λ (r : Revision). IsStoredWith job r.edges job.parents a.stored) (only_read a h) h.stored)
+
+  pub are_agreed : (o : Option MarkedTree) (stored : MarkedTree) → o ≡ Some stored → IsOneOf (IsStoredWith job revision.edges job.parents) o →
+      IsAgreed job (record { revision = revision; stored = stored })
+  are_agreed o stored is one = record { read = read; stored = some_at (IsStoredWith job revision.edges job.parents) o stored is one }
+
+-- what agrees, and what a job that agrees spells
+pub agreeing_has : (job : CheckJob) → IsAgreeing job → (a : Agreed) × IsAgreed job a
+agreeing_has job g = (record { revision = g.revision; stored = g.stored }, record { read = g.read; stored = (g.spelled, g.made) })
+
+pub agreed_is : (job : CheckJob) (a : Agreed) → IsAgreed job a → IsAgreeing job
+agreed_is job a h = record { revision = a.revision; read = h.read; stored = a.stored; spelled = h.stored.0; made = h.stored.1 }
+
+pub none_differs : (job : CheckJob) (o : Option Agreed) → IsOneOf (IsAgreed job) o → is_some o ≡ false → IsAgreeing job → ⊥
+none_differs job None one e g = let a = agreeing_has job g in one a.0 a.1
+none_differs job (Some a) one e g = absurd cc

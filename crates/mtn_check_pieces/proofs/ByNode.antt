@@ -23,7 +23,7 @@ use Rattle.mtn_marking.proofs.Keyed.{found_there}
 use Rattle.mtn_marking.proofs.ByName.{name_of}
 use Rattle.mtn_marking.proofs.Telling.{key_of, key_in}
 use Rattle.mtn_check_pieces.specs.Same.{BothHaveSame, IsLikeAttr, IsLike, AreLike}
-use Rattle.mtn_check_pieces.proofs.Listing.{zip_long, zip_get, zip_places, place_within, at_place}
+use Rattle.mtn_roster_deltas.proofs.Zipping.{zip_long, zip_get, zip_places, place_within, at_place}
 
 abbrev entry_name : Entry → NodeName
 entry_name e = e.name

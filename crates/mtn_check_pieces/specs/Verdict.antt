@@ -16,6 +16,7 @@ use Rattle.mtn_records.specs.declared.record.RosterRecord.{RosterRecord}
 use Rattle.mtn_records.specs.declared.record.RosterRecord.TheVariants.{Whole, Delta}
 use Rattle.mtn_roster.specs.Tree.{Tree}
 use Rattle.mtn_roster_deltas.specs.Spelled.{Spells}
+use Rattle.mtn_check_pieces.specs.declared.job.Agreed.{Agreed}
 use Rattle.mtn_check_pieces.specs.declared.job.CheckJob.{CheckJob}
 use Rattle.mtn_check_pieces.specs.declared.job.Verdict.{Verdict}
 use Rattle.mtn_check_pieces.specs.declared.job.Verdict.TheVariants.{Agrees, Differs}
@@ -34,6 +35,15 @@ pub record IsRevisionOf (text : List ℕ) (r : Revision) : Type 0 where
 abbrev pub IsWholeOf : RosterRecord → MarkedTree → Type 0
 IsWholeOf (Whole entries) t = Spells entries t
 IsWholeOf (Delta base depth gone changed) t = ⊥
+
+-- the record is whole, and its entries spell this tree with these marks
+abbrev pub IsStoredOn : RosterRecord → Tree → MarkedTree → Type 0
+IsStoredOn stored tree t = IsWholeOf stored t × (t.tree ≡ tree)
+
+-- what is asked for is taken where it holds
+abbrev pub IsTaken : {A : Type 0} → Type 0 → A → Option A → Type 0
+IsTaken P x None = P → ⊥
+IsTaken P x (Some y) = P × (y ≡ x)
 
 -- the tree of an edge: no node of the old tree is born in the new revision, and no change fails
 pub record IsEdgeTree (new : Id) (old : Tree) (e : Edge) (t : Tree) : Type 0 where
@@ -93,6 +103,19 @@ pub record IsMadeWith (job : CheckJob) (edges : List Edge) (stored : MarkedTree)
   pub parents : List MarkedTree
   pub spelled : AllZip IsWholeOf records parents
   pub made : IsMadeOf job edges stored parents
+
+-- the stored roster is that
+abbrev pub IsStoredOf : CheckJob → List Edge → List MarkedTree → MarkedTree → Type 0
+IsStoredOf job edges parents t = IsWholeOf job.stored t × IsMadeOf job edges t parents
+
+-- the same, of the parents that these records spell
+abbrev pub IsStoredWith : CheckJob → List Edge → List RosterRecord → MarkedTree → Type 0
+IsStoredWith job edges records t = IsWholeOf job.stored t × IsMadeWith job edges t records
+
+-- what a job that agrees spells
+pub record IsAgreed (job : CheckJob) (a : Agreed) : Type 0 where
+  pub read : IsRevisionOf job.text a.revision
+  pub stored : IsStoredWith job a.revision.edges job.parents a.stored
 
 -- The stored roster, its marks and births are those that the job's text and its parents' rosters give
 pub record IsAgreeing (job : CheckJob) : Type 0 where

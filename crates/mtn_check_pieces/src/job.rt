@@ -26,10 +26,9 @@ pub enum Verdict {
     Differs,
 }
 
-/// The verdict on a job, and what its text and its stored record spell, for who looks at more of them.
+/// What the text and the stored record of a job that agrees spell.
 #[derive(Drop)]
-pub struct Spelled {
-    pub verdict: Verdict,
-    pub read: Option<Revision>,
-    pub stored: Option<MarkedRoster>,
+pub struct Agreed {
+    pub revision: Revision,
+    pub stored: MarkedRoster,
 }

@@ -1,13 +1,14 @@
 // What a job's text and its records spell.
 ghost use Rattle.std.specs.Prelude.{◌≡◌, ◌↔◌, IfOk, IsTrue};
-ghost use Rattle.mtn_check_pieces.specs.Verdict.{IsOneOf, IsRevisionOf, IsWholeOf};
+ghost use Rattle.mtn_check_pieces.specs.Verdict.{IsOneOf, IsRevisionOf, IsStoredOn, IsWholeOf};
 
 use crate::SharedRecord;
 use mtn_base::NoMemory;
 use mtn_changes::{ChangeTextError, Revision, read_revision};
 use mtn_marking::MarkedRoster;
 use mtn_records::{RecordError, RosterRecord};
-use mtn_roster_deltas::marked_tree;
+use mtn_roster::Roster;
+use mtn_roster_deltas::{marked_tree, marks_on};
 use std::alloc::Global;
 
 // Whether memory was wanting.
@@ -43,5 +44,22 @@ pub fn roster_of(alloc: Global, roster: &SharedRecord) -> Result<Option<MarkedRo
         Ok(spelled) => Ok(Some(spelled)),
         Err(RecordError::Bad) => Ok(None),
         Err(RecordError::NoMemory) => Err(NoMemory),
+    }
+}
+
+/// A tree with the marks that a whole record gives to its nodes, if the record spells that tree.
+pub fn stored_on(
+    alloc: Global,
+    stored: &SharedRecord,
+    tree: Roster,
+) -> Result<Option<MarkedRoster>, NoMemory>
+    ensures { IfOk result (IsOneOf (IsStoredOn stored.now tree)) }
+{
+    let RosterRecord::Whole(entries) = stored.as_record() else {
+        return Ok(None);
+    };
+    match marks_on(alloc, entries, &tree)? {
+        Some(marks) => Ok(Some(MarkedRoster::new(tree, marks))),
+        None => Ok(None),
     }
 }

@@ -12,7 +12,7 @@ use Rattle.mtn_check_pieces.specs.Laws.{AreParentsOn, IsNextMarked}
 use Rattle.mtn_changes.specs.declared.change.Revision.{Revision as Spelled}
 use Rattle.mtn_check_pieces.specs.Verdict.{IsRevisionOf, IsWholeOf, IsAgreeing}
 use Rattle.mtn_check_pieces.specs.declared.job.CheckJob.{CheckJob}
-use Rattle.mtn_check_pieces.proofs.Listing.{at_place, place_within as within}
+use Rattle.mtn_roster_deltas.proofs.Zipping.{at_place, place_within as within}
 use Rattle.mtn_check_pieces.proofs.Marked.{next_marked}
 use Rattle.mtn_history.specs.Revisions.{Kept, AreKept, next_of, all_entries}
 use Rattle.mtn_history_laws.specs.History.{Revision, IsGrown}

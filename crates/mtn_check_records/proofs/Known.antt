@@ -4,29 +4,24 @@ use Rattle.std.specs.List.{position_from}
 use Rattle.std.proofs.Common.{◌≡◌, ℕ, cond, List, [], ◌∷◌, length, Some, refl, sym, ◌∙◌, ap, subst, arith}
 use Rattle.std.proofs.lemmas.List.Elements.{All-contains, Contains-append_right}
 use Rattle.mtn_base.proofs.Orders.{paths_total}
-use Rattle.mtn_base.proofs.Finding.{finds_some}
 use Rattle.mtn_base.proofs.Sorting.{of_ordered}
-use Rattle.mtn_base.proofs.Tests.{same_name-self}
-use Rattle.mtn_base.specs.Names.{path_cmp, same_name}
+use Rattle.mtn_base.specs.Names.{path_cmp}
 use Rattle.mtn_marking.specs.Marking.{MarkedTree}
 use Rattle.mtn_records.specs.declared.entry.NumberedEntry.{NumberedEntry}
 use Rattle.mtn_records.specs.declared.record.RosterRecord.{RosterRecord}
 use Rattle.mtn_records.specs.declared.record.RosterRecord.TheVariants.{Whole, Delta}
-use Rattle.mtn_roster.specs.Tree.{Tree, entry_of, path_of}
+use Rattle.mtn_roster.specs.Tree.{path_of}
 use Rattle.mtn_roster.specs.Walk.{by_path}
 use Rattle.mtn_roster.specs.declared.entry.Entry.{Entry}
 use Rattle.mtn_roster_deltas.proofs.Ascending.{cut_of, place_by}
 use Rattle.mtn_roster_deltas.proofs.Assigning.{each_by}
-use Rattle.mtn_roster_deltas.proofs.Known.{known_is, there_spelled}
+use Rattle.mtn_roster_deltas.proofs.Known.{entry_there, known_is, there_spelled}
 use Rattle.mtn_roster_deltas.proofs.Places.{is_name}
 use Rattle.mtn_roster_deltas.specs.Chain.{Entries}
 use Rattle.mtn_roster_deltas.specs.Numbering.{all_of, fresh, number_among, number_in, or_next, unnumbered, AreKnown, IsNumbering}
 use Rattle.mtn_roster_deltas.specs.Spelled.{Spells}
 use Rattle.mtn_check_pieces.specs.Verdict.{IsWholeOf}
 use Rattle.mtn_check_records.specs.Due.{HasEntries, IsKnownIn, IsNumberedBy, KeepsNumbers}
-
-entry_there : (t : Tree) (e : Entry) → Contains t e → IsSome (entry_of t e.name)
-entry_there t e c = ap is_some (finds_some (λ (x : Entry). same_name x.name e.name) t e (cut_of t e c) (same_name-self e.name)).1
 
 all_numbered : (es : Entries) (ns : List Entry) → ((e : Entry) → Contains ns e → IsSome (number_among es e.name)) → unnumbered es (map (λ (e : Entry). e.name) ns) ≡ []
 all_numbered es [] each = refl

@@ -10,7 +10,7 @@ use Rattle.mtn_history.specs.declared.errors.Damage.TheVariants.{Bad}
 use Rattle.mtn_model.specs.Table.{Contents}
 use Rattle.mtn_records.specs.Fields.{number_text}
 use Rattle.mtn_check_records.specs.Reading.{IsReadAt, IsStepOf}
-use Rattle.mtn_check_records.specs.declared.hand.Answer.{Answer}
+use Rattle.mtn_check_records.specs.declared.hand.JobAnswer.{JobAnswer}
 use Rattle.mtn_check_records.specs.declared.hand.Fit.{Fit}
 use Rattle.mtn_check_records.specs.declared.hand.Fit.TheVariants.{Fits, OtherText, OtherLog, OtherRoster, Undecided}
 use Rattle.mtn_check_records.specs.declared.hand.Position.{Position}
@@ -31,6 +31,6 @@ IsFitting f x job OtherRoster = Shows f x job (λ r. Bad 5 (number_text r) x.ros
 IsFitting f x job Undecided = Unit {0}
 
 -- Both answers on a position
-pub record AreAnswers (f : List ℕ → List ℕ) (x : Position) (job : CheckJob) (a : Answer) : Type 0 where
+pub record AreAnswers (f : List ℕ → List ℕ) (x : Position) (job : CheckJob) (a : JobAnswer) : Type 0 where
   pub verdict : IsVerdict job a.verdict
   pub fit : IsFitting f x job a.fit

@@ -50,7 +50,7 @@ pub enum Fit {
 
 /// The verdict on the job of a position, and what is said of its records, which is nothing where the job differs.
 #[derive(Clone, Copy)]
-pub struct Answer {
+pub struct JobAnswer {
     pub verdict: Verdict,
     pub fit: Fit,
 }

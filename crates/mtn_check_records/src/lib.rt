@@ -6,7 +6,7 @@
 //! and no store: the text's limit and id, its contents, the limits of the tree, the manifest's id, the parents and the next number
 //! that the log tells, the numbers of the nodes, and the form of the roster's record.
 //!
-//! The crates above rely on this: where the job of a position agrees and [`fits`] says that its records are those that are due, they
+//! The crates above rely on this: where the job of a position agrees and [`judge_one`] says that its records are those that are due, they
 //! lead behind the front of those below to one revision more (`specs/Reading.antt`); and where it says which of them is not, that
 //! record is the first damage of the position (`specs/Fitting.antt`). So no text is applied again to find it. [`judge_pieces`] gives
 //! the jobs of some positions their verdicts, each in a piece of its own as `check_pieces` does, and looks there at the rest of the
@@ -24,7 +24,7 @@ mod pieces;
 mod sound;
 mod text;
 
-pub use fit::{fits, judge_one};
-pub use hand::{Answer, Fit, Hand, Parent, Position};
+pub use fit::judge_one;
+pub use hand::{Fit, Hand, JobAnswer, Parent, Position};
 pub use laws::{hand_stays, step_is_kept};
 pub use pieces::judge_pieces;

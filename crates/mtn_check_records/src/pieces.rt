@@ -2,12 +2,12 @@
 ghost use Rattle.std.specs.Prelude.{◌≡◌, ◌<◌, ℕ, length, map, slice_index_or, vec_len, IfOk, Ok, Result};
 ghost use Rattle.mtn_base.specs.declared.no_memory.NoMemory.{NoMemory as Want};
 ghost use Rattle.mtn_check_records.specs.Fitting.{AreAnswers};
-ghost use Rattle.mtn_check_records.specs.declared.hand.Answer.{Answer as Said};
+ghost use Rattle.mtn_check_records.specs.declared.hand.JobAnswer.{JobAnswer as Said};
 ghost use Rattle.mtn_check_records.specs.declared.hand.Position.{Position as At};
 ghost use Rattle.mtn_check_pieces.specs.declared.job.CheckJob.{CheckJob as Job};
 
 use crate::fit::judge_one;
-use crate::hand::{Answer, Position};
+use crate::hand::{JobAnswer, Position};
 use mtn_base::NoMemory;
 use mtn_check_pieces::CheckJob;
 use mtn_ports::Ident;
@@ -21,7 +21,7 @@ fn judge_at<I: Ident>(
     positions: &[Position],
     jobs: &[CheckJob],
     place: usize,
-) -> Result<Answer, NoMemory>
+) -> Result<JobAnswer, NoMemory>
     requires inside { place < length jobs.now }
     requires same { length positions.now ≡ length jobs.now }
     ensures { IfOk result (λ b. (x : At) (d : Job) → AreAnswers (I.meaning ident.now) (slice_index_or positions.now place x) (slice_index_or jobs.now place d) b) }
@@ -37,7 +37,7 @@ fn judge_each<R: Threads + Sync, I: Ident>(
     ident: &I,
     positions: &[Position],
     jobs: &[CheckJob],
-) -> Result<Vec<Result<Answer, NoMemory>>, AllocError>
+) -> Result<Vec<Result<JobAnswer, NoMemory>>, AllocError>
     requires same { length positions.now ≡ length jobs.now }
     ensures len { IfOk result (λ v. vec_len v ≡ length jobs.now) }
     ensures answers { IfOk result (λ v. (i : ℕ) (x : At) (d : Job) (r : Result Said Want) → i < length jobs.now →
@@ -47,7 +47,7 @@ fn judge_each<R: Threads + Sync, I: Ident>(
         rt,
         alloc,
         jobs.len(),
-        &|place: usize| -> Result<Answer, NoMemory>
+        &|place: usize| -> Result<JobAnswer, NoMemory>
             requires { (place < length jobs.now) × (length positions.now ≡ length jobs.now) }
             ensures { IfOk result (λ b. (x : At) (d : Job) → AreAnswers (I.meaning ident.entry.now) (slice_index_or positions.entry.now place x) (slice_index_or jobs.entry.now place d) b) }
         { judge_at(alloc, ident, positions, jobs, place) },
@@ -55,7 +55,10 @@ fn judge_each<R: Threads + Sync, I: Ident>(
 }
 
 // The answers, where none is that memory is wanting.
-fn all_of(alloc: Global, answers: &[Result<Answer, NoMemory>]) -> Result<Vec<Answer>, NoMemory>
+fn all_of(
+    alloc: Global,
+    answers: &[Result<JobAnswer, NoMemory>],
+) -> Result<Vec<JobAnswer>, NoMemory>
     ensures { IfOk result (λ v. answers.now ≡ map Ok v.items) }
 {
     let mut said = Vec::with_capacity(alloc, answers.len())?;
@@ -73,7 +76,7 @@ pub fn judge_pieces<R: Threads + Sync, I: Ident>(
     ident: &I,
     positions: &[Position],
     jobs: &[CheckJob],
-) -> Result<Vec<Answer>, NoMemory>
+) -> Result<Vec<JobAnswer>, NoMemory>
     requires same { length positions.now ≡ length jobs.now }
     ensures len { IfOk result (λ v. vec_len v ≡ length jobs.now) }
     ensures answers { IfOk result (λ v. (i : ℕ) (x : At) (d : Job) (b : Said) → i < length jobs.now →

@@ -6,7 +6,7 @@ ghost use Rattle.mtn_check_lots.specs.declared.jobs.Job.{Job as Run};
 ghost use Rattle.mtn_history.specs.Errors.{IfDamage};
 ghost use Rattle.mtn_model.specs.Table.{Contents, body_at};
 ghost use Rattle.mtn_ports.specs.Causes.{Rose};
-ghost use Rattle.mtn_ports.specs.Kept.{AreKeyed, IsBody, IsNext, Stays, StaysAbove};
+ghost use Rattle.mtn_ports.specs.Kept.{AreKeyed, IsBody, IsNextKey, Stays, StaysAbove};
 
 use mtn_base::NoMemory;
 use mtn_check_lots::{Facts, Job, Told};
@@ -31,7 +31,7 @@ pub fn body(facts: &Facts, table: u8, key: &[u8], out: &mut Vec<u8>) -> Result<b
 
 /// As `Facts::next_file`.
 pub fn next_file(facts: &Facts, after: &[u8], key: &mut Vec<u8>) -> Result<bool, NoMemory>
-    ensures found { (c : Contents) → AreFacts c facts.now → IfOk result (λ found. IsNext c 2 after.now found key.new.items) }
+    ensures found { (c : Contents) → AreFacts c facts.now → IfOk result (λ found. IsNextKey c 2 after.now found key.new.items) }
     ensures keyed { (c : Contents) → AreFacts c facts.now → OnOk result (AreKeyed c) }
     ensures above { StaysAbove after.now result key.new.items }
 {
@@ -57,7 +57,7 @@ pub fn note_absent(facts: &mut Facts, table: u8, key: &[u8]) -> Result<(), NoMem
 /// As `Facts::note_next`.
 pub fn note_next(facts: &mut Facts, after: &[u8], key: &[u8]) -> Result<(), NoMemory>
     requires { 0 < length after.now }
-    ensures { (c : Contents) → AreFacts c facts.old → IsNext c 2 after.now true key.now → AreKeyed c → AreFacts c facts.new }
+    ensures { (c : Contents) → AreFacts c facts.old → IsNextKey c 2 after.now true key.now → AreKeyed c → AreFacts c facts.new }
 {
     facts.note_next(after, key)
 }

@@ -1,11 +1,11 @@
 //! Verdicts on stored rosters, and the records that jobs share.
 ghost use Rattle.std.specs.Prelude.{◌≡◌, IfOk};
-ghost use Rattle.mtn_check_pieces.specs.Verdict.{IsOneOf, IsRevisionOf, IsVerdict, IsWholeOf};
+ghost use Rattle.mtn_check_pieces.specs.Verdict.{IsAgreed, IsOneOf, IsRevisionOf, IsWholeOf};
 ghost use Rattle.mtn_records.specs.declared.record.RosterRecord.TheVariants.{Whole};
 
 use mtn_base::NoMemory;
 use mtn_changes::Revision;
-use mtn_check_pieces::{CheckJob, SharedEntries, SharedRecord, Spelled};
+use mtn_check_pieces::{Agreed, CheckJob, SharedEntries, SharedRecord};
 use mtn_marking::MarkedRoster;
 use mtn_records::{Numbered, RosterRecord};
 use std::alloc::Global;
@@ -66,11 +66,9 @@ pub fn as_numbered(shared: &SharedEntries) -> &Numbered
     shared.as_numbered()
 }
 
-/// As `mtn_check_pieces::check_spelled`.
-pub fn check_spelled(alloc: Global, job: &CheckJob) -> Result<Spelled, NoMemory>
-    ensures verdict { IfOk result (λ s. IsVerdict job.now s.verdict) }
-    ensures read { IfOk result (λ s. IsOneOf (IsRevisionOf job.now.text) s.read) }
-    ensures stored { IfOk result (λ s. IsOneOf (IsWholeOf job.now.stored) s.stored) }
+/// As `mtn_check_pieces::agreement`.
+pub fn agreement(alloc: Global, job: &CheckJob) -> Result<Option<Agreed>, NoMemory>
+    ensures { IfOk result (IsOneOf (IsAgreed job.now)) }
 {
-    mtn_check_pieces::check_spelled(alloc, job)
+    mtn_check_pieces::agreement(alloc, job)
 }

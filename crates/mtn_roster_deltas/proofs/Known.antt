@@ -111,7 +111,7 @@ some_of : {X : Type 0} (o : Option X) → IsSome o → (x : X) × (o ≡ Some x)
 some_of None h = absurd cc
 some_of (Some x) h = (x, refl)
 
-entry_there : (t : Tree) (e : Entry) → Contains t e → IsSome (entry_of t e.name)
+pub entry_there : (t : Tree) (e : Entry) → Contains t e → IsSome (entry_of t e.name)
 entry_there t e c = ap is_some (finds_some (λ (x : Entry). same_name x.name e.name) t e (cut_of t e c) (same_name-self e.name)).1
 
 -- a tree has the nodes of the entries that spell it

@@ -2,6 +2,7 @@ pub mod Ascending
 pub mod Merging
 pub mod Differing
 pub mod Walking
+pub mod Zipping
 pub mod ByNode
 pub mod Spelling
 pub mod Places

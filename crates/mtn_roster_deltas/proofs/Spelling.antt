@@ -167,6 +167,22 @@ module _ (es : Entries) (sorted : List (Bor NumberedEntry)) (order : map seen so
       zip_were (IsKeyedEntryOf es) seen sorted t.tree (subst (λ xs. AllZip (IsKeyedEntryOf es) xs t.tree) (sym order)
       (zip_keyed es (by_node es) t.tree s.tree (second_so (rises name_cmp (map name_of t.tree)) _ s.sane.ordered)))
 
+  abbrev IsNode : Bor NumberedEntry → Entry → Type 0
+  IsNode b = IsEntryOf es b.now
+
+  -- a tree that is there, beside them
+  pub spelled_nodes : (t : MarkedTree) → Spells es t → AllZip IsNode sorted t.tree
+  spelled_nodes t s = zip_were (IsEntryOf es) seen sorted t.tree (subst (λ xs. AllZip (IsEntryOf es) xs t.tree) (sym order) s.tree)
+
+  module _ (t : List Entry) (sane : IsSane t) (nodes : AllZip IsNode sorted t) where
+    pub nodes_are : AllZip (IsEntryOf es) (by_node es) t
+    nodes_are = subst (λ xs. AllZip (IsEntryOf es) xs t) order (zip_seen (IsEntryOf es) seen sorted t nodes)
+
+    pub nodes_keyed : AllZip IsPlain sorted t
+    nodes_keyed =
+        zip_were (IsKeyedEntryOf es) seen sorted t (subst (λ xs. AllZip (IsKeyedEntryOf es) xs t) (sym order)
+        (zip_keyed es (by_node es) t nodes_are (second_so (rises name_cmp (map name_of t)) _ sane.ordered)))
+
   module _ (plain : List Entry) (all : AllZip IsPlain sorted plain) where
     keyed : AllZip (IsKeyedEntryOf es) (by_node es) plain
     keyed = subst (λ xs. AllZip (IsKeyedEntryOf es) xs plain) order (zip_seen (IsKeyedEntryOf es) seen sorted plain all)
@@ -211,3 +227,18 @@ module _ (es : Entries) (sorted : List (Bor NumberedEntry)) (order : map seen so
           marks = marks_told;
           sane = subst IsSane (sym built) (made_sane plain made.sane);
         }
+
+  -- with their marks they spell that tree
+  module _ (t : List Entry) (sane : IsSane t) (nodes : AllZip IsNode sorted t) (marks : List NodeMarks) (told : marks ≡ map (λ (b : Bor NumberedEntry). marks_of b.now) sorted) where
+    pub beside_rise : rises name_cmp (map (λ (n : NodeMarks). n.name) marks) ≡ true
+    beside_rise = marks_rise t (nodes_keyed t sane nodes) marks told
+
+    pub beside_spell : ascend es ≡ true → AllByRecursion (λ (e : NumberedEntry). 0 < e.number) es → IsDistinct one_node es → Spells es (record { tree = t; marks = marks })
+    beside_spell up one apart = record {
+      ascending = up;
+      from_one = one;
+      apart = apart;
+      tree = nodes_are t sane nodes;
+      marks = marks_told t (nodes_keyed t sane nodes) marks told;
+      sane = sane;
+    }

@@ -6,8 +6,8 @@
 //! marks, no others, and is sane.
 //!
 //! The crates above rely on this: [`rebuild`] answers the entries at the chain's end and the marked tree that they spell, and
-//! is `Bad` exactly where there is none, as is [`marked_tree`] of entries that are lent; a chain with [`delta`]'s record behind it
-//! gives the new entries; what [`number`] gives spells the marked tree that it was given, whatever lists it was given: where two
+//! is `Bad` exactly where there is none, as is [`marked_tree`] of entries that are lent; [`marks_on`] tells whether entries spell a
+//! tree that is there, and gives their marks; a chain with [`delta`]'s record behind it gives the new entries; what [`number`] gives spells the marked tree that it was given, whatever lists it was given: where two
 //! nodes would get one number it is a `Clash`. Where the known numbers are from 1 and below the next, one for each node, there is
 //! no clash, known nodes keep their numbers, and new ones get the next.
 //!
@@ -22,6 +22,7 @@ pub mod laws;
 mod merge;
 mod noting;
 mod numbering;
+mod on_tree;
 mod order;
 mod rebuilding;
 mod same;
@@ -33,4 +34,5 @@ pub use chain::DEEPEST;
 pub use difference::delta;
 pub use error::NumberError;
 pub use numbering::number;
+pub use on_tree::marks_on;
 pub use rebuilding::{entries_of, marked_tree, rebuild, rebuild_on};

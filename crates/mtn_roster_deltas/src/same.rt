@@ -12,13 +12,15 @@ fn are_same_sets(first: &PosSet, second: &PosSet) -> bool
     first.as_slice() == second.as_slice()
 }
 
-fn are_same_nodes(first: &NodeName, second: &NodeName) -> bool
+/// Whether two names are equal.
+pub fn are_same_nodes(first: &NodeName, second: &NodeName) -> bool
     ensures { IsTrue result ↔ (first.now ≡ second.now) }
 {
     first.same(second)
 }
 
-fn are_same_values(first: &Option<Bytes>, second: &Option<Bytes>) -> bool
+/// Whether two values are.
+pub fn are_same_values(first: &Option<Bytes>, second: &Option<Bytes>) -> bool
     ensures { IsTrue result ↔ (first.now ≡ second.now) }
 {
     match first {

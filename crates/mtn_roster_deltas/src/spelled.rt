@@ -36,7 +36,7 @@ fn plain_entries(
 }
 
 /// The marks of the nodes of entries.
-fn all_marks(alloc: Global, sorted: &[&NumberedEntry]) -> Result<Vec<NodeMarks>, NoMemory>
+pub fn all_marks(alloc: Global, sorted: &[&NumberedEntry]) -> Result<Vec<NodeMarks>, NoMemory>
     ensures { IfOk result (λ v. v.items ≡ map (λ b. marks_of b.now) sorted.now) }
 {
     let mut marks = Vec::with_capacity(alloc, sorted.len())?;

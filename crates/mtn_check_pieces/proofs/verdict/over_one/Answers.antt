@@ -13,4 +13,4 @@ pub returns : goal.returns
 returns c =
     let is = one_is c.args.edges.now c.edge-item.result (omega (arith, c.in-len1.len_at_least, c.in-len1.len_below)) c.edge-item.is in
     let spelled = some_at (IsWholeOf c.args.parent.now) c.in_ok-roster.field-0 c.in-Some.roster c.in-Some.is c.in_ok-roster.ensures in
-    ok_then c.on_child.result _ _ (over_records c.args.job.now c.args.stored.now c.args.edges.now (c.edge-item.result ∷ []) is (c.args.parent.now ∷ []) (c.in-Some.roster ∷ []) (spelled, tt)) c.on_child.ensures
+    ok_then c.on_child.result _ _ (over_records c.args.job.now c.args.edges.now (c.edge-item.result ∷ []) is (c.args.parent.now ∷ []) (c.in-Some.roster ∷ []) (spelled, tt)) c.on_child.ensures

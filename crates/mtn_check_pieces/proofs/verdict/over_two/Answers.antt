@@ -19,5 +19,5 @@ returns c =
     let are = two_are c.args.edges.now c.first-item.result c.second-item.result (omega (arith, c.in-len2.len_at_least, c.in-len2.len_below)) c.first-item.is c.second-item.is in
     let ours = some_at (IsWholeOf c.args.left.now) c.in_ok-ours.field-0 c.in-Some.ours c.in-Some.is c.in_ok-ours.ensures in
     let theirs = some_at (IsWholeOf c.args.right.now) c.in_ok-theirs.field-0 c.in-Some-2.theirs c.in-Some-2.is c.in_ok-theirs.ensures in
-    ok_then c.on_merge.result _ _ (over_records c.args.job.now c.args.stored.now c.args.edges.now (c.first-item.result ∷ c.second-item.result ∷ []) are
+    ok_then c.on_merge.result _ _ (over_records c.args.job.now c.args.edges.now (c.first-item.result ∷ c.second-item.result ∷ []) are
     (c.args.left.now ∷ c.args.right.now ∷ []) (c.in-Some.ours ∷ c.in-Some-2.theirs ∷ []) (ours, (theirs, tt))) c.on_merge.ensures
