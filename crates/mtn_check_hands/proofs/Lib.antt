@@ -2,5 +2,5 @@ pub mod Answering
 pub mod AtHand
 pub mod Holding
 pub mod Kindred
-pub mod Lots
+pub mod Stretches
 pub mod Positions

@@ -5,7 +5,7 @@
 //! hardly a record is asked for twice, and no chain is rebuilt whole, but where what is at hand has too many nodes together, or a
 //! parent is older and has had a child: then it is asked for once more.
 //!
-//! The crates above rely on this: what [`load_lot`] reads is right over the front of the records below each of its positions, where
+//! The crates above rely on this: what [`load_stretch`] reads is right over the front of the records below each of its positions, where
 //! the rosters at hand are (`specs/Hands.antt`); it reads no position at which a record is missing or bad, and the keeper is only
 //! asked.
 //!
@@ -18,11 +18,11 @@ mod below;
 mod contents;
 mod hands;
 mod kin;
-mod lot;
 mod read;
 mod records;
 mod stored;
+mod stretch;
 mod undamaged;
 
 pub use hands::Hands;
-pub use lot::{Lot, load_lot};
+pub use stretch::{Stretch, load_stretch};

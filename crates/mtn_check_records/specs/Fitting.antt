@@ -1,5 +1,5 @@
 -- What is said of the records of a position whose job agrees.
-use Rattle.std.specs.Prelude.{◌<◌, ◌++◌, ℕ, List}
+use Rattle.std.specs.Prelude.{◌≡◌, ◌<◌, ◌++◌, ℕ, List, length, slice_index_or}
 use Rattle.mtn_base.specs.declared.limits.TheConstants.{MAX_LOG}
 use Rattle.mtn_check_laws.specs.FirstDamage.{IsDamageAt}
 use Rattle.mtn_check_laws.specs.Fronts.{Front, IsFrontAt}
@@ -34,3 +34,12 @@ IsFitting f x job Undecided = Unit {0}
 pub record AreAnswers (f : List ℕ → List ℕ) (x : Position) (job : CheckJob) (a : JobAnswer) : Type 0 where
   pub verdict : IsVerdict job a.verdict
   pub fit : IsFitting f x job a.fit
+
+-- and those on positions and their jobs
+abbrev pub AreAnswered : (List ℕ → List ℕ) → List Position → List CheckJob → List JobAnswer → Type 0
+AreAnswered f xs jobs answers = (i : ℕ) (x : Position) (job : CheckJob) (a : JobAnswer) → i < length jobs → AreAnswers f (slice_index_or xs i x) (slice_index_or jobs i job) (slice_index_or answers i a)
+
+-- both on each, in order, and no more
+pub record AnswersAll (f : List ℕ → List ℕ) (xs : List Position) (jobs : List CheckJob) (answers : List JobAnswer) : Type 0 where
+  pub len : length answers ≡ length jobs
+  pub each : AreAnswered f xs jobs answers

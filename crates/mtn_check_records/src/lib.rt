@@ -9,8 +9,8 @@
 //! The crates above rely on this: where the job of a position agrees and [`judge_one`] says that its records are those that are due, they
 //! lead behind the front of those below to one revision more (`specs/Reading.antt`); and where it says which of them is not, that
 //! record is the first damage of the position (`specs/Fitting.antt`). So no text is applied again to find it. [`judge_pieces`] gives
-//! the jobs of some positions their verdicts, each in a piece of its own as `check_pieces` does, and looks there at the rest of the
-//! records too, beside what the piece has rebuilt.
+//! the jobs of some positions their verdicts, as `check_pieces` does, in lots of at most four jobs beside one another, and looks there
+//! at the rest of the records too, beside what was rebuilt.
 //!
 //! Cost: linear in the text and in the rosters of the revision and its parents.
 #![tactic(auto)]
@@ -27,4 +27,4 @@ mod text;
 pub use fit::judge_one;
 pub use hand::{Fit, Hand, JobAnswer, Parent, Position};
 pub use laws::{hand_stays, step_is_kept};
-pub use pieces::judge_pieces;
+pub use pieces::{MAX_JOBS, judge_pieces};

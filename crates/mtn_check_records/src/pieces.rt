@@ -1,87 +1,92 @@
-// Many positions beside one another.
-ghost use Rattle.std.specs.Prelude.{◌≡◌, ◌<◌, ℕ, length, map, slice_index_or, vec_len, IfOk, Ok, Result};
-ghost use Rattle.mtn_base.specs.declared.no_memory.NoMemory.{NoMemory as Want};
-ghost use Rattle.mtn_check_records.specs.Fitting.{AreAnswers};
-ghost use Rattle.mtn_check_records.specs.declared.hand.JobAnswer.{JobAnswer as Said};
-ghost use Rattle.mtn_check_records.specs.declared.hand.Position.{Position as At};
-ghost use Rattle.mtn_check_pieces.specs.declared.job.CheckJob.{CheckJob as Job};
+// Many positions, in lots beside one another.
+ghost use Rattle.std.specs.Prelude.{◌≡◌, length, IfOk};
+ghost use Rattle.std.specs.Thread.{IsSync};
+ghost use Rattle.mtn_check_records.specs.Fitting.{AnswersAll, AreAnswered};
 
 use crate::fit::judge_one;
 use crate::hand::{JobAnswer, Position};
 use mtn_base::NoMemory;
 use mtn_check_pieces::CheckJob;
 use mtn_ports::Ident;
-use std::alloc::{AllocError, Global};
-use std::thread::{Threads, map_indices};
+use std::alloc::Global;
+use std::thread::{Threads, join};
 
-// Both answers on the position at a place, which is the piece with that number.
-fn judge_at<I: Ident>(
+/// The most jobs of a lot.
+pub const MAX_JOBS: usize = 4;
+
+// Both answers on each position of a lot, one after the other. Its number as a piece is the place of its first job.
+fn judge_lot<I: Ident>(
     alloc: Global,
     ident: &I,
+    first: usize,
     positions: &[Position],
     jobs: &[CheckJob],
-    place: usize,
-) -> Result<JobAnswer, NoMemory>
-    requires inside { place < length jobs.now }
+) -> Result<Vec<JobAnswer>, NoMemory>
     requires same { length positions.now ≡ length jobs.now }
-    ensures { IfOk result (λ b. (x : At) (d : Job) → AreAnswers (I.meaning ident.now) (slice_index_or positions.now place x) (slice_index_or jobs.now place d) b) }
+    ensures len { IfOk result (λ v. length v.items ≡ length jobs.now) }
+    ensures answers { IfOk result (λ v. AreAnswered (I.meaning ident.now) positions.now jobs.now v.items) }
 {
-    ident.pass(place);
-    judge_one(alloc, ident, &positions[place], &jobs[place])
+    ident.pass(first);
+    let mut answers = Vec::with_capacity(alloc, jobs.len())?;
+    for (place, job) in jobs.iter().enumerate() {
+        answers.push(judge_one(alloc, ident, &positions[place], job)?)?;
+    }
+    Ok(answers)
 }
 
-// The answers of each piece.
-fn judge_each<R: Threads + Sync, I: Ident>(
+// The same in lots of at most so many jobs, each on a thread of its own.
+#[cycle(lots)]
+fn judge_lots<R: Threads + Sync, I: Ident>(
     rt: &R,
     alloc: Global,
     ident: &I,
+    size: usize,
+    first: usize,
     positions: &[Position],
     jobs: &[CheckJob],
-) -> Result<Vec<Result<JobAnswer, NoMemory>>, AllocError>
-    requires same { length positions.now ≡ length jobs.now }
-    ensures len { IfOk result (λ v. vec_len v ≡ length jobs.now) }
-    ensures answers { IfOk result (λ v. (i : ℕ) (x : At) (d : Job) (r : Result Said Want) → i < length jobs.now →
-        IfOk (slice_index_or v.items i r) (AreAnswers (I.meaning ident.now) (slice_index_or positions.now i x) (slice_index_or jobs.now i d))) }
-{
-    map_indices(
-        rt,
-        alloc,
-        jobs.len(),
-        &|place: usize| -> Result<JobAnswer, NoMemory>
-            requires { (place < length jobs.now) × (length positions.now ≡ length jobs.now) }
-            ensures { IfOk result (λ b. (x : At) (d : Job) → AreAnswers (I.meaning ident.entry.now) (slice_index_or positions.entry.now place x) (slice_index_or jobs.entry.now place d) b) }
-        { judge_at(alloc, ident, positions, jobs, place) },
-    )
-}
-
-// The answers, where none is that memory is wanting.
-fn all_of(
-    alloc: Global,
-    answers: &[Result<JobAnswer, NoMemory>],
 ) -> Result<Vec<JobAnswer>, NoMemory>
-    ensures { IfOk result (λ v. answers.now ≡ map Ok v.items) }
+    requires same { length positions.now ≡ length jobs.now }
+    ensures { IfOk result (λ v. AnswersAll (I.meaning ident.now) positions.now jobs.now v.items) }
 {
-    let mut said = Vec::with_capacity(alloc, answers.len())?;
-    for answer in answers {
-        said.push((*answer)?)?;
+    if jobs.len() <= size.max(1) {
+        return judge_lot(alloc, ident, first, positions, jobs);
     }
-    Ok(said)
+    let half = jobs.len() / 2;
+    let (low, high) = positions.split_at(half);
+    let (left, right) = jobs.split_at(half);
+    let next = first.saturating_add(half);
+    let near = || -> Result<Vec<JobAnswer>, NoMemory>
+        requires { IsSync R.row × IsSync I.row × (length low.now ≡ length left.now) }
+        ensures { IfOk result (λ v. AnswersAll (I.meaning ident.entry.now) low.entry.now left.entry.now v.items) }
+    { judge_lots(rt, alloc, ident, size, first, low, left) };
+    let far = || -> Result<Vec<JobAnswer>, NoMemory>
+        requires { IsSync R.row × IsSync I.row × (length high.now ≡ length right.now) }
+        ensures { IfOk result (λ v. AnswersAll (I.meaning ident.entry.now) high.entry.now right.entry.now v.items) }
+    { judge_lots(rt, alloc, ident, size, next, high, right) };
+    let (before, behind) = join(rt, near, far);
+    let mut answers = before?;
+    let mut more = behind?;
+    answers.append(&mut more)?;
+    Ok(answers)
 }
 
-/// Both answers on each position, each on a thread of its own: a piece with its place as its number, which passes the ident. It
-/// takes memory for the answers, and for what each piece has at hand of one position.
+/// Both answers on each position, in order. With more pieces than one they are worked on in lots of at most [`MAX_JOBS`] jobs, and of
+/// fewer where there would be fewer lots than pieces; each lot is a piece on a thread of its own, which passes the ident with the place
+/// of its first job. It takes memory for the answers, and for what each lot has at hand of one position.
 pub fn judge_pieces<R: Threads + Sync, I: Ident>(
     rt: &R,
     alloc: Global,
     ident: &I,
+    pieces: usize,
     positions: &[Position],
     jobs: &[CheckJob],
 ) -> Result<Vec<JobAnswer>, NoMemory>
     requires same { length positions.now ≡ length jobs.now }
-    ensures len { IfOk result (λ v. vec_len v ≡ length jobs.now) }
-    ensures answers { IfOk result (λ v. (i : ℕ) (x : At) (d : Job) (b : Said) → i < length jobs.now →
-        AreAnswers (I.meaning ident.now) (slice_index_or positions.now i x) (slice_index_or jobs.now i d) (slice_index_or v.items i b)) }
+    ensures { IfOk result (λ v. AnswersAll (I.meaning ident.now) positions.now jobs.now v.items) }
 {
-    let answers = judge_each(rt, alloc, ident, positions, jobs)?;
-    all_of(alloc, &answers)
+    if pieces < 2 {
+        return judge_lot(alloc, ident, 0, positions, jobs);
+    }
+    let size = jobs.len().div_ceil(pieces).min(MAX_JOBS);
+    judge_lots(rt, alloc, ident, size, 0, positions, jobs)
 }

@@ -1,2 +1,2 @@
-mod Lots
+mod Stretches
 mod Walks

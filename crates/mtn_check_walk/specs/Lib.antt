@@ -1,3 +1,3 @@
 pub mod Judging
-pub mod Lots
+pub mod Stretches
 pub mod Walks

@@ -1,8 +1,8 @@
--- How far a walk in lots has come.
+-- How far a walk in stretches has come.
 use Rattle.std.specs.Prelude.{◌≡◌, ◌≤◌, ◌+◌, ℕ, List, length, Option, Result, Err, IfErr, IfOk, IfSome}
 use Rattle.mtn_check_hands.specs.Hands.{AreRead, AreRightBelow, NoneFrom}
 use Rattle.mtn_check_hands.specs.declared.hands.Hands.{Hands}
-use Rattle.mtn_check_hands.specs.declared.lot.Lot.{Lot}
+use Rattle.mtn_check_hands.specs.declared.stretch.Stretch.{Stretch}
 use Rattle.mtn_check_laws.specs.FirstDamage.{IsBegun}
 use Rattle.mtn_check_laws.specs.Fronts.{Front, IsFrontAt}
 use Rattle.mtn_check_walk.specs.declared.walk.Walk.{Walk}
@@ -20,24 +20,24 @@ pub record IsWalkedWith (f : List ℕ → List ℕ) (n r : ℕ) (hands : Hands) 
   pub walked : IsFrontAt f c r front
   pub right : AreRightBelow r front hands
 
--- the lot was read behind such a front, and what is at hand with it
+-- the stretch was read behind such a front, and what is at hand with it
 pub record IsReadBehind (f : List ℕ → List ℕ) (n : ℕ) (walk : Walk) (c : Contents) : Type 0 where
   pub before : Hands
   pub walked : IsWalkedWith f n walk.at before c
-  pub read : AreRead c walk.at before walk.lot.positions.items walk.lot.jobs.items walk.hands
+  pub read : AreRead c walk.at before walk.stretch.positions.items walk.stretch.jobs.items walk.hands
 
--- the lot has one job for each position, it does not pass the end, and nothing is at hand from behind it on
+-- the stretch has one job for each position, it does not pass the end, and nothing is at hand from behind it on
 pub record IsLaidOut (n : ℕ) (walk : Walk) : Type 0 where
-  pub same : length walk.lot.positions.items ≡ length walk.lot.jobs.items
-  pub within : walk.at + length walk.lot.jobs.items ≤ n
-  pub none : NoneFrom (walk.at + length walk.lot.jobs.items) walk.hands
+  pub same : length walk.stretch.positions.items ≡ length walk.stretch.jobs.items
+  pub within : walk.at + length walk.stretch.jobs.items ≤ n
+  pub none : NoneFrom (walk.at + length walk.stretch.jobs.items) walk.hands
 
--- what reading a lot from a position on comes to: `load_lot` in one word, for a thread that reads beside others
-pub record IsNextLot {K : Type 0} (contents : K → Option Contents) (leaves : K → Contents → Type 0) (faults : K → ℕ) (from count : ℕ) (old new : K) (before after : Hands) (result : Result Lot StoreError) : Type 0 where
+-- what reading a stretch from a position on comes to: `load_stretch` in one word, for a thread that reads beside others
+pub record IsNextStretch {K : Type 0} (contents : K → Option Contents) (leaves : K → Contents → Type 0) (faults : K → ℕ) (from count : ℕ) (old new : K) (before after : Hands) (result : Result Stretch StoreError) : Type 0 where
   pub stays : Stays contents leaves faults old new
-  pub long : IfOk result (λ lot. length lot.positions.items ≡ length lot.jobs.items)
-  pub within : IfOk result (λ lot. from + length lot.jobs.items ≤ count)
-  pub none : IfOk result (λ lot. NoneFrom (from + length lot.jobs.items) after)
-  pub read : IfSome (contents new) (λ c. IfOk result (λ lot. AreRead c from before lot.positions.items lot.jobs.items after))
+  pub long : IfOk result (λ stretch. length stretch.positions.items ≡ length stretch.jobs.items)
+  pub within : IfOk result (λ stretch. from + length stretch.jobs.items ≤ count)
+  pub none : IfOk result (λ stretch. NoneFrom (from + length stretch.jobs.items) after)
+  pub read : IfSome (contents new) (λ c. IfOk result (λ stretch. AreRead c from before stretch.positions.items stretch.jobs.items after))
   pub sound : IfErr result (λ e. IfDamage e (λ _. ⊥))
   pub failed : result ≡ Err Failed → Rose (faults old) (faults new)

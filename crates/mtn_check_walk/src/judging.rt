@@ -1,68 +1,30 @@
-// Whether the positions of a lot are sound.
-ghost use Rattle.std.specs.Prelude.{◌≡◌, ◌≢◌, ◌≤◌, ◌++◌, ℕ, List, length, vec_len, IfOk, IfSome, IsTrue};
+// Whether the positions of a stretch are sound.
+ghost use Rattle.std.specs.Prelude.{◌≡◌, ◌≢◌, ◌≤◌, ◌++◌, ℕ, List, length, IfOk, IfSome, IsTrue};
 ghost use Rattle.mtn_history.specs.Errors.{IfDamage};
 ghost use Rattle.mtn_records.specs.Fields.{number_text};
 ghost use Rattle.mtn_check_pieces.specs.Verdict.{IsAgreeing};
 ghost use Rattle.mtn_check_pieces.specs.declared.job.CheckJob.{CheckJob as Job};
 ghost use Rattle.mtn_check_records.specs.declared.hand.Position.{Position as At};
-ghost use Rattle.mtn_check_records.specs.Fitting.{IsFitting};
-ghost use Rattle.mtn_check_walk.specs.Lots.{AreAnswered, AreSound, Damages, IsShown};
+ghost use Rattle.mtn_check_records.specs.Fitting.{AreAnswered, IsFitting};
+ghost use Rattle.mtn_check_walk.specs.Stretches.{AreSound, Damages, IsShown};
 ghost use Rattle.mtn_check_walk.specs.Judging.{IsJudged};
 
 use mtn_base::NoMemory;
-use mtn_check_hands::Lot;
+use mtn_check_hands::Stretch;
 use mtn_check_log::bad;
 use mtn_check_pieces::{CheckJob, Verdict};
-use mtn_check_records::{Fit, JobAnswer, Position, judge_one, judge_pieces};
+use mtn_check_records::{Fit, JobAnswer, Position, judge_pieces};
 use mtn_history::{Damage, LOG, ROSTERS, StoreError, TEXTS};
 use mtn_ports::Ident;
 use std::alloc::Global;
 use std::thread::Threads;
 
-/// What is found of a lot: how many positions are sound, from its first on; and the damage of the one behind them, where the answers
+/// What is found of a stretch: how many positions are sound, from its first on; and the damage of the one behind them, where the answers
 /// on it tell it.
 #[derive(Drop)]
 pub struct Judged {
     pub sound: usize,
     pub damage: Option<StoreError>,
-}
-
-// Both answers on each position, one after the other.
-fn judge_in_turn<I: Ident>(
-    alloc: Global,
-    ident: &I,
-    positions: &[Position],
-    jobs: &[CheckJob],
-) -> Result<Vec<JobAnswer>, NoMemory>
-    requires same { length positions.now ≡ length jobs.now }
-    ensures len { IfOk result (λ v. vec_len v ≡ length jobs.now) }
-    ensures answers { IfOk result (λ v. AreAnswered (I.meaning ident.now) positions.now jobs.now v.items) }
-{
-    ident.pass(0);
-    let mut answers = Vec::with_capacity(alloc, jobs.len())?;
-    for (place, job) in jobs.iter().enumerate() {
-        answers.push(judge_one(alloc, ident, &positions[place], job)?)?;
-    }
-    Ok(answers)
-}
-
-// The same; with more pieces than one on threads of their own.
-fn answers_on<R: Threads + Sync, I: Ident>(
-    rt: &R,
-    alloc: Global,
-    ident: &I,
-    pieces: usize,
-    positions: &[Position],
-    jobs: &[CheckJob],
-) -> Result<Vec<JobAnswer>, NoMemory>
-    requires same { length positions.now ≡ length jobs.now }
-    ensures len { IfOk result (λ v. vec_len v ≡ length jobs.now) }
-    ensures answers { IfOk result (λ v. AreAnswered (I.meaning ident.now) positions.now jobs.now v.items) }
-{
-    if pieces > 1 {
-        return judge_pieces(rt, alloc, ident, positions, jobs);
-    }
-    judge_in_turn(alloc, ident, positions, jobs)
 }
 
 // Whether a position is sound that has these answers.
@@ -143,7 +105,7 @@ fn damage_at(
     }
 }
 
-// What the answers tell of a lot.
+// What the answers tell of a stretch.
 fn found_in(
     alloc: Global,
     positions: &[Position],
@@ -162,19 +124,19 @@ fn found_in(
     Judged { sound, damage }
 }
 
-/// How many positions of a lot are sound, up to the first that may not be, and the damage of that one where its job agrees. With
-/// more pieces than one each position is judged in a piece of its own, which passes the ident. It takes memory for the answers and
-/// for what each piece has at hand of one position.
+/// How many positions of a stretch are sound, up to the first that may not be, and the damage of that one where its job agrees. With
+/// more pieces than one they are judged in lots beside one another. It takes memory for the answers, and for what each lot has at hand
+/// of one position.
 pub fn judge<R: Threads + Sync, I: Ident>(
     rt: &R,
     alloc: Global,
     ident: &I,
     pieces: usize,
-    lot: &Lot,
+    stretch: &Stretch,
 ) -> Result<Judged, NoMemory>
-    requires same { length lot.now.positions.items ≡ length lot.now.jobs.items }
-    ensures { IfOk result (IsJudged (I.meaning ident.now) lot.now) }
+    requires same { length stretch.now.positions.items ≡ length stretch.now.jobs.items }
+    ensures { IfOk result (IsJudged (I.meaning ident.now) stretch.now) }
 {
-    let answers = answers_on(rt, alloc, ident, pieces, &lot.positions, &lot.jobs)?;
-    Ok(found_in(alloc, &lot.positions, &lot.jobs, &answers))
+    let answers = judge_pieces(rt, alloc, ident, pieces, &stretch.positions, &stretch.jobs)?;
+    Ok(found_in(alloc, &stretch.positions, &stretch.jobs, &answers))
 }

@@ -1,9 +1,10 @@
 //! The walk along the log of a check, in lots of jobs.
 //!
-//! A *lot* is some positions after one another, read with the rosters at hand (`mtn_check_hands`), and a *job* for the stored roster
-//! of each. A position is *sound* where its job agrees (`mtn_check_pieces`) and the rest of its records fit (`mtn_check_records`).
-//! Neither asks the keeper, nor for an order, so that the positions of a lot are judged beside one another, each in a piece that
-//! gives both answers, and the next lot is read meanwhile.
+//! A *job* is one stored roster beside the text of its revision and its parents' rosters (`mtn_check_pieces`). A position is *sound*
+//! where its job agrees and the rest of its records fit (`mtn_check_records`). Neither asks the keeper, nor for an order, so that
+//! *lots* of at most four jobs are judged beside one another, each on a thread of its own. The positions of sixteen lots are read
+//! together, one behind the other with the rosters at hand (`mtn_check_hands`): this is a *stretch*. While it is judged the next one
+//! is read.
 //!
 //! [`walk_jobs`] answers what `mtn_check_log::walk_log` answers, for every number of pieces. It relies on this: behind the front of
 //! the records below it, what was read of a position that is sound leads to one revision more; and where the job of a position
@@ -11,10 +12,10 @@
 //! position give none, its text is accepted again over the records below, as `walk_log` does it, and tells whether there is damage,
 //! and which. So nothing rests on what is at hand but time.
 //!
-//! Cost: of a lot what its longest run of jobs and its greatest position cost, on as many processors as there are pieces, or what
-//! reading the next lot costs, if that is more; the memory of two lots, of at most four positions and 300,000 nodes each, and of the
-//! rosters at hand. Where a text is accepted again, what that costs in a store of which nothing is remembered, and reading the rest of
-//! the lot again with nothing at hand.
+//! Cost: what reading all positions costs, or what judging them costs on the processors that are left beside it, if that is more; the
+//! memory of two stretches, of at most 300,000 nodes each, of the rosters at hand, and of one position for each lot. Where a text is
+//! accepted again, what that costs in a store of which nothing is remembered, and reading the rest of the stretch again with nothing
+//! at hand.
 #![tactic(auto)]
 
 mod judging;

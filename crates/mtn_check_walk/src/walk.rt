@@ -1,4 +1,4 @@
-// The walk along the log, in lots.
+// The walk along the log, in stretches.
 ghost use Rattle.std.specs.Prelude.{◌≡◌, ◌<◌, ◌≤◌, ◌+◌, ℕ, Err, IfErr, IfOk, IfSome, OnOk, length};
 ghost use Rattle.mtn_ports.specs.Causes.{Rose};
 ghost use Rattle.mtn_ports.specs.Kept.{Stays};
@@ -6,35 +6,35 @@ ghost use Rattle.mtn_history.specs.Errors.{IfDamage};
 ghost use Rattle.mtn_check_laws.specs.FirstDamage.{IsBegun, IsDamageAt};
 ghost use Rattle.mtn_check_laws.specs.Fronts.{Front, IsFrontAt};
 ghost use Rattle.mtn_check_log.specs.Positions.{IsFirstIn, IsWalkedTo};
-ghost use Rattle.mtn_check_walk.specs.Walks.{IsLaidOut, IsNextLot, IsReadBehind};
+ghost use Rattle.mtn_check_walk.specs.Walks.{IsLaidOut, IsNextStretch, IsReadBehind};
 ghost use Rattle.mtn_check_walk.specs.Judging.{IsJudged};
 ghost use Rattle.mtn_check_hands.specs.Hands.{NoneFrom};
 
 use crate::judging::{Judged, judge};
 use mtn_base::NoMemory;
-use mtn_check_hands::{Hands, Lot, load_lot};
+use mtn_check_hands::{Hands, Stretch, load_stretch};
 use mtn_check_log::walk_from;
 use mtn_history::StoreError;
 use mtn_ports::{Ident, Keeper};
 use std::alloc::Global;
 use std::thread::{Threads, join_mut};
 
-/// A walk that stands at a position, with the lot that was read there, and what is at hand behind that.
+/// A walk that stands at a position, with the stretch that was read there, and what is at hand behind that.
 #[derive(Drop)]
 pub struct Walk {
     pub at: u64,
-    pub lot: Lot,
+    pub stretch: Stretch,
     pub hands: Hands,
 }
 
-/// A lot read behind another: what is found of that, and the walk behind it.
+/// A stretch read behind another: what is found of that, and the walk behind it.
 #[derive(Drop)]
 pub struct Ahead {
     pub judged: Judged,
     pub walk: Walk,
 }
 
-// Reads a lot with nothing at hand, where the walk has come.
+// Reads a stretch with nothing at hand, where the walk has come.
 fn begin_at<I: Ident, K: Keeper>(
     alloc: Global,
     ident: &I,
@@ -53,46 +53,46 @@ fn begin_at<I: Ident, K: Keeper>(
 {
     let _ = ident;
     let mut hands = Hands::new(alloc);
-    let lot = load_lot(alloc, keeper, &mut hands, at, count)?;
-    Ok(Walk { at, lot, hands })
+    let stretch = load_stretch(alloc, keeper, &mut hands, at, count)?;
+    Ok(Walk { at, stretch, hands })
 }
 
-// Judges a lot, and reads the one behind it; with more pieces than one beside each other.
+// Judges a stretch, and reads the one behind it; with more pieces than one beside each other.
 fn judge_and_read<R: Threads + Sync, I: Ident, K: Keeper>(
     rt: &R,
     alloc: Global,
     ident: &I,
     pieces: usize,
-    lot: &Lot,
+    stretch: &Stretch,
     keeper: &mut K,
     hands: &mut Hands,
     from: u64,
     count: u64,
-) -> (Result<Judged, NoMemory>, Result<Lot, StoreError>)
-    requires same { length lot.now.positions.items ≡ length lot.now.jobs.items }
+) -> (Result<Judged, NoMemory>, Result<Stretch, StoreError>)
+    requires same { length stretch.now.positions.items ≡ length stretch.now.jobs.items }
     requires none { NoneFrom from hands.old }
     requires within { from ≤ count }
-    ensures judged { IfOk result.0 (IsJudged (I.meaning ident.now) lot.now) }
-    ensures next { IsNextLot K.contents K.leaves K.faults from count keeper.old keeper.new hands.old hands.new result.1 }
+    ensures judged { IfOk result.0 (IsJudged (I.meaning ident.now) stretch.now) }
+    ensures next { IsNextStretch K.contents K.leaves K.faults from count keeper.old keeper.new hands.old hands.new result.1 }
 {
     if pieces < 2 {
-        let judged = judge(rt, alloc, ident, pieces, lot);
-        return (judged, load_lot(alloc, keeper, hands, from, count));
+        let judged = judge(rt, alloc, ident, pieces, stretch);
+        return (judged, load_stretch(alloc, keeper, hands, from, count));
     }
     join_mut(
         rt,
         &mut || -> Result<Judged, NoMemory>
-            requires { length lot.now.positions.items ≡ length lot.now.jobs.items }
-            ensures { IfOk result (IsJudged (I.meaning ident.entry.now) lot.entry.now) }
-        { judge(rt, alloc, ident, pieces, lot) },
-        &mut || -> Result<Lot, StoreError>
+            requires { length stretch.now.positions.items ≡ length stretch.now.jobs.items }
+            ensures { IfOk result (IsJudged (I.meaning ident.entry.now) stretch.entry.now) }
+        { judge(rt, alloc, ident, pieces, stretch) },
+        &mut || -> Result<Stretch, StoreError>
             requires { NoneFrom from hands.now × (from ≤ count) }
-            ensures { IsNextLot K.contents K.leaves K.faults from count keeper.entry.now keeper.exit.now hands.entry.now hands.exit.now result }
-        { load_lot(alloc, keeper, hands, from, count) },
+            ensures { IsNextStretch K.contents K.leaves K.faults from count keeper.entry.now keeper.exit.now hands.entry.now hands.exit.now result }
+        { load_stretch(alloc, keeper, hands, from, count) },
     )
 }
 
-// Judges the lot of a walk, and reads the next one behind it.
+// Judges the stretch of a walk, and reads the next one behind it.
 fn look_ahead<R: Threads + Sync, I: Ident, K: Keeper>(
     rt: &R,
     alloc: Global,
@@ -106,23 +106,27 @@ fn look_ahead<R: Threads + Sync, I: Ident, K: Keeper>(
     requires laid_out { IsLaidOut count walk }
     ensures stays { Stays K.contents K.leaves K.faults keeper.old keeper.new }
     ensures walked { IfSome (K.contents keeper.new) (λ c. IfOk result (λ ahead. IsWalkedTo (I.meaning ident.now) count (walk.at + ahead.judged.sound) c)) }
-    ensures read { IfSome (K.contents keeper.new) (λ c. IfOk result (λ ahead. ahead.judged.sound ≡ length walk.lot.jobs.items → IsReadBehind (I.meaning ident.now) count ahead.walk c)) }
+    ensures read { IfSome (K.contents keeper.new) (λ c. IfOk result (λ ahead. ahead.judged.sound ≡ length walk.stretch.jobs.items → IsReadBehind (I.meaning ident.now) count ahead.walk c)) }
     ensures shown { IfSome (K.contents keeper.new) (λ c. IfOk result (λ ahead. IfSome ahead.judged.damage (λ e. IfDamage e (IsFirstIn (I.meaning ident.now) count c)))) }
     ensures laid_out { IfOk result (λ ahead. IsLaidOut count ahead.walk) }
-    ensures at { IfOk result (λ ahead. ahead.walk.at ≡ walk.at + length walk.lot.jobs.items) }
-    ensures judged { IfOk result (λ ahead. IsJudged (I.meaning ident.now) walk.lot ahead.judged) }
+    ensures at { IfOk result (λ ahead. ahead.walk.at ≡ walk.at + length walk.stretch.jobs.items) }
+    ensures judged { IfOk result (λ ahead. IsJudged (I.meaning ident.now) walk.stretch ahead.judged) }
     ensures sound { IfErr result (λ e. IfDamage e (λ _. ⊥)) }
     ensures failed { result ≡ Err StoreError.Failed → Rose (K.faults keeper.old) (K.faults keeper.new) }
 {
-    let Walk { at, lot, mut hands } = walk;
-    let behind = at + lot.jobs.len() as u64;
+    let Walk {
+        at,
+        stretch,
+        mut hands,
+    } = walk;
+    let behind = at + stretch.jobs.len() as u64;
     let (judged, next) = judge_and_read(
-        rt, alloc, ident, pieces, &lot, keeper, &mut hands, behind, count,
+        rt, alloc, ident, pieces, &stretch, keeper, &mut hands, behind, count,
     );
     let judged = judged?;
     let walk = Walk {
         at: behind,
-        lot: next?,
+        stretch: next?,
         hands,
     };
     Ok(Ahead { judged, walk })
@@ -149,7 +153,7 @@ fn go_over<I: Ident, K: Keeper>(
     begin_at(alloc, ident, keeper, count, at + 1)
 }
 
-// Goes behind the lot of a walk, or behind the first position in it that is not sound.
+// Goes behind the stretch of a walk, or behind the first position in it that is not sound.
 fn go_on<R: Threads + Sync, I: Ident, K: Keeper>(
     rt: &R,
     alloc: Global,
@@ -170,7 +174,7 @@ fn go_on<R: Threads + Sync, I: Ident, K: Keeper>(
     ensures failed { result ≡ Err StoreError.Failed → Rose (K.faults keeper.old) (K.faults keeper.new) }
 {
     let at = walk.at;
-    let len = walk.lot.jobs.len();
+    let len = walk.stretch.jobs.len();
     if len == 0 {
         return go_over(alloc, ident, keeper, count, at);
     }
@@ -185,7 +189,7 @@ fn go_on<R: Threads + Sync, I: Ident, K: Keeper>(
     }
 }
 
-/// As `mtn_check_log::walk_log`, in lots of positions, of which the jobs of each are checked in so many pieces. A text is accepted
+/// As `mtn_check_log::walk_log`, in stretches of positions, of which the jobs of each are checked in so many pieces. A text is accepted
 /// again, as `walk_log` does it, only where the job of its position differs, or the records there give none.
 pub fn walk_jobs<R: Threads + Sync, I: Ident, K: Keeper>(
     rt: &R,

@@ -8,7 +8,7 @@ ghost use Rattle.mtn_ports.specs.Causes.{Rose};
 ghost use Rattle.mtn_ports.specs.Kept.{Stays};
 
 use mtn_base::NoMemory;
-use mtn_check_hands::{Hands, Lot};
+use mtn_check_hands::{Hands, Stretch};
 use mtn_check_records::Hand;
 use mtn_history::StoreError;
 use mtn_ports::Keeper;
@@ -36,22 +36,22 @@ pub fn put(hands: &mut Hands, at: u64, hand: Hand, entry: &LogRecord) -> Result<
     hands.put(at, hand, entry)
 }
 
-/// As `mtn_check_hands::load_lot`.
-pub fn load_lot<K: Keeper>(
+/// As `mtn_check_hands::load_stretch`.
+pub fn load_stretch<K: Keeper>(
     alloc: Global,
     keeper: &mut K,
     hands: &mut Hands,
     from: u64,
     count: u64,
-) -> Result<Lot, StoreError>
+) -> Result<Stretch, StoreError>
     requires none { NoneFrom from hands.old }
     ensures stays { Stays K.contents K.leaves K.faults keeper.old keeper.new }
-    ensures long { IfOk result (λ lot. length lot.positions.items ≡ length lot.jobs.items) }
-    ensures within { from ≤ count → IfOk result (λ lot. from + length lot.jobs.items ≤ count) }
-    ensures none { IfOk result (λ lot. NoneFrom (from + length lot.jobs.items) hands.new) }
-    ensures read { IfSome (K.contents keeper.new) (λ c. IfOk result (λ lot. AreRead c from hands.old lot.positions.items lot.jobs.items hands.new)) }
+    ensures long { IfOk result (λ stretch. length stretch.positions.items ≡ length stretch.jobs.items) }
+    ensures within { from ≤ count → IfOk result (λ stretch. from + length stretch.jobs.items ≤ count) }
+    ensures none { IfOk result (λ stretch. NoneFrom (from + length stretch.jobs.items) hands.new) }
+    ensures read { IfSome (K.contents keeper.new) (λ c. IfOk result (λ stretch. AreRead c from hands.old stretch.positions.items stretch.jobs.items hands.new)) }
     ensures sound { IfErr result (λ e. IfDamage e (λ _. ⊥)) }
     ensures failed { result ≡ Err StoreError.Failed → Rose (K.faults keeper.old) (K.faults keeper.new) }
 {
-    mtn_check_hands::load_lot(alloc, keeper, hands, from, count)
+    mtn_check_hands::load_stretch(alloc, keeper, hands, from, count)
 }

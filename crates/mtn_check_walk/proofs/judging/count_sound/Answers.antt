@@ -3,8 +3,8 @@ use Rattle.std.specs.Prelude.{slice_index_or}
 use Rattle.std.proofs.Common.{refl, arith, below_more}
 use Rattle.mtn_check_pieces.specs.declared.job.CheckJob.{CheckJob}
 use Rattle.mtn_check_records.specs.declared.hand.Position.{Position}
-use Rattle.mtn_check_walk.specs.Lots.{IsSound}
-use Rattle.mtn_check_walk.proofs.Lots.{sound_more}
+use Rattle.mtn_check_walk.specs.Stretches.{IsSound}
+use Rattle.mtn_check_walk.proofs.Stretches.{sound_more}
 use Rattle.mtn_check_walk.proofs.judging.count_sound.Goals as goal
 
 pub loop-place-preserved : goal.loop-place-preserved

@@ -1,7 +1,8 @@
 use Rattle.std.proofs.Common.{◌≡◌, ℕ, List, length}
 use Rattle.mtn_check_pieces.specs.declared.job.CheckJob.{CheckJob}
 use Rattle.mtn_check_records.specs.declared.hand.Position.{Position}
-use Rattle.mtn_check_walk.specs.Lots.{AreAnswered, AreSound}
+use Rattle.mtn_check_records.specs.Fitting.{AreAnswered}
+use Rattle.mtn_check_walk.specs.Stretches.{AreSound}
 use Rattle.mtn_check_walk.proofs.judging.count_sound.Given as goal
 
 abbrev pub invariant-loop-place : goal.invariant-loop-place

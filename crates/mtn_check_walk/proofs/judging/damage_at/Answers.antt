@@ -6,7 +6,7 @@ use Rattle.mtn_check_records.specs.Fitting.{AreAnswers}
 use Rattle.mtn_check_pieces.specs.declared.job.Verdict.TheVariants.{Agrees}
 use Rattle.mtn_check_records.specs.declared.hand.Fit.TheVariants.{Fits}
 use Rattle.mtn_check_records.specs.declared.hand.Position.{Position}
-use Rattle.mtn_check_walk.proofs.Lots.{shown_at}
+use Rattle.mtn_check_walk.proofs.Stretches.{shown_at}
 use Rattle.mtn_check_walk.proofs.judging.damage_at.Goals as goal
 
 pub returns-in-Agrees-clause-shown : goal.returns-in-Agrees-clause-shown

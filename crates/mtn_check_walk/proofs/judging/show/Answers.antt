@@ -4,7 +4,7 @@ use Rattle.mtn_check_pieces.specs.declared.job.CheckJob.{CheckJob}
 use Rattle.mtn_check_records.specs.Fitting.{IsFitting}
 use Rattle.mtn_history.specs.declared.errors.Damage.TheVariants.{Bad}
 use Rattle.mtn_records.specs.Fields.{number_text}
-use Rattle.mtn_check_walk.proofs.Lots.{shown_as, shown_of}
+use Rattle.mtn_check_walk.proofs.Stretches.{shown_as, shown_of}
 use Rattle.mtn_check_walk.proofs.judging.show.Goals as goal
 
 pub returns-in-OtherText-clause-shown : goal.returns-in-OtherText-clause-shown

@@ -3,8 +3,8 @@ use Rattle.std.specs.Prelude.{IfSome}
 use Rattle.mtn_ports.proofs.KeptLemmas.{stays_trans}
 use Rattle.mtn_check_hands.specs.Hands.{IsHandRead}
 use Rattle.mtn_check_hands.specs.Reading.{IsReadWith}
-use Rattle.mtn_check_hands.proofs.Lots.{both_longer, none_more, one_longer, told_more}
-use Rattle.mtn_check_hands.proofs.lot.load_lot.Goals as goal
+use Rattle.mtn_check_hands.proofs.Stretches.{both_longer, none_more, one_longer, told_more}
+use Rattle.mtn_check_hands.proofs.stretch.load_stretch.Goals as goal
 
 pub loop-at-preserved : goal.loop-at-preserved
 loop-at-preserved g c =
@@ -13,10 +13,10 @@ loop-at-preserved g c =
     let hand = subst (λ o. IfSome o (λ read. IsHandRead read.position read.job read.hand)) c.in-Some.is c.in_ok-read.ensures.hand in
     record {
       stays = stays_trans g.K.Keeper.contents g.K.Keeper.leaves g.K.Keeper.faults _ _ _ c.loop-at.invariant.stays c.read_more.ensures.stays;
-      same = both_longer c.loop-at.lot.positions.items _ c.loop-at.lot.jobs.items _ c.in-Some.read.position c.in-Some.read.job c.in_ok-add.ensures.positions c.in_ok-add.ensures.jobs c.loop-at.invariant.same;
-      long = one_longer c.args.from c.loop-at.at c.loop-at.lot.jobs.items _ c.in-Some.read.job c.in_ok-add.ensures.jobs c.loop-at.invariant.long;
+      same = both_longer c.loop-at.stretch.positions.items _ c.loop-at.stretch.jobs.items _ c.in-Some.read.position c.in-Some.read.job c.in_ok-add.ensures.positions c.in_ok-add.ensures.jobs c.loop-at.invariant.same;
+      long = one_longer c.args.from c.loop-at.at c.loop-at.stretch.jobs.items _ c.in-Some.read.job c.in_ok-add.ensures.jobs c.loop-at.invariant.long;
       none = none_more c.loop-at.at c.loop-at.hands c.add.new.hands c.in-Some.read.hand c.loop-at.invariant.none c.in_ok-add.ensures.hands;
-      read = told_more (g.K.Keeper.contents c.loop-at.keeper) told c.args.from c.loop-at.at c.args.hands.now c.loop-at.hands c.add.new.hands c.loop-at.lot.positions.items _ c.loop-at.lot.jobs.items _ c.in-Some.read
+      read = told_more (g.K.Keeper.contents c.loop-at.keeper) told c.args.from c.loop-at.at c.args.hands.now c.loop-at.hands c.add.new.hands c.loop-at.stretch.positions.items _ c.loop-at.stretch.jobs.items _ c.in-Some.read
           c.read_more.ensures.stays.same c.loop-at.invariant.same c.loop-at.invariant.long c.in_ok-add.ensures.positions c.in_ok-add.ensures.jobs c.loop-at.invariant.none c.in_ok-add.ensures.hands hand c.loop-at.invariant.read found;
     }
 

@@ -1,4 +1,4 @@
-// Some positions, read.
+// Positions one behind the other, read ahead.
 ghost use Rattle.std.specs.Prelude.{◌≡◌, ◌≤◌, ◌+◌, ◌++◌, ◌∷◌, [], length, Err, IfErr, IfOk, IfSome, OnOk};
 ghost use Rattle.mtn_ports.specs.Causes.{Rose};
 ghost use Rattle.mtn_ports.specs.Kept.{Stays};
@@ -16,15 +16,15 @@ use mtn_ports::Keeper;
 use mtn_records::RosterRecord;
 use std::alloc::Global;
 
-/// The most positions of a lot.
-const MAX_POSITIONS: u64 = 4;
+/// The most positions of a stretch: sixteen lots of four jobs, so that threads wait for one another but once in so many.
+const MAX_POSITIONS: u64 = 64;
 
-/// The most nodes of a lot with more than one position: of the stored rosters and their parents'.
+/// The most nodes of a stretch with more than one position: of the stored rosters and their parents'.
 const MAX_NODES: u64 = 300_000;
 
 /// Positions one behind the other, and the job of each.
 #[derive(Drop)]
-pub struct Lot {
+pub struct Stretch {
     pub positions: Vec<Position>,
     pub jobs: Vec<CheckJob>,
 }
@@ -96,9 +96,9 @@ fn read_more<K: Keeper>(
 }
 
 // One position more.
-fn add(lot: &mut Lot, hands: &mut Hands, at: u64, read: Read) -> Result<(), NoMemory>
-    ensures positions { OnOk result (lot.new.positions.items ≡ lot.old.positions.items ++ read.position ∷ []) }
-    ensures jobs { OnOk result (lot.new.jobs.items ≡ lot.old.jobs.items ++ read.job ∷ []) }
+fn add(stretch: &mut Stretch, hands: &mut Hands, at: u64, read: Read) -> Result<(), NoMemory>
+    ensures positions { OnOk result (stretch.new.positions.items ≡ stretch.old.positions.items ++ read.position ∷ []) }
+    ensures jobs { OnOk result (stretch.new.jobs.items ≡ stretch.old.jobs.items ++ read.job ∷ []) }
     ensures hands { OnOk result (AreWith hands.old at read.hand hands.new) }
 {
     let Read {
@@ -107,32 +107,32 @@ fn add(lot: &mut Lot, hands: &mut Hands, at: u64, read: Read) -> Result<(), NoMe
         hand,
     } = read;
     hands.put(at, hand, &position.entry)?;
-    lot.positions.push(position)?;
-    lot.jobs.push(job)?;
+    stretch.positions.push(position)?;
+    stretch.jobs.push(job)?;
     Ok(())
 }
 
-/// The positions from one on, read with what is at hand of those below, which then has them too: at most four, below `count`, and
+/// The positions from one on, read with what is at hand of those below, which then has them too: at most sixty-four, below `count`, and
 /// of rosters with at most 300,000 nodes together where they are more than one. It ends before a position at which a record is
 /// missing or bad, or a content that the text brings is not held; so there may be none. `Failed` where the keeper failed and
 /// `NoMemory` where memory was wanting, and no other error: then some may be at hand that were read.
-pub fn load_lot<K: Keeper>(
+pub fn load_stretch<K: Keeper>(
     alloc: Global,
     keeper: &mut K,
     hands: &mut Hands,
     from: u64,
     count: u64,
-) -> Result<Lot, StoreError>
+) -> Result<Stretch, StoreError>
     requires none { NoneFrom from hands.old }
     ensures stays { Stays K.contents K.leaves K.faults keeper.old keeper.new }
-    ensures long { IfOk result (λ lot. length lot.positions.items ≡ length lot.jobs.items) }
-    ensures within { from ≤ count → IfOk result (λ lot. from + length lot.jobs.items ≤ count) }
-    ensures none { IfOk result (λ lot. NoneFrom (from + length lot.jobs.items) hands.new) }
-    ensures read { IfSome (K.contents keeper.new) (λ c. IfOk result (λ lot. AreRead c from hands.old lot.positions.items lot.jobs.items hands.new)) }
+    ensures long { IfOk result (λ stretch. length stretch.positions.items ≡ length stretch.jobs.items) }
+    ensures within { from ≤ count → IfOk result (λ stretch. from + length stretch.jobs.items ≤ count) }
+    ensures none { IfOk result (λ stretch. NoneFrom (from + length stretch.jobs.items) hands.new) }
+    ensures read { IfSome (K.contents keeper.new) (λ c. IfOk result (λ stretch. AreRead c from hands.old stretch.positions.items stretch.jobs.items hands.new)) }
     ensures sound { IfErr result (λ e. IfDamage e (λ _. ⊥)) }
     ensures failed { result ≡ Err StoreError.Failed → Rose (K.faults keeper.old) (K.faults keeper.new) }
 {
-    let mut lot = Lot {
+    let mut stretch = Stretch {
         positions: Vec::new(alloc),
         jobs: Vec::new(alloc),
     };
@@ -143,10 +143,10 @@ pub fn load_lot<K: Keeper>(
     };
     for at in from..count.min(from.saturating_add(MAX_POSITIONS)) {
         let Some(read) = read_more(alloc, keeper, hands, at, taken)? else {
-            return Ok(lot);
+            return Ok(stretch);
         };
         taken = taken.with(nodes_of(&read.job));
-        add(&mut lot, hands, at, read)?;
+        add(&mut stretch, hands, at, read)?;
     }
-    Ok(lot)
+    Ok(stretch)
 }

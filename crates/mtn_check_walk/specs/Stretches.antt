@@ -1,13 +1,12 @@
--- What is found of the positions of a lot.
+-- What is found of the positions of a stretch.
 use Rattle.std.specs.Prelude.{◌<◌, ℕ, List, length, slice_index_or}
 use Rattle.mtn_base.specs.declared.limits.TheConstants.{MAX_LOG}
 use Rattle.mtn_check_laws.specs.FirstDamage.{IsDamageAt}
 use Rattle.mtn_check_laws.specs.Fronts.{Front, IsFrontAt}
 use Rattle.mtn_check_pieces.specs.Verdict.{IsAgreeing}
 use Rattle.mtn_check_pieces.specs.declared.job.CheckJob.{CheckJob}
-use Rattle.mtn_check_records.specs.Fitting.{AreAnswers, Leads}
+use Rattle.mtn_check_records.specs.Fitting.{Leads}
 use Rattle.mtn_check_records.specs.Reading.{IsReadAt}
-use Rattle.mtn_check_records.specs.declared.hand.JobAnswer.{JobAnswer}
 use Rattle.mtn_check_records.specs.declared.hand.Position.{Position}
 use Rattle.mtn_history.specs.Errors.{IfDamage}
 use Rattle.mtn_history.specs.declared.errors.Damage.{Damage}
@@ -19,11 +18,7 @@ pub record IsSound (f : List ℕ → List ℕ) (x : Position) (job : CheckJob) :
   pub agrees : IsAgreeing job
   pub leads : Leads f x job
 
--- the answers on positions
-abbrev pub AreAnswered : (List ℕ → List ℕ) → List Position → List CheckJob → List JobAnswer → Type 0
-AreAnswered f xs jobs answers = (i : ℕ) (x : Position) (job : CheckJob) (a : JobAnswer) → i < length jobs → AreAnswers f (slice_index_or xs i x) (slice_index_or jobs i job) (slice_index_or answers i a)
-
--- so many positions of a lot, from its first on, are right
+-- so many positions of a stretch, from its first on, are right
 abbrev pub AreSound : (List ℕ → List ℕ) → List Position → List CheckJob → ℕ → Type 0
 AreSound f xs jobs n = (i : ℕ) (x : Position) (job : CheckJob) → i < n → IsSound f (slice_index_or xs i x) (slice_index_or jobs i job)
 
@@ -31,7 +26,7 @@ AreSound f xs jobs n = (i : ℕ) (x : Position) (job : CheckJob) → i < n → I
 abbrev pub Damages : (List ℕ → List ℕ) → Position → CheckJob → Damage → Type 0
 Damages f x job d = (c : Contents) (r : ℕ) (front : Front) → IsFrontAt f c r front → r < MAX_LOG → IsReadAt c r front x job → IsDamageAt f c r front d
 
--- an error shows that of the position at a place of the lot
+-- an error shows that of the position at a place of the stretch
 pub record IsShown (f : List ℕ → List ℕ) (xs : List Position) (jobs : List CheckJob) (n : ℕ) (e : StoreError) : Type 0 where
   pub within : n < length jobs
   pub damages : (x : Position) (job : CheckJob) → IfDamage e (Damages f (slice_index_or xs n x) (slice_index_or jobs n job))

@@ -1,6 +1,6 @@
 use Rattle.std.proofs.Common.{◌≡◌, length}
-use Rattle.mtn_check_walk.proofs.Lots.{AnsweredTo}
-use Rattle.mtn_check_walk.proofs.judging.judge_in_turn.Given as goal
+use Rattle.mtn_check_records.proofs.Answers.{AnsweredTo}
+use Rattle.mtn_check_records.proofs.pieces.judge_lot.Given as goal
 
 abbrev pub invariant-loop-place : goal.invariant-loop-place
 invariant-loop-place g l = record {

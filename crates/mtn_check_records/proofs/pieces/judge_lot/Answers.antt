@@ -1,8 +1,8 @@
 -- One answer more each time.
 use Rattle.std.proofs.Common.{◌∷◌, [], length, ap, arith}
 use Rattle.std.proofs.lemmas.List.{length-append}
-use Rattle.mtn_check_walk.proofs.Lots.{answered_more}
-use Rattle.mtn_check_walk.proofs.judging.judge_in_turn.Goals as goal
+use Rattle.mtn_check_records.proofs.Answers.{answered_more}
+use Rattle.mtn_check_records.proofs.pieces.judge_lot.Goals as goal
 
 pub loop-place-preserved : goal.loop-place-preserved
 loop-place-preserved g c = record {

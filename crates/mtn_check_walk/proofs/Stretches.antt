@@ -1,12 +1,12 @@
--- What is found of the positions of a lot, one after the other.
+-- What is found of the positions of a stretch, one after the other.
 use Rattle.std.specs.Prelude.{IfSome, slice_index_or}
-use Rattle.std.proofs.Common.{◌≡◌, ◌≢◌, ◌≤◌, ◌<◌, ◌+◌, ℕ, List, [], ◌∷◌, ◌++◌, length, get_or, Option, Some, None, refl, sym, ap, ◌∙◌, subst, arith, below_more}
-use Rattle.std.proofs.lemmas.List.{get_or_append_left, get_or_default}
+use Rattle.std.proofs.Common.{◌≡◌, ◌≢◌, ◌≤◌, ◌<◌, ℕ, List, length, get_or, Option, Some, None, sym, ap, ◌∙◌, subst}
+use Rattle.std.proofs.lemmas.List.{get_or_default}
 use Rattle.mtn_check_laws.specs.FirstDamage.{IsDamageAt}
 use Rattle.mtn_check_pieces.specs.Verdict.{IsAgreeing, IsVerdict}
 use Rattle.mtn_check_pieces.specs.declared.job.CheckJob.{CheckJob}
 use Rattle.mtn_check_pieces.specs.declared.job.Verdict.TheVariants.{Agrees}
-use Rattle.mtn_check_records.specs.Fitting.{AreAnswers, IsFitting, Shows}
+use Rattle.mtn_check_records.specs.Fitting.{AreAnswered, IsFitting, Shows}
 use Rattle.mtn_check_records.specs.declared.hand.JobAnswer.{JobAnswer}
 use Rattle.mtn_check_records.specs.declared.hand.Fit.TheVariants.{Fits}
 use Rattle.mtn_check_records.specs.declared.hand.Position.{Position}
@@ -15,10 +15,10 @@ use Rattle.mtn_history.specs.declared.errors.Damage.{Damage}
 use Rattle.mtn_history.specs.declared.errors.Damage.TheVariants.{Bad}
 use Rattle.mtn_history.specs.declared.errors.StoreError.{StoreError}
 use Rattle.mtn_history.specs.declared.errors.StoreError.TheVariants.{Damaged, Failed, NoMemory}
-use Rattle.mtn_check_hands.specs.declared.lot.Lot.{Lot}
+use Rattle.mtn_check_hands.specs.declared.stretch.Stretch.{Stretch}
 use Rattle.mtn_check_walk.specs.Judging.{IsJudged}
 use Rattle.mtn_check_walk.specs.declared.judging.Judged.{Judged}
-use Rattle.mtn_check_walk.specs.Lots.{AreAnswered, AreSound, Damages, IsShown, IsSound}
+use Rattle.mtn_check_walk.specs.Stretches.{AreSound, Damages, IsShown, IsSound}
 
 -- one position more is sound
 pub sound_more : (f : List ℕ → List ℕ) (xs : List Position) (jobs : List CheckJob) (answers : List JobAnswer) (i : ℕ) (a : JobAnswer) → AreAnswered f xs jobs answers → i < length jobs →
@@ -26,26 +26,6 @@ pub sound_more : (f : List ℕ → List ℕ) (xs : List Position) (jobs : List C
 sound_more f xs jobs answers i a answered lt agrees is x job =
     let at = answered i x job a lt in
     record { agrees = subst (λ w. IsVerdict (slice_index_or jobs i job) w) agrees at.verdict; leads = subst (λ k. IsFitting f (slice_index_or xs i x) (slice_index_or jobs i job) k) is at.fit }
-
-at_push : (answers : List JobAnswer) (b d : JobAnswer) → get_or (answers ++ b ∷ []) (length answers) d ≡ b
-at_push [] b d = refl
-at_push (x ∷ answers) b d = at_push answers b d
-
--- the answers on the positions up to one
-abbrev pub AnsweredTo : (List ℕ → List ℕ) → List Position → List CheckJob → List JobAnswer → ℕ → Type 0
-AnsweredTo f xs jobs answers n = (i : ℕ) → i < n → (x : Position) (job : CheckJob) (a : JobAnswer) → AreAnswers f (slice_index_or xs i x) (slice_index_or jobs i job) (slice_index_or answers i a)
-
--- one answer more
-pub answered_more : (f : List ℕ → List ℕ) (xs : List Position) (jobs : List CheckJob) (answers more : List JobAnswer) (i : ℕ) (x : Position) (job : CheckJob) (b : JobAnswer) → length answers ≡ i → i < length xs → i < length jobs →
-    x ≡ get_or xs i x → job ≡ get_or jobs i job → AreAnswers f x job b → more ≡ answers ++ b ∷ [] → AnsweredTo f xs jobs answers i → AnsweredTo f xs jobs more (i + 1)
-answered_more f xs jobs answers more i x job b long in_xs in_jobs is_x is_job is pushed each =
-    subst (λ cs. AnsweredTo f xs jobs cs (i + 1)) (sym pushed)
-    (below_more (λ k. (y : Position) (j : CheckJob) (d : JobAnswer) → AreAnswers f (slice_index_or xs k y) (slice_index_or jobs k j) (slice_index_or (answers ++ b ∷ []) k d)) i
-    (λ k lt y j d. subst (λ z. AreAnswers f (slice_index_or xs k y) (slice_index_or jobs k j) z) (sym (get_or_append_left answers (b ∷ []) d k (let le = long in omega (arith, le, lt)))) (each k lt y j d))
-    (λ y j d.
-    subst (λ z. AreAnswers f z (get_or jobs i j) (get_or (answers ++ b ∷ []) i d)) (is_x ∙ get_or_default xs i x y in_xs)
-    (subst (λ z. AreAnswers f x z (get_or (answers ++ b ∷ []) i d)) (is_job ∙ get_or_default jobs i job j in_jobs)
-    (subst (λ z. AreAnswers f x job z) (sym (subst (λ k. get_or (answers ++ b ∷ []) k d ≡ b) long (at_push answers b d))) is))))
 
 -- the damage that an answer tells is that of the position
 pub shown_as : (f : List ℕ → List ℕ) (x : Position) (job : CheckJob) (d : ℕ → Damage) (e : StoreError) → Shows f x job d → IsAgreeing job → IfDamage e (λ w. w ≡ d job.at) → IfDamage e (Damages f x job)
@@ -70,16 +50,16 @@ shown_of e table k key b body same_key same_body is =
     subst (λ y. IfDamage e (λ d. d ≡ Bad table key y)) same_body (subst (λ y. IfDamage e (λ d. d ≡ Bad table y b)) same_key is)
 
 -- the same lists
-pub judged : (f : List ℕ → List ℕ) (lot : Lot) (xs ys : List Position) (jobs js : List CheckJob) (answers bs : List JobAnswer) (j : Judged) → xs ≡ lot.positions.items → ys ≡ lot.positions.items → jobs ≡ lot.jobs.items → js ≡ lot.jobs.items →
+pub judged : (f : List ℕ → List ℕ) (stretch : Stretch) (xs ys : List Position) (jobs js : List CheckJob) (answers bs : List JobAnswer) (j : Judged) → xs ≡ stretch.positions.items → ys ≡ stretch.positions.items → jobs ≡ stretch.jobs.items → js ≡ stretch.jobs.items →
     bs ≡ answers → AreAnswered f xs jobs answers → j.sound ≤ length js → ((h : List ℕ → List ℕ) → AreAnswered h ys js bs → AreSound h ys js j.sound) →
-    ((h : List ℕ → List ℕ) → AreAnswered h ys js bs → IfSome j.damage (IsShown h ys js j.sound)) → IfSome j.damage (λ e. e ≢ Failed) → IsJudged f lot j
-judged f lot xs ys jobs js answers bs j is_xs is_ys is_jobs is_js is_bs answered within sound shown failed =
+    ((h : List ℕ → List ℕ) → AreAnswered h ys js bs → IfSome j.damage (IsShown h ys js j.sound)) → IfSome j.damage (λ e. e ≢ Failed) → IsJudged f stretch j
+judged f stretch xs ys jobs js answers bs j is_xs is_ys is_jobs is_js is_bs answered within sound shown failed =
     let same_jobs : jobs ≡ js = is_jobs ∙ sym is_js in
     let same_xs : xs ≡ ys = is_xs ∙ sym is_ys in
     let a : AreAnswered f ys js bs = subst (λ l. AreAnswered f l js bs) same_xs (subst (λ l. AreAnswered f xs l bs) same_jobs (subst (AreAnswered f xs jobs) (sym is_bs) answered)) in
     record {
       within = subst (λ l. j.sound ≤ length l) is_js within;
-      sound = subst (λ l. AreSound f l lot.jobs.items j.sound) is_ys (subst (λ l. AreSound f ys l j.sound) is_js (sound f a));
-      shown = subst (λ l. IfSome j.damage (IsShown f l lot.jobs.items j.sound)) is_ys (subst (λ l. IfSome j.damage (IsShown f ys l j.sound)) is_js (shown f a));
+      sound = subst (λ l. AreSound f l stretch.jobs.items j.sound) is_ys (subst (λ l. AreSound f ys l j.sound) is_js (sound f a));
+      shown = subst (λ l. IfSome j.damage (IsShown f l stretch.jobs.items j.sound)) is_ys (subst (λ l. IfSome j.damage (IsShown f ys l j.sound)) is_js (shown f a));
       failed = failed;
     }
