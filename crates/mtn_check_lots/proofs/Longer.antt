@@ -1,10 +1,9 @@
 -- A run that is taken lengthens the front that the records below it spell.
-use Rattle.std.proofs.Common.{◌≡◌, ℕ, ◌+◌, suc, List, [], ◌∷◌, length, None, refl, sym, ap, ◌∙◌, subst, add-one, arith}
+use Rattle.std.proofs.Common.{◌≡◌, ℕ, ◌+◌, suc, List, [], ◌∷◌, length, refl, sym, subst, add-one, arith}
 use Rattle.mtn_model.specs.State.{State}
 use Rattle.mtn_model.specs.Table.{Contents}
 use Rattle.mtn_ports.specs.Kept.{with_all}
 use Rattle.mtn_records.specs.Fields.{number_text}
-use Rattle.mtn_replay.specs.Accepting.{Decides}
 use Rattle.mtn_history.specs.Stands.{StandsFor}
 use Rattle.mtn_history.specs.declared.pending.Pending.{Pending}
 use Rattle.mtn_check_laws.specs.FirstDamage.{IsBegun}

@@ -1,11 +1,10 @@
 -- A text that is taken, in words of what is pending then.
 use Rattle.std.specs.Prelude.{IfSome, IsTrue}
-use Rattle.std.proofs.Common.{◌≡◌, ◌<◌, ℕ, ◌+◌, ◌-◌, Bool, List, [], ◌∷◌, ◌++◌, drop, take, length, get_or, Option, Some, None, Ok, refl, sym, ap, ◌∙◌, subst, arith}
+use Rattle.std.proofs.Common.{◌≡◌, ◌<◌, ℕ, ◌+◌, ◌-◌, Bool, List, [], ◌∷◌, ◌++◌, drop, take, length, get_or, Option, Some, Ok, refl, sym, ap, ◌∙◌, subst, arith}
 use Rattle.mtn_model.specs.State.{State}
 use Rattle.mtn_model.specs.Table.{Contents}
 use Rattle.mtn_ports.specs.Kept.{Same, with_all}
 use Rattle.mtn_records.specs.Fields.{number_text}
-use Rattle.mtn_history.specs.Stands.{IsDraft}
 use Rattle.mtn_history.specs.declared.pending.Pending.{Pending}
 use Rattle.mtn_put_revision.specs.Accepting.{KeepsRevision}
 use Rattle.mtn_check_lots.specs.Runs.{AreBrought, AreTaken, IsTakenAt}

@@ -1,3 +1,4 @@
 pub mod Facts
 pub mod Jobs
 pub mod Runs
+pub mod Walks

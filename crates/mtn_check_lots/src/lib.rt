@@ -6,13 +6,15 @@
 //! same, the run is *taken*. This asks for no order, so that runs are checked beside one another.
 //!
 //! [`walk_lots`] answers what `mtn_check_log::walk_log` answers, for every number of pieces: it reads as many runs as there are
-//! pieces, and goes over those that are not taken one position after the other. It relies on this: [`takes_jobs`] says of a run that it is taken only where its texts are
+//! pieces, which is a *lot*, and the next lot while one is checked, and goes over runs that are not taken one position after the
+//! other. It relies on this: [`takes_jobs`] says of a run that it is taken only where its texts are
 //! accepted one after the other over the state that the records below it stand for, and bring what stands there; and then the run
 //! lengthens whatever front these records spell ([`laws`]). It says so of any run that has what is true of the records, as many or
 //! as few facts as it has: where one is not at hand that a draft asks for, the run is not taken, which says nothing of the records.
 //!
-//! Cost: of a run what accepting its texts costs in a store whose last few rosters are remembered; the time of the longest run, on
-//! as many processors as there are runs, and the memory of a draft for each.
+//! Cost: of a run what accepting its texts costs in a store whose last few rosters are remembered; of a lot the time of its longest
+//! run, on as many processors as there are runs and one that reads, or that of reading the next lot, if that is more; the memory of
+//! two lots as they were read, and of a draft for each run.
 #![tactic(auto)]
 
 mod extract;

@@ -2,12 +2,21 @@ use Rattle.std.proofs.Common.{arith}
 use Rattle.mtn_ports.proofs.KeptLemmas.{stays_trans}
 use Rattle.mtn_check_lots.proofs.walk.walk_lots.Goals as goal
 
-pub returns-in_err-at-clause-stays : goal.returns-in_err-at-clause-stays
-returns-in_err-at-clause-stays g c = stays_trans g.K.Keeper.contents g.K.Keeper.leaves g.K.Keeper.faults _ _ _ c.loop-at.invariant.stays c.walk_lot.ensures.stays
+pub loop-walk-init : goal.loop-walk-init
+loop-walk-init g c = record {
+  stays = c.begin_at.ensures.stays;
+  walked = c.in_ok-walk.ensures.walked;
+  jobs = c.in_ok-walk.ensures.jobs;
+  within = (let is = c.in_ok-walk.ensures.at in omega (arith, is));
+}
 
-pub loop-at-preserved : goal.loop-at-preserved
-loop-at-preserved g c = record {
-  stays = stays_trans g.K.Keeper.contents g.K.Keeper.leaves g.K.Keeper.faults _ _ _ c.loop-at.invariant.stays c.walk_lot.ensures.stays;
-  walked = c.in_ok-at.ensures.walked;
-  within = c.in_ok-at.ensures.within.1;
+pub returns-in_err-walk-2-clause-stays : goal.returns-in_err-walk-2-clause-stays
+returns-in_err-walk-2-clause-stays g c = stays_trans g.K.Keeper.contents g.K.Keeper.leaves g.K.Keeper.faults _ _ _ c.loop-walk.invariant.stays c.walk_lot.ensures.stays
+
+pub loop-walk-preserved : goal.loop-walk-preserved
+loop-walk-preserved g c = record {
+  stays = stays_trans g.K.Keeper.contents g.K.Keeper.leaves g.K.Keeper.faults _ _ _ c.loop-walk.invariant.stays c.walk_lot.ensures.stays;
+  walked = c.in_ok-walk-2.ensures.walked;
+  jobs = c.in_ok-walk-2.ensures.jobs;
+  within = c.in_ok-walk-2.ensures.within.1;
 }
