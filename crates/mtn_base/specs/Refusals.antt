@@ -91,7 +91,7 @@ cause_name (UnknownKey _) = codes "UnknownKey"
 -- the fields, with one space before each
 abbrev pub cause_fields : Cause → List ℕ
 cause_fields (TextTooLong length) = number_field length
-cause_fields (NotText place) = number_field place
+cause_fields (NotText offset) = number_field offset
 cause_fields (BadStanza number) = number_field number
 cause_fields (BadOrder number) = number_field number
 cause_fields (Repeated number) = number_field number

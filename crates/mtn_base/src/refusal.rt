@@ -38,12 +38,12 @@ pub enum Field {
     Key,
 }
 
-/// Why a command is refused, with what its line shows. Lengths and places are in bytes, and numbers
+/// Why a command is refused, with what its line shows. Lengths and offsets are in bytes, and numbers
 /// count from 1.
 #[derive(Drop)]
 pub enum Cause {
     TextTooLong { length: u64 },
-    NotText { place: u64 },
+    NotText { offset: u64 },
     BadStanza { number: u64 },
     BadOrder { number: u64 },
     Repeated { number: u64 },
@@ -214,7 +214,7 @@ impl Cause {
     {
         match *self {
             Cause::TextTooLong { length } => Cause::TextTooLong { length },
-            Cause::NotText { place } => Cause::NotText { place },
+            Cause::NotText { offset } => Cause::NotText { offset },
             Cause::BadStanza { number } => Cause::BadStanza { number },
             Cause::BadOrder { number } => Cause::BadOrder { number },
             Cause::Repeated { number } => Cause::Repeated { number },

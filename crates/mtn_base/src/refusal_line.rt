@@ -114,7 +114,7 @@ fn push_fields(out: &mut Vec<u8>, cause: &Cause) -> Result<(), NoMemory>
         Cause::NoBranch | Cause::NotOld => Ok(()),
         Cause::OldStore => push_number(out, 1),
         Cause::TextTooLong { length: number }
-        | Cause::NotText { place: number }
+        | Cause::NotText { offset: number }
         | Cause::BadStanza { number }
         | Cause::BadOrder { number }
         | Cause::Repeated { number }

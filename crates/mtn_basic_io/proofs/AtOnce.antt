@@ -133,7 +133,7 @@ pub none_skims : (d : Done) (p : Phase) (rest : List ℕ) → Skims d p rest (p,
 none_skims d p rest = record { within = omega arith; ran = run_nil d p }
 
 -- a run after the front
-pub run_on : (text : List ℕ) (place : ℕ) (d : Done) (p : Phase) (r : Phase × ℕ) → run start (Indent 0) (take place text) ≡ Some (d, p) → Skims d p (drop place text) r
-    → run start (Indent 0) (take (place + r.1) text) ≡ Some (d, r.0)
-run_on text place d p r ran skims =
-    ap (run start (Indent 0)) (take-add place r.1 text) ∙ run_then start (Indent 0) (take place text) (take r.1 (drop place text)) d p ran ∙ skims.ran
+pub run_on : (text : List ℕ) (offset : ℕ) (d : Done) (p : Phase) (r : Phase × ℕ) → run start (Indent 0) (take offset text) ≡ Some (d, p) → Skims d p (drop offset text) r
+    → run start (Indent 0) (take (offset + r.1) text) ≡ Some (d, r.0)
+run_on text offset d p r ran skims =
+    ap (run start (Indent 0)) (take-add offset r.1 text) ∙ run_then start (Indent 0) (take offset text) (take r.1 (drop offset text)) d p ran ∙ skims.ran

@@ -4,8 +4,8 @@ use mtn_base::NoMemory as Wanting;
 /// Why `read` gives no stanzas.
 #[derive(Clone, Copy, PartialEq, Eq)]
 pub enum ReadError {
-    /// The text is no printed form; its first `place` bytes begin one, and no more of it does.
-    NotText { place: u64 },
+    /// The text is no printed form; its first `offset` bytes begin one, and no more of it does.
+    NotText { offset: u64 },
     /// Memory is wanting.
     NoMemory,
 }

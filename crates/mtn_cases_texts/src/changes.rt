@@ -17,7 +17,7 @@ fn numbered(alloc: Global, word: &[u8], number: u64, out: &mut Vec<u8>) -> Optio
 
 fn fault(alloc: Global, error: ChangeTextError, out: &mut Vec<u8>) -> Option<()> {
     match error {
-        ChangeTextError::NotText { place } => numbered(alloc, b"NotText ", place, out),
+        ChangeTextError::NotText { offset } => numbered(alloc, b"NotText ", offset, out),
         ChangeTextError::BadStanza { number } => numbered(alloc, b"BadStanza ", number, out),
         ChangeTextError::BadOrder { number } => numbered(alloc, b"BadOrder ", number, out),
         ChangeTextError::Repeated { number } => numbered(alloc, b"Repeated ", number, out),

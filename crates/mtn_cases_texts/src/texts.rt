@@ -6,12 +6,12 @@ use std::alloc::Global;
 
 fn fault(alloc: Global, error: ReadError, out: &mut Vec<u8>) -> Option<()> {
     match error {
-        ReadError::NotText { place } => put_number(alloc, place, out).ok(),
+        ReadError::NotText { offset } => put_number(alloc, offset, out).ok(),
         ReadError::NoMemory => None,
     }
 }
 
-/// `stanzas TEXT`: the stanzas written again, or the place of the fault.
+/// `stanzas TEXT`: the stanzas written again, or the offset of the fault.
 pub fn stanzas(alloc: Global, text: &[u8], out: &mut Vec<u8>) -> Option<()> {
     match read(alloc, text) {
         Ok(stanzas) => write(&stanzas, out).ok(),

@@ -97,7 +97,7 @@ stands ss at s t keys lt is same far =
     }
 
 pub refused : (ss : List (List LineText)) (at : ℕ) (s : List LineText) (keys : List KeyName) (e : KeyTextError) → at < length ss → s ≡ get_or ss at s → SoFar ss at keys → IsRefused keys s (at + 1) e → IsListFault ss e
-refused ss at s keys (NotText place) lt is far h = absurd h
+refused ss at s keys (NotText offset) lt is far h = absurd h
 refused ss at s keys (BadStanza n) lt is far h = inr (keys, s, subst (λ k. StandsAt ss k keys s) (sym h.0) (stands ss at s s keys lt is refl far), h.1)
 refused ss at s keys (BadOrder n) lt is far h = inr (keys, subst (λ k. StandsAt ss k keys header) (sym h.0) (stands ss at s header keys lt is h.1 far))
 refused ss at s keys (Repeated n) lt is far h =

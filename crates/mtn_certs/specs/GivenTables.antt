@@ -11,7 +11,7 @@ use Rattle.mtn_certs.specs.KeyTables.{header, stanza_of, IsKeysText, IsKeysFault
 
 -- the cause of a text's fault
 abbrev pub text_cause : KeyTextError → Option Cause
-text_cause (text.NotText place) = Some (NotText place)
+text_cause (text.NotText offset) = Some (NotText offset)
 text_cause (text.BadStanza number) = Some (BadStanza number)
 text_cause (text.BadOrder number) = Some (BadOrder number)
 text_cause (text.Repeated number) = Some (Repeated number)

@@ -69,7 +69,7 @@ pub record StandsAt (stanzas : List (List LineText)) (number : ℕ) (before : Li
 
 -- why a later stanza may not stand where it stands
 abbrev pub IsLaterFault : List (List LineText) → KeyTextError → Type 0
-IsLaterFault stanzas (NotText place) = ⊥
+IsLaterFault stanzas (NotText offset) = ⊥
 IsLaterFault stanzas (BadStanza number) = (before : List KeyName) × (stanza : List LineText) × StandsAt stanzas number before stanza × IsNothing stanza
 IsLaterFault stanzas (BadOrder number) = (before : List KeyName) × StandsAt stanzas number before header
 IsLaterFault stanzas (Repeated number) = (before : List KeyName) × (k : KeyName) × StandsAt stanzas number before (stanza_of k) × IsKeyName k × (is_repeat before k ≡ true)
@@ -77,7 +77,7 @@ IsLaterFault stanzas NoMemory = ⊥
 
 -- why a text is none
 abbrev pub IsKeysFault : List ℕ → KeyTextError → Type 0
-IsKeysFault text (NotText place) = IsNoText text place
+IsKeysFault text (NotText offset) = IsNoText text offset
 IsKeysFault text NoMemory = Unit {0}
 IsKeysFault text e = (stanzas : List (List LineText)) × AreStanzas stanzas × (text ≡ spelling stanzas) × (IsFirstFault stanzas e ⊎ IsLaterFault stanzas e)
 

@@ -31,7 +31,7 @@ IsNextKeyName before stanza after = (k : KeyName) × (stanza ≡ stanza_of k) ×
 
 -- why the stanza of a number may not stand behind key names
 abbrev pub IsRefused : List KeyName → List LineText → ℕ → KeyTextError → Type 0
-IsRefused before stanza number (NotText place) = ⊥
+IsRefused before stanza number (NotText offset) = ⊥
 IsRefused before stanza number (BadStanza n) = (n ≡ number) × IsNothing stanza
 IsRefused before stanza number (BadOrder n) = (n ≡ number) × (stanza ≡ header)
 IsRefused before stanza number (Repeated n) = (n ≡ number) × ((k : KeyName) × IsKeyName k × (stanza ≡ stanza_of k) × (is_repeat before k ≡ true))

@@ -1,11 +1,11 @@
 // Why a text is no key table.
 use mtn_base::NoMemory as Wanting;
 
-/// Why a text is no key table: its place in bytes where it is no text of stanzas, and otherwise the number, from 1, of the
+/// Why a text is no key table: its offset in bytes where it is no text of stanzas, and otherwise the number, from 1, of the
 /// first stanza at fault.
 #[derive(Clone, Copy, PartialEq, Eq)]
 pub enum KeyTextError {
-    NotText { place: u64 },
+    NotText { offset: u64 },
     /// It spells nothing that stands in such a text.
     BadStanza { number: u64 },
     /// It may not stand there.

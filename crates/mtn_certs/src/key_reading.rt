@@ -116,7 +116,7 @@ pub fn read_keys(alloc: Global, text: &[u8]) -> Result<Vec<KeyName>, KeyTextErro
 {
     let stanzas = match read_stanzas(alloc, text) {
         Ok(stanzas) => stanzas,
-        Err(ReadError::NotText { place }) => return Err(KeyTextError::NotText { place }),
+        Err(ReadError::NotText { offset }) => return Err(KeyTextError::NotText { offset }),
         Err(ReadError::NoMemory) => return Err(KeyTextError::NoMemory),
     };
     let items = items_of(alloc, stanzas.as_slice())?;

@@ -72,7 +72,7 @@ first_at ss m p number why op f fault = record {
 }
 
 first_wrong : (ss : List (List LineText)) (m : Id) (p : Option Id) (e : ChangeTextError) → IsOpening ss m p → IsRunFault (drop 3 ss) 3 e → IsStanzasFault ss e
-first_wrong ss m p (NotText place) op f = f
+first_wrong ss m p (NotText offset) op f = f
 first_wrong ss m p (BadStanza number) op f = first_at ss m p number one.BadStanza op f (f.fault, f.inside)
 first_wrong ss m p (BadOrder number) op f = inl (first_at ss m p number one.BadOrder op f (f.fault, f.inside))
 first_wrong ss m p (Repeated number) op f = first_at ss m p number one.Repeated op f (f.fault, f.inside)
@@ -126,7 +126,7 @@ second_wrong_parent ss m p q cs at number op run is place falls = record {
 
 second_wrong : (ss : List (List LineText)) (m : Id) (p q : Option Id) (cs : List Change) (at : ℕ) (e : ChangeTextError) → IsOpening ss m p → IsRun (drop 3 ss) cs (Some q) → at ≡ 3 + length cs
     → IsSecondFault (drop (at + 1) ss) (at + 1) p q e → IsStanzasFault ss e
-second_wrong ss m p q cs at (NotText place) op run is f = f
+second_wrong ss m p q cs at (NotText offset) op run is f = f
 second_wrong ss m p q cs at (BadStanza number) op run is f = second_at ss m p q cs at number one.BadStanza op run is f
 second_wrong ss m p q cs at (BadOrder number) op run is f = inl (second_at ss m p q cs at number one.BadOrder op run is f)
 second_wrong ss m p q cs at (Repeated number) op run is f = second_at ss m p q cs at number one.Repeated op run is f

@@ -2,7 +2,7 @@
 use Rattle.std.proofs.Common.{◌≡◌, ◌≢◌, ◌⊎◌, ℕ, ◌+◌, ◌≤◌, List, ◌∷◌, ◌++◌, length, map, refl, sym, ap, subst, ◌∙◌, inl, inr, append_assoc, arith}
 use Rattle.std.specs.List.{flat_map}
 use Rattle.mtn_basic_io.specs.Spelling.{LineText, AreStanzas, spelling}
-use Rattle.mtn_basic_io.specs.Begun.{IsPlace}
+use Rattle.mtn_basic_io.specs.Begun.{IsOffset}
 use Rattle.mtn_basic_io.proofs.Again.{one_form}
 use Rattle.mtn_changes.specs.declared.change.Edge.{Edge}
 use Rattle.mtn_changes.specs.declared.head.Head.{Head}
@@ -55,7 +55,7 @@ abbrev Seen : List (List LineText) → ChangeTextError → Type 0
 Seen ss e = Wrong ss e ⊎ Early ss e
 
 seen : (ss : List (List LineText)) (e : ChangeTextError) → e ≢ NoMemory → IsStanzasFault ss e → Seen ss e
-seen ss (NotText place) some f = absurd f
+seen ss (NotText offset) some f = absurd f
 seen ss (BadStanza number) some f = inl (record { number = number; why = one.BadStanza; some = λ e. cc e; is = refl; wrong = f })
 seen ss (BadOrder number) some (inl f) = inl (record { number = number; why = one.BadOrder; some = λ e. cc e; is = refl; wrong = f })
 seen ss (BadOrder number) some (inr f) = inr (record { number = number; is = refl; ends = f })
@@ -81,29 +81,29 @@ one_seen ss a b (inr f) (inr g) = f.is ∙ ap (λ (n : ℕ). BadOrder n) (one_ea
 
 -- the text is none of stanzas, or its stanzas have a fault
 record NoStanzas (text : List ℕ) (e : ChangeTextError) : Type 0 where
-  place : ℕ
-  is : e ≡ NotText place
-  none : IsNoText text place
+  offset : ℕ
+  is : e ≡ NotText offset
+  none : IsNoText text offset
 
 abbrev Told : List ℕ → ChangeTextError → Type 0
 Told text e = NoStanzas text e ⊎ ((ss : List (List LineText)) × AreStanzas ss × (text ≡ spelling ss) × Seen ss e)
 
 told : (text : List ℕ) (e : ChangeTextError) → e ≢ NoMemory → IsRevisionFault text e → Told text e
-told text (NotText place) some f = inl (record { place = place; is = refl; none = f })
+told text (NotText offset) some f = inl (record { offset = offset; is = refl; none = f })
 told text (BadStanza number) some f = inr (f.0, f.1, f.2, seen f.0 (BadStanza number) some f.3)
 told text (BadOrder number) some f = inr (f.0, f.1, f.2, seen f.0 (BadOrder number) some f.3)
 told text (Repeated number) some f = inr (f.0, f.1, f.2, seen f.0 (Repeated number) some f.3)
 told text (BadEdge number) some f = inr (f.0, f.1, f.2, seen f.0 (BadEdge number) some f.3)
 told text NoMemory some f = absurd (some refl)
 
-one_place : (text : List ℕ) (n m : ℕ) → IsPlace text n → IsPlace text m → n ≡ m
-one_place text n m f g =
+one_offset : (text : List ℕ) (n m : ℕ) → IsOffset text n → IsOffset text m → n ≡ m
+one_offset text n m f g =
     let up : n ≤ m = g.longest n f.within f.begun in
     let down : m ≤ n = f.longest m g.within g.begun in
     omega (arith, up, down)
 
 one_told : (text : List ℕ) (a b : ChangeTextError) → Told text a → Told text b → a ≡ b
-one_told text a b (inl f) (inl g) = f.is ∙ ap (λ (n : ℕ). NotText n) (one_place text f.place g.place f.none.begun g.none.begun) ∙ sym g.is
+one_told text a b (inl f) (inl g) = f.is ∙ ap (λ (n : ℕ). NotText n) (one_offset text f.offset g.offset f.none.begun g.none.begun) ∙ sym g.is
 one_told text a b (inl f) (inr g) = absurd (f.none.none g.0 g.1 g.2)
 one_told text a b (inr f) (inl g) = absurd (g.none.none f.0 f.1 f.2)
 one_told text a b (inr f) (inr g) = one_seen f.0 a b f.3 (subst (λ (ss : List (List LineText)). Seen ss b) (one_form g.0 f.0 g.1 f.1 (sym g.2 ∙ f.2)) g.3)

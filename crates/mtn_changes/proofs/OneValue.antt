@@ -37,7 +37,7 @@ no_fault_at cs number why lawful f =
       at (inr behind) = absurd (none_more f.stanza f.rest behind.left)
 
 no_list_fault : (cs : List Change) (e : ChangeTextError) → AreChanges cs → IsListFault (map stanza_of cs) e → e ≡ NoMemory
-no_list_fault cs (NotText place) lawful f = absurd f
+no_list_fault cs (NotText offset) lawful f = absurd f
 no_list_fault cs (BadStanza number) lawful f = let e = no_fault_at cs number one.BadStanza lawful f in absurd (cc e)
 no_list_fault cs (BadOrder number) lawful f = let e = no_fault_at cs number one.BadOrder lawful f in absurd (cc e)
 no_list_fault cs (Repeated number) lawful f = let e = no_fault_at cs number one.Repeated lawful f in absurd (cc e)
@@ -52,7 +52,7 @@ of_those : (text : List ℕ) (ss : List (List LineText)) (P : List (List LineTex
 of_those text ss P ok same f = subst P (one_form f.0 ss f.1 ok (sym f.2 ∙ same)) f.3
 
 pub no_changes_fault : (text : List ℕ) (cs : List Change) (e : ChangeTextError) → AreStanzas (map stanza_of cs) → IsChangesText text cs → IsChangesFault text e → e ≡ NoMemory
-no_changes_fault text cs (NotText place) ok is f = absurd (f.none (map stanza_of cs) ok is.spelled)
+no_changes_fault text cs (NotText offset) ok is f = absurd (f.none (map stanza_of cs) ok is.spelled)
 no_changes_fault text cs (BadStanza number) ok is f = no_list_fault cs (BadStanza number) is.lawful (of_those text (map stanza_of cs) (λ ss. IsListFault ss (BadStanza number)) ok is.spelled f)
 no_changes_fault text cs (BadOrder number) ok is f = no_list_fault cs (BadOrder number) is.lawful (of_those text (map stanza_of cs) (λ ss. IsListFault ss (BadOrder number)) ok is.spelled f)
 no_changes_fault text cs (Repeated number) ok is f = no_list_fault cs (Repeated number) is.lawful (of_those text (map stanza_of cs) (λ ss. IsListFault ss (Repeated number)) ok is.spelled f)
@@ -248,7 +248,7 @@ ends_at r (Manifest id ∷ hs) is front same = absurd front
 ends_at r (Parent p ∷ hs) is front same = absurd front
 
 no_stanzas_fault : (r : Revision) (e : ChangeTextError) → AreEdges r.edges → IsStanzasFault (revision_stanzas r) e → e ≡ NoMemory
-no_stanzas_fault r (NotText place) is f = absurd f
+no_stanzas_fault r (NotText offset) is f = absurd f
 no_stanzas_fault r (BadStanza number) is f = let e = no_wrong r number one.BadStanza is f in absurd (cc e)
 no_stanzas_fault r (BadOrder number) is (inl f) = let e = no_wrong r number one.BadOrder is f in absurd (cc e)
 no_stanzas_fault r (BadOrder number) is (inr early) = absurd (ends_at r early.heads is early.lawful early.whole)
@@ -257,7 +257,7 @@ no_stanzas_fault r (BadEdge number) is f = let e = no_wrong r number one.BadEdge
 no_stanzas_fault r NoMemory is f = refl
 
 pub no_revision_fault : (text : List ℕ) (r : Revision) (e : ChangeTextError) → AreStanzas (revision_stanzas r) → IsRevisionText text r → IsRevisionFault text e → e ≡ NoMemory
-no_revision_fault text r (NotText place) ok is f = absurd (f.none (revision_stanzas r) ok is.spelled)
+no_revision_fault text r (NotText offset) ok is f = absurd (f.none (revision_stanzas r) ok is.spelled)
 no_revision_fault text r (BadStanza number) ok is f = no_stanzas_fault r (BadStanza number) is.lawful (of_those text (revision_stanzas r) (λ ss. IsStanzasFault ss (BadStanza number)) ok is.spelled f)
 no_revision_fault text r (BadOrder number) ok is f = no_stanzas_fault r (BadOrder number) is.lawful (of_those text (revision_stanzas r) (λ ss. IsStanzasFault ss (BadOrder number)) ok is.spelled f)
 no_revision_fault text r (Repeated number) ok is f = no_stanzas_fault r (Repeated number) is.lawful (of_those text (revision_stanzas r) (λ ss. IsStanzasFault ss (Repeated number)) ok is.spelled f)

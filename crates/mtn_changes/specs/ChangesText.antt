@@ -1,7 +1,7 @@
 -- The text of a list of changes, and why a text is none.
 use Rattle.std.specs.Prelude.{◌≡◌, ◌+◌, ◌<◌, ◌++◌, ℕ, List, ◌∷◌, length, map, take, slice_index_or}
 use Rattle.mtn_basic_io.specs.Spelling.{LineText, AreStanzas, spelling}
-use Rattle.mtn_basic_io.specs.Begun.{IsPlace}
+use Rattle.mtn_basic_io.specs.Begun.{IsOffset}
 use Rattle.mtn_changes.specs.declared.change.Change.{Change}
 use Rattle.mtn_changes.specs.declared.order.Fault.{Fault}
 use Rattle.mtn_changes.specs.declared.order.Fault.TheVariants as one
@@ -31,7 +31,7 @@ pub record IsFaultAt (stanzas : List (List LineText)) (number : ℕ) (why : Faul
 
 -- why stanzas are no list of changes
 abbrev pub IsListFault : List (List LineText) → ChangeTextError → Type 0
-IsListFault stanzas (NotText place) = ⊥
+IsListFault stanzas (NotText offset) = ⊥
 IsListFault stanzas (BadStanza number) = IsFaultAt stanzas number one.BadStanza
 IsListFault stanzas (BadOrder number) = IsFaultAt stanzas number one.BadOrder
 IsListFault stanzas (Repeated number) = IsFaultAt stanzas number one.Repeated
@@ -43,13 +43,13 @@ pub record IsChangesText (text : List ℕ) (changes : List Change) : Type 0 wher
   pub lawful : AreChanges changes
   pub spelled : text ≡ spelling (map stanza_of changes)
 
--- it is the printed form of no stanzas, and begins one up to this place
-pub record IsNoText (text : List ℕ) (place : ℕ) : Type 0 where
+-- it is the printed form of no stanzas, and begins one up to this offset
+pub record IsNoText (text : List ℕ) (offset : ℕ) : Type 0 where
   pub none : (stanzas : List (List LineText)) → AreStanzas stanzas → text ≡ spelling stanzas → ⊥
-  pub begun : IsPlace text place
+  pub begun : IsOffset text offset
 
 -- why a text is none
 abbrev pub IsChangesFault : List ℕ → ChangeTextError → Type 0
-IsChangesFault text (NotText place) = IsNoText text place
+IsChangesFault text (NotText offset) = IsNoText text offset
 IsChangesFault text NoMemory = Unit {0}
 IsChangesFault text e = (stanzas : List (List LineText)) × AreStanzas stanzas × (text ≡ spelling stanzas) × IsListFault stanzas e

@@ -17,5 +17,5 @@ numbered_of one.NoMemory number = NoMemory
 
 -- the fault of a text that is none of stanzas
 abbrev pub text_fault : ReadError → ChangeTextError
-text_fault (stanzas.NotText place) = NotText place
+text_fault (stanzas.NotText offset) = NotText offset
 text_fault stanzas.NoMemory = NoMemory

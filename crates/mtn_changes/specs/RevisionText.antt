@@ -93,7 +93,7 @@ pub record EndsEarly (stanzas : List (List LineText)) (number : ℕ) : Type 0 wh
 
 -- why stanzas are no revision
 abbrev pub IsStanzasFault : List (List LineText) → ChangeTextError → Type 0
-IsStanzasFault stanzas (NotText place) = ⊥
+IsStanzasFault stanzas (NotText offset) = ⊥
 IsStanzasFault stanzas (BadStanza number) = IsWrongAt stanzas number one.BadStanza
 IsStanzasFault stanzas (BadOrder number) = IsWrongAt stanzas number one.BadOrder ⊎ EndsEarly stanzas number
 IsStanzasFault stanzas (Repeated number) = IsWrongAt stanzas number one.Repeated
@@ -107,6 +107,6 @@ pub record IsRevisionText (text : List ℕ) (r : Revision) : Type 0 where
 
 -- why a text is none
 abbrev pub IsRevisionFault : List ℕ → ChangeTextError → Type 0
-IsRevisionFault text (NotText place) = IsNoText text place
+IsRevisionFault text (NotText offset) = IsNoText text offset
 IsRevisionFault text NoMemory = Unit {0}
 IsRevisionFault text e = (stanzas : List (List LineText)) × AreStanzas stanzas × (text ≡ spelling stanzas) × IsStanzasFault stanzas e

@@ -47,7 +47,7 @@ pub record IsRunFaultAt (stanzas : List (List LineText)) (from number : ℕ) (wh
 
 -- why the stanzas behind so many others are no changes of an edge
 abbrev pub IsRunFault : List (List LineText) → ℕ → ChangeTextError → Type 0
-IsRunFault stanzas from (NotText place) = ⊥
+IsRunFault stanzas from (NotText offset) = ⊥
 IsRunFault stanzas from (BadStanza number) = IsRunFaultAt stanzas from number one.BadStanza
 IsRunFault stanzas from (BadOrder number) = IsRunFaultAt stanzas from number one.BadOrder
 IsRunFault stanzas from (Repeated number) = IsRunFaultAt stanzas from number one.Repeated
@@ -74,7 +74,7 @@ pub record IsSecondFaultAt (stanzas : List (List LineText)) (from : ℕ) (first 
 
 -- why the stanzas are no changes of a second edge, or its parent none of a second one
 abbrev pub IsSecondFault : List (List LineText) → ℕ → Option Id → Option Id → ChangeTextError → Type 0
-IsSecondFault stanzas from first parent (NotText place) = ⊥
+IsSecondFault stanzas from first parent (NotText offset) = ⊥
 IsSecondFault stanzas from first parent (BadStanza number) = IsSecondFaultAt stanzas from first parent number one.BadStanza
 IsSecondFault stanzas from first parent (BadOrder number) = IsSecondFaultAt stanzas from first parent number one.BadOrder
 IsSecondFault stanzas from first parent (Repeated number) = IsSecondFaultAt stanzas from first parent number one.Repeated

@@ -6,11 +6,11 @@ use crate::order::Fault;
 use mtn_base::NoMemory as Wanting;
 use mtn_basic_io::ReadError;
 
-/// Why a text is no list of changes: its place in bytes where it is no text of stanzas, and
+/// Why a text is no list of changes: its offset in bytes where it is no text of stanzas, and
 /// otherwise the number, from 1, of the first stanza at fault.
 #[derive(Clone, Copy, PartialEq, Eq)]
 pub enum ChangeTextError {
-    NotText { place: u64 },
+    NotText { offset: u64 },
     /// It spells nothing that stands in such a text.
     BadStanza { number: u64 },
     /// It may not stand there.
@@ -50,7 +50,7 @@ pub fn of_text(error: ReadError) -> ChangeTextError
     ensures { result ≡ text_fault error }
 {
     match error {
-        ReadError::NotText { place } => ChangeTextError::NotText { place },
+        ReadError::NotText { offset } => ChangeTextError::NotText { offset },
         ReadError::NoMemory => ChangeTextError::NoMemory,
     }
 }

@@ -36,7 +36,7 @@ pub fn lawful_is_read()
     ensures revision { (text : Seq ℕ) (a : Revision) (e : ChangeTextError) → AreStanzas (revision_stanzas a) → IsRevisionText text a → IsRevisionFault text e → e ≡ NoMemory }
 {}
 
-/// A text that is no revision's has one fault at most, but for want of memory: one cause, with one place or number.
+/// A text that is no revision's has one fault at most, but for want of memory: one cause, with one offset or number.
 pub fn one_fault()
     ensures { (text : Seq ℕ) (a b : ChangeTextError) → a ≢ NoMemory → b ≢ NoMemory → IsRevisionFault text a → IsRevisionFault text b → a ≡ b }
 {}

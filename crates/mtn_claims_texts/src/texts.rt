@@ -11,7 +11,7 @@ use std::alloc::Global;
 pub fn read(alloc: Global, text: &[u8]) -> Result<Vec<Stanza>, ReadError>
     ensures found { IfOk result (λ v. AreStanzas v.items × (text.now ≡ spelling v.items)) }
     ensures only { (stanzas : Seq (Seq LineText)) → AreStanzas stanzas → text.now ≡ spelling stanzas → MatchResult result (λ v. v.items ≡ stanzas) (λ e. e ≡ ReadError.NoMemory) }
-    ensures place { IfErr result (λ e. IsFault text.now e) }
+    ensures offset { IfErr result (λ e. IsFault text.now e) }
 {
     mtn_basic_io::read(alloc, text)
 }

@@ -37,7 +37,7 @@ one_table payload (Err c) (Err d) (inr f) (inr g) =
     ap (λ (x : Cause). Err x) (one_of_option (text_cause g.1.fault) c d (ap text_cause (sym same) ∙ f.1.named) g.1.named)
 
 caused : (e : KeyTextError) → e ≢ text.NoMemory → (c : Cause) × (text_cause e ≡ Some c)
-caused (text.NotText place) some = (_, refl)
+caused (text.NotText offset) some = (_, refl)
 caused (text.BadStanza number) some = (_, refl)
 caused (text.BadOrder number) some = (_, refl)
 caused (text.Repeated number) some = (_, refl)

@@ -2,7 +2,7 @@
 use Rattle.std.specs.Prelude.{map}
 use Rattle.std.proofs.Common.{◌≡◌, ◌≢◌, ◌⊎◌, ◌≤◌, ◌+◌, ℕ, true, false, List, [], ◌∷◌, ◌++◌, length, append_assoc, append-nil, refl, sym, ap, ◌∙◌, subst, inl, inr, arith}
 use Rattle.mtn_basic_io.specs.Spelling.{LineText, AreStanzas, spelling}
-use Rattle.mtn_basic_io.specs.Begun.{IsPlace}
+use Rattle.mtn_basic_io.specs.Begun.{IsOffset}
 use Rattle.mtn_basic_io.proofs.Again.{one_form}
 use Rattle.mtn_changes.specs.ChangesText.{IsNoText}
 use Rattle.mtn_certs.specs.declared.cert.KeyName.{KeyName}
@@ -111,7 +111,7 @@ record IsLater (ss : List (List LineText)) (e : KeyTextError) : Type 0 where
   bad : IsBad why before stanza
 
 later : (ss : List (List LineText)) (e : KeyTextError) → IsLaterFault ss e → IsLater ss e
-later ss (NotText place) f = absurd f
+later ss (NotText offset) f = absurd f
 later ss (BadStanza n) f = record { why = nothing; number = n; before = f.0; stanza = f.1; at = f.2; is = refl; bad = f.3 }
 later ss (BadOrder n) f = record { why = order; number = n; before = f.0; stanza = header; at = f.1; is = refl; bad = refl }
 later ss (Repeated n) f = record { why = repeat; number = n; before = f.0; stanza = stanza_of f.1; at = f.2; is = refl; bad = (f.1, f.3, refl, f.4) }
@@ -127,29 +127,29 @@ one_later ss d e f g =
 
 first_later : (ss : List (List LineText)) (d e : KeyTextError) → IsFirstFault ss d → IsLater ss e → ⊥
 first_later [] d e f g = none_more header (map stanza_of g.before ++ g.stanza ∷ g.at.rest) (sym g.at.whole)
-first_later (s ∷ ss) (NotText place) e f g = f
+first_later (s ∷ ss) (NotText offset) e f g = f
 first_later (s ∷ ss) (BadStanza n) e f g = f.1.1 (first_of s header ss (map stanza_of g.before ++ g.stanza ∷ g.at.rest) g.at.whole)
 first_later (s ∷ ss) (BadOrder n) e f g = no_header f.1.0 (sym f.1.2 ∙ first_of s header ss (map stanza_of g.before ++ g.stanza ∷ g.at.rest) g.at.whole)
 first_later (s ∷ ss) (Repeated n) e f g = f
 first_later (s ∷ ss) NoMemory e f g = f
 
 one_first : (ss : List (List LineText)) (d e : KeyTextError) → IsFirstFault ss d → IsFirstFault ss e → d ≡ e
-one_first [] (NotText place) e f g = absurd f
+one_first [] (NotText offset) e f g = absurd f
 one_first [] (BadStanza n) e f g = absurd f
-one_first [] (BadOrder n) (NotText place) f g = absurd g
+one_first [] (BadOrder n) (NotText offset) f g = absurd g
 one_first [] (BadOrder n) (BadStanza k) f g = absurd g
 one_first [] (BadOrder n) (BadOrder k) f g = ap (λ (x : ℕ). BadOrder x) (f ∙ sym g)
 one_first [] (BadOrder n) (Repeated k) f g = absurd g
 one_first [] (BadOrder n) NoMemory f g = absurd g
 one_first [] (Repeated n) e f g = absurd f
 one_first [] NoMemory e f g = absurd f
-one_first (s ∷ ss) (NotText place) e f g = absurd f
-one_first (s ∷ ss) (BadStanza n) (NotText place) f g = absurd g
+one_first (s ∷ ss) (NotText offset) e f g = absurd f
+one_first (s ∷ ss) (BadStanza n) (NotText offset) f g = absurd g
 one_first (s ∷ ss) (BadStanza n) (BadStanza k) f g = ap (λ (x : ℕ). BadStanza x) (f.0 ∙ sym g.0)
 one_first (s ∷ ss) (BadStanza n) (BadOrder k) f g = absurd (f.1.0 g.1.0 g.1.1 g.1.2)
 one_first (s ∷ ss) (BadStanza n) (Repeated k) f g = absurd g
 one_first (s ∷ ss) (BadStanza n) NoMemory f g = absurd g
-one_first (s ∷ ss) (BadOrder n) (NotText place) f g = absurd g
+one_first (s ∷ ss) (BadOrder n) (NotText offset) f g = absurd g
 one_first (s ∷ ss) (BadOrder n) (BadStanza k) f g = absurd (g.1.0 f.1.0 f.1.1 f.1.2)
 one_first (s ∷ ss) (BadOrder n) (BadOrder k) f g = ap (λ (x : ℕ). BadOrder x) (f.0 ∙ sym g.0)
 one_first (s ∷ ss) (BadOrder n) (Repeated k) f g = absurd g
@@ -170,7 +170,7 @@ no_fault : (rs : List KeyName) (e : KeyTextError) → AreKeyNames [] rs → IsFa
 no_fault rs e lawful (inl f) = not_first e f
   where
     not_first : (e : KeyTextError) → IsFirstFault (header ∷ map stanza_of rs) e → ⊥
-    not_first (NotText place) f = f
+    not_first (NotText offset) f = f
     not_first (BadStanza n) f = f.1.1 refl
     not_first (BadOrder n) f = no_header f.1.0 (sym f.1.2)
     not_first (Repeated n) f = f
@@ -182,28 +182,28 @@ no_fault rs e lawful (inr f) =
 -- ---- texts
 
 record HasNone (text : List ℕ) (e : KeyTextError) : Type 0 where
-  place : ℕ
-  is : e ≡ NotText place
-  none : IsNoText text place
+  offset : ℕ
+  is : e ≡ NotText offset
+  none : IsNoText text offset
 
 abbrev Told : List ℕ → KeyTextError → Type 0
 Told text e = HasNone text e ⊎ ((ss : List (List LineText)) × AreStanzas ss × (text ≡ spelling ss) × IsFault ss e)
 
 told : (text : List ℕ) (e : KeyTextError) → e ≢ NoMemory → IsKeysFault text e → Told text e
-told text (NotText place) some f = inl (record { place = place; is = refl; none = f })
+told text (NotText offset) some f = inl (record { offset = offset; is = refl; none = f })
 told text (BadStanza n) some f = inr f
 told text (BadOrder n) some f = inr f
 told text (Repeated n) some f = inr f
 told text NoMemory some f = absurd (some refl)
 
-one_place : (text : List ℕ) (n m : ℕ) → IsPlace text n → IsPlace text m → n ≡ m
-one_place text n m f g =
+one_offset : (text : List ℕ) (n m : ℕ) → IsOffset text n → IsOffset text m → n ≡ m
+one_offset text n m f g =
     let up : n ≤ m = g.longest n f.within f.begun in
     let down : m ≤ n = f.longest m g.within g.begun in
     omega (arith, up, down)
 
 one_told : (text : List ℕ) (d e : KeyTextError) → Told text d → Told text e → d ≡ e
-one_told text d e (inl f) (inl g) = f.is ∙ ap (λ (n : ℕ). NotText n) (one_place text f.place g.place f.none.begun g.none.begun) ∙ sym g.is
+one_told text d e (inl f) (inl g) = f.is ∙ ap (λ (n : ℕ). NotText n) (one_offset text f.offset g.offset f.none.begun g.none.begun) ∙ sym g.is
 one_told text d e (inl f) (inr g) = absurd (f.none.none g.0 g.1 g.2)
 one_told text d e (inr f) (inl g) = absurd (g.none.none f.0 f.1 f.2)
 one_told text d e (inr f) (inr g) = one_of_stanzas f.0 d e f.3 (subst (λ (ss : List (List LineText)). IsFault ss e) (one_form g.0 f.0 g.1 f.1 (sym g.2 ∙ f.2)) g.3)
@@ -217,7 +217,7 @@ not_told text rs e ok is (inr f) = no_fault rs e is.lawful (subst (λ (ss : List
 
 pub no_fault_of : (text : List ℕ) (rs : List KeyName) (e : KeyTextError) → AreStanzas (header ∷ map stanza_of rs) → IsKeysText text rs → IsKeysFault text e → e ≡ NoMemory
 no_fault_of text rs NoMemory ok is f = refl
-no_fault_of text rs (NotText place) ok is f = absurd (not_told text rs (NotText place) ok is (told text (NotText place) (λ e. cc e) f))
+no_fault_of text rs (NotText offset) ok is f = absurd (not_told text rs (NotText offset) ok is (told text (NotText offset) (λ e. cc e) f))
 no_fault_of text rs (BadStanza n) ok is f = absurd (not_told text rs (BadStanza n) ok is (told text (BadStanza n) (λ e. cc e) f))
 no_fault_of text rs (BadOrder n) ok is f = absurd (not_told text rs (BadOrder n) ok is (told text (BadOrder n) (λ e. cc e) f))
 no_fault_of text rs (Repeated n) ok is f = absurd (not_told text rs (Repeated n) ok is (told text (Repeated n) (λ e. cc e) f))

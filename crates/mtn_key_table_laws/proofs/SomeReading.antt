@@ -11,7 +11,7 @@ use Rattle.mtn_certs.specs.declared.key_error.KeyTextError.TheVariants.{NotText,
 use Rattle.mtn_certs.specs.KeyTables.{stanza_of, header, is_repeat, IsKeyName, IsRead, AreKeyNames, IsKeysText, IsFirstFault, IsLaterFault, StandsAt, IsKeysFault}
 use Rattle.mtn_certs.proofs.KeyTexting.{more}
 use Rattle.mtn_merge_laws.proofs.Telling.{tell_stanza, tell_test}
-use Rattle.mtn_merge_laws.proofs.Texts.{stanzas_or_place}
+use Rattle.mtn_merge_laws.proofs.Texts.{stanzas_or_offset}
 use Rattle.mtn_key_table_laws.proofs.Decoding.{key_in, back}
 
 tell_key_name : (k : KeyName) → Dec (IsKeyName k)
@@ -66,12 +66,12 @@ decided (s ∷ rest) = at (tell_stanza s header) (read_key s)
     at (no n) (Some r, is) = inr (BadOrder 1, (λ f. cc f), inl (refl, (r, is.0, is.1)))
 
 fault_of : (text : List ℕ) (ss : List (List LineText)) (e : KeyTextError) → AreStanzas ss → text ≡ spelling ss → e ≢ NoMemory → IsFirstFault ss e ⊎ IsLaterFault ss e → IsKeysFault text e
-fault_of text ss (NotText place) ok same some f = absurd (none f)
+fault_of text ss (NotText offset) ok same some f = absurd (none f)
   where
-    none : IsFirstFault ss (NotText place) ⊎ IsLaterFault ss (NotText place) → ⊥
+    none : IsFirstFault ss (NotText offset) ⊎ IsLaterFault ss (NotText offset) → ⊥
     none (inl g) = first ss g
       where
-        first : (ss : List (List LineText)) → IsFirstFault ss (NotText place) → ⊥
+        first : (ss : List (List LineText)) → IsFirstFault ss (NotText offset) → ⊥
         first [] g = g
         first (s ∷ ss) g = g
     none (inr g) = g
@@ -81,7 +81,7 @@ fault_of text ss (Repeated n) ok same some f = (ss, ok, same, f)
 fault_of text ss NoMemory ok same some f = tt
 
 pub some_reading : (text : List ℕ) → ((rs : List KeyName) × IsKeysText text rs × AreStanzas (header ∷ map stanza_of rs)) ⊎ ((e : KeyTextError) × (e ≢ NoMemory) × IsKeysFault text e)
-some_reading text = elim (stanzas_or_place text) [
+some_reading text = elim (stanzas_or_offset text) [
   | inl t ↦ by t.0 t.1 t.2 (decided t.0)
   | inr t ↦ inr (NotText t.0, (λ f. cc f), t.1)
 ]

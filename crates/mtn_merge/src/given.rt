@@ -23,7 +23,7 @@ fn unread(error: ResolveTextError) -> HistoryError
     ensures { IsRefusedFor (text_cause error) result }
 {
     HistoryError::Refused(match error {
-        ResolveTextError::NotText { place } => Cause::NotText { place },
+        ResolveTextError::NotText { offset } => Cause::NotText { offset },
         ResolveTextError::BadStanza { number } => Cause::BadStanza { number },
         ResolveTextError::BadOrder { number } => Cause::BadOrder { number },
         ResolveTextError::Repeated { number } => Cause::Repeated { number },

@@ -15,7 +15,7 @@ use Rattle.mtn_resolve.specs.Texts.{stanza_of, header, IsResolution, IsSlot, IsR
 use Rattle.mtn_resolve.proofs.Texting.{more}
 use Rattle.mtn_merge_laws.proofs.Decoding.{resolution_in, back}
 use Rattle.mtn_merge_laws.proofs.Telling.{tell_stanza, tell_comps, tell_comp, tell_key}
-use Rattle.mtn_merge_laws.proofs.Texts.{stanzas_or_place}
+use Rattle.mtn_merge_laws.proofs.Texts.{stanzas_or_offset}
 
 tell_slot : (s : Slot) → Dec (IsSlot s)
 tell_slot Root = yes tt
@@ -78,12 +78,12 @@ decided (s ∷ rest) = at (tell_stanza s header) (read_resolution s)
     at (no n) (Some r, is) = inr (BadOrder 1, (λ f. cc f), inl (refl, (r, is.0, is.1)))
 
 fault_of : (text : List ℕ) (ss : List (List LineText)) (e : ResolveTextError) → AreStanzas ss → text ≡ spelling ss → e ≢ NoMemory → IsFirstFault ss e ⊎ IsLaterFault ss e → IsResolutionsFault text e
-fault_of text ss (NotText place) ok same some f = absurd (none f)
+fault_of text ss (NotText offset) ok same some f = absurd (none f)
   where
-    none : IsFirstFault ss (NotText place) ⊎ IsLaterFault ss (NotText place) → ⊥
+    none : IsFirstFault ss (NotText offset) ⊎ IsLaterFault ss (NotText offset) → ⊥
     none (inl g) = first ss g
       where
-        first : (ss : List (List LineText)) → IsFirstFault ss (NotText place) → ⊥
+        first : (ss : List (List LineText)) → IsFirstFault ss (NotText offset) → ⊥
         first [] g = g
         first (s ∷ ss) g = g
     none (inr g) = g
@@ -93,7 +93,7 @@ fault_of text ss (Repeated n) ok same some f = (ss, ok, same, f)
 fault_of text ss NoMemory ok same some f = tt
 
 pub some_reading : (text : List ℕ) → ((rs : List Resolution) × IsResolutionsText text rs × AreStanzas (header ∷ map stanza_of rs)) ⊎ ((e : ResolveTextError) × (e ≢ NoMemory) × IsResolutionsFault text e)
-some_reading text = elim (stanzas_or_place text) [
+some_reading text = elim (stanzas_or_offset text) [
   | inl t ↦ by t.0 t.1 t.2 (decided t.0)
   | inr t ↦ inr (NotText t.0, (λ f. cc f), t.1)
 ]

@@ -1,4 +1,4 @@
--- Each text is the printed form of stanzas, or stops at a place to begin one.
+-- Each text is the printed form of stanzas, or stops at a offset to begin one.
 use Rattle.std.proofs.Common.{◌≡◌, ◌≤◌, ◌<◌, ◌+◌, ◌⊎◌, ℕ, zero, suc, List, length, take, get_or, Option, Some, None, refl, sym, ap, ◌∙◌, inl, inr, subst, arith}
 use Rattle.std.proofs.lemmas.List.{take_all}
 use Rattle.mtn_basic_io.specs.Spelling.{LineText, AreStanzas, spelling}
@@ -20,7 +20,7 @@ module _ (text : List ℕ) where
     ran : run start (Indent 0) (take k text) ≡ Some (done, phase)
 
   abbrev HasStopped : Type 0
-  HasStopped = (place : ℕ) × Stops text place
+  HasStopped = (offset : ℕ) × Stops text offset
 
   plus_one : (k : ℕ) → k + 1 ≡ suc k
   plus_one k = omega arith
@@ -66,14 +66,14 @@ module _ (text : List ℕ) where
     | inr stopped ↦ inr stopped
   ]
 
-  no_text : (place : ℕ) → Stops text place → IsNoText text place
-  no_text place stops = record {
-    none = λ ss ok same. absurd (let e : NotText place ≡ NoMemory = only_memory text ss (NotText place) ok same stops in cc);
-    begun = fault_from_stop text (NotText place) stops;
+  no_text : (offset : ℕ) → Stops text offset → IsNoText text offset
+  no_text offset stops = record {
+    none = λ ss ok same. absurd (let e : NotText offset ≡ NoMemory = only_memory text ss (NotText offset) ok same stops in cc);
+    begun = fault_from_stop text (NotText offset) stops;
   }
 
-  pub stanzas_or_place : ((ss : List (List LineText)) × AreStanzas ss × (text ≡ spelling ss)) ⊎ ((place : ℕ) × IsNoText text place)
-  stanzas_or_place = elim read_text [
+  pub stanzas_or_offset : ((ss : List (List LineText)) × AreStanzas ss × (text ≡ spelling ss)) ⊎ ((offset : ℕ) × IsNoText text offset)
+  stanzas_or_offset = elim read_text [
     | inl r ↦ let s = reads_sound text r.0 r.1 in inl (r.0, s.0, s.1)
     | inr stopped ↦ inr (stopped.0, no_text stopped.0 stopped.1)
   ]

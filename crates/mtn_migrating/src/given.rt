@@ -14,7 +14,7 @@ fn unread(error: KeyTextError) -> HistoryError
     ensures { IsRefusedFor (text_cause error) result }
 {
     HistoryError::Refused(match error {
-        KeyTextError::NotText { place } => Cause::NotText { place },
+        KeyTextError::NotText { offset } => Cause::NotText { offset },
         KeyTextError::BadStanza { number } => Cause::BadStanza { number },
         KeyTextError::BadOrder { number } => Cause::BadOrder { number },
         KeyTextError::Repeated { number } => Cause::Repeated { number },

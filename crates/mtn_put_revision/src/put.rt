@@ -34,7 +34,7 @@ fn unread(error: ChangeTextError) -> HistoryError
     ensures { IsUnreadAs error result }
 {
     HistoryError::Refused(match error {
-        ChangeTextError::NotText { place } => Cause::NotText { place },
+        ChangeTextError::NotText { offset } => Cause::NotText { offset },
         ChangeTextError::BadStanza { number } => Cause::BadStanza { number },
         ChangeTextError::BadOrder { number } => Cause::BadOrder { number },
         ChangeTextError::Repeated { number } => Cause::Repeated { number },

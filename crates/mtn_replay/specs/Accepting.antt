@@ -18,7 +18,7 @@ use Rattle.mtn_replay.specs.Texts.{text_under}
 
 -- the cause of a text's fault
 abbrev pub fault_cause : ChangeTextError → Option Cause
-fault_cause (error.NotText place) = Some (NotText place)
+fault_cause (error.NotText offset) = Some (NotText offset)
 fault_cause (error.BadStanza number) = Some (BadStanza number)
 fault_cause (error.BadOrder number) = Some (BadOrder number)
 fault_cause (error.Repeated number) = Some (Repeated number)

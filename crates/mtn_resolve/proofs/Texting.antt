@@ -70,7 +70,7 @@ stands ss at s t rs lt is same far =
     }
 
 pub refused : (ss : List (List LineText)) (at : ℕ) (s : List LineText) (rs : List Resolution) (e : ResolveTextError) → at < length ss → s ≡ get_or ss at s → SoFar ss at rs → IsRefused rs s (at + 1) e → IsListFault ss e
-refused ss at s rs (NotText place) lt is far h = absurd h
+refused ss at s rs (NotText offset) lt is far h = absurd h
 refused ss at s rs (BadStanza n) lt is far h = inr (rs, s, subst (λ k. StandsAt ss k rs s) (sym h.0) (stands ss at s s rs lt is refl far), h.1)
 refused ss at s rs (BadOrder n) lt is far h = inr (rs, subst (λ k. StandsAt ss k rs header) (sym h.0) (stands ss at s header rs lt is h.1 far))
 refused ss at s rs (Repeated n) lt is far h =

@@ -1,11 +1,11 @@
 // Why resolutions were refused.
 use mtn_base::NoMemory as Wanting;
 
-/// Why a text is none of resolutions: its place in bytes where it is no text of stanzas, and otherwise the
+/// Why a text is none of resolutions: its offset in bytes where it is no text of stanzas, and otherwise the
 /// number, from 1, of the first stanza at fault.
 #[derive(Clone, Copy, PartialEq, Eq)]
 pub enum ResolveTextError {
-    NotText { place: u64 },
+    NotText { offset: u64 },
     /// It spells nothing that stands in such a text.
     BadStanza { number: u64 },
     /// It may not stand there.

@@ -103,7 +103,7 @@ pub fn read(alloc: Global, text: &[u8]) -> Result<Resolutions, ResolveTextError>
 {
     let stanzas = match read_stanzas(alloc, text) {
         Ok(stanzas) => stanzas,
-        Err(ReadError::NotText { place }) => return Err(ResolveTextError::NotText { place }),
+        Err(ReadError::NotText { offset }) => return Err(ResolveTextError::NotText { offset }),
         Err(ReadError::NoMemory) => return Err(ResolveTextError::NoMemory),
     };
     let items = items_of(alloc, stanzas.as_slice())?;

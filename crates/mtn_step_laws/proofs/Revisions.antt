@@ -29,7 +29,7 @@ use Rattle.mtn_changes.proofs.Decoded.{one_head}
 use Rattle.mtn_replay.specs.Lawful.{Spells}
 use Rattle.mtn_merge_laws.proofs.Telling.{tell_most, tell_test}
 use Rattle.mtn_step_laws.proofs.Telling.{read_change, read_head}
-use Rattle.mtn_merge_laws.proofs.Texts.{stanzas_or_place}
+use Rattle.mtn_merge_laws.proofs.Texts.{stanzas_or_offset}
 
 -- what a list of stanzas comes to
 abbrev pub IsDecided : List (List LineText) → Type 0
@@ -255,13 +255,13 @@ module _ (ss : List (List LineText)) where
 -- ---- texts
 
 pub spells_or_fault : (text : List ℕ) → ((r : Revision) × Spells text r) ⊎ ((e : ChangeTextError) × (e ≢ NoMemory) × IsRevisionFault text e)
-spells_or_fault text = elim (stanzas_or_place text) [
+spells_or_fault text = elim (stanzas_or_offset text) [
   | inl t ↦ by t.0 t.1 t.2 (decided t.0)
   | inr none ↦ inr (NotText none.0, (λ e. cc), none.1)
 ]
   where
     faulty : (ss : List (List LineText)) → AreStanzas ss → text ≡ spelling ss → (e : ChangeTextError) → e ≢ NoMemory → IsStanzasFault ss e → IsRevisionFault text e
-    faulty ss ok same (NotText place) some f = absurd f
+    faulty ss ok same (NotText offset) some f = absurd f
     faulty ss ok same (BadStanza number) some f = (ss, ok, same, f)
     faulty ss ok same (BadOrder number) some f = (ss, ok, same, f)
     faulty ss ok same (Repeated number) some f = (ss, ok, same, f)

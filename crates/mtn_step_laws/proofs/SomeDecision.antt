@@ -13,7 +13,7 @@ use Rattle.mtn_step_laws.proofs.Revisions.{spells_or_fault}
 
 -- a fault that is none of memory has a cause
 cause_of : (e : ChangeTextError) → e ≢ error.NoMemory → (c : Cause) × (fault_cause e ≡ Some c)
-cause_of (error.NotText place) some = (_, refl)
+cause_of (error.NotText offset) some = (_, refl)
 cause_of (error.BadStanza number) some = (_, refl)
 cause_of (error.BadOrder number) some = (_, refl)
 cause_of (error.Repeated number) some = (_, refl)

@@ -46,7 +46,7 @@ use Rattle.mtn_merge_laws.proofs.SomeOverride.{some_override}
 -- ---- what is given
 
 text_caused : (e : ResolveTextError) → e ≢ text.NoMemory → (c : Cause) × (text_cause e ≡ Some c)
-text_caused (text.NotText place) some = (_, refl)
+text_caused (text.NotText offset) some = (_, refl)
 text_caused (text.BadStanza number) some = (_, refl)
 text_caused (text.BadOrder number) some = (_, refl)
 text_caused (text.Repeated number) some = (_, refl)
