@@ -196,7 +196,8 @@ fn numbers(alloc: Global, rest: &[u8], out: &mut Vec<u8>) -> Option<()> {
     if 1000 < next || 1000 < tree.roster().len() {
         return None;
     }
-    match number(alloc, &tree, &known, next) {
+    let stops = tree.roster().stops(alloc).ok()?;
+    match number(alloc, &tree, &stops, &known, next) {
         Ok((numbered, free)) => {
             out.extend_from_slice(b"numbers").ok()?;
             put_numbers(alloc, numbered.entries.as_slice(), out)?;

@@ -84,9 +84,9 @@ fn put_over(
 ) -> Option<()> {
     let revision = read_revision(alloc, text).ok()?;
     match make(alloc, revision.edges.as_slice(), basis, id) {
-        Ok(tree) => {
-            put_tree(&tree, out).ok()?;
-            put_map(mark(alloc, tree, basis, at).ok()?.marks(), out).ok()
+        Ok(made) => {
+            put_tree(&made.tree, out).ok()?;
+            put_map(mark(alloc, made.tree, basis, at).ok()?.marks(), out).ok()
         }
         Err(MakeError::Refused(cause)) => Refusal { packet: 0, cause }.print(out).ok(),
         Err(MakeError::Damaged) => out.extend_from_slice(b"damaged\n").ok(),

@@ -151,7 +151,8 @@ fn new_numbers(
     if next > LAST_NUMBER {
         return Ok(None);
     }
-    match number(alloc, stored, known, next) {
+    let stops = stored.roster().stops(alloc)?;
+    match number(alloc, stored, &stops, known, next) {
         Ok(numbers) => Ok(Some(numbers)),
         Err(NumberError::Clash) => Ok(None),
         Err(NumberError::NoMemory) => Err(NoMemory),

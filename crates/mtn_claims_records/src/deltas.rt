@@ -1,6 +1,7 @@
 // Numbers, deltas and chains.
 ghost use Rattle.mtn_marking.specs.Marking.{MarkedTree};
 ghost use Rattle.mtn_records.specs.declared.record.RosterRecord.{RosterRecord};
+ghost use Rattle.mtn_roster.specs.Walk.{AreStops};
 ghost use Rattle.mtn_roster_deltas.specs.Chain.{ascend, deepest, rebuilt, Entries, after_all};
 ghost use Rattle.mtn_roster_deltas.specs.Difference.{IsDeltaTo};
 ghost use Rattle.mtn_roster_deltas.specs.Numbering.{fresh, shown, AreKnown, IsNumbering};
@@ -11,6 +12,7 @@ use mtn_ancestry::Pos;
 use mtn_base::NoMemory;
 use mtn_marking::MarkedRoster;
 use mtn_records::{Numbered, RecordError, RosterRecord};
+use mtn_roster::Stop;
 use mtn_roster_deltas::NumberError;
 use std::alloc::Global;
 
@@ -18,16 +20,18 @@ use std::alloc::Global;
 pub fn number(
     alloc: Global,
     roster: &MarkedRoster,
+    stops: &[Stop],
     known: &[&Numbered],
     next: u64,
 ) -> Result<(Numbered, u64), NumberError>
+    requires walk { AreStops roster.now.tree stops.now }
     requires room { next + length roster.now.tree < 2 ^ 63 }
     ensures spells { IfOk result (λ r. Spells r.0 roster.now) }
     ensures numbers { AreKnown (shown known.now) next → IfOk result (λ r. IsNumbering (shown known.now) next roster.now r.0) }
     ensures next { AreKnown (shown known.now) next → IfOk result (λ r. r.1 ≡ next + length (fresh (shown known.now) roster.now.tree)) }
     ensures clash { result ≡ Err NumberError.Clash → AreKnown (shown known.now) next → ⊥ }
 {
-    mtn_roster_deltas::number(alloc, roster, known, next)
+    mtn_roster_deltas::number(alloc, roster, stops, known, next)
 }
 
 /// As `mtn_roster_deltas::delta`.

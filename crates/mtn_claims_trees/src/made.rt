@@ -7,19 +7,21 @@ ghost use Rattle.mtn_history_laws.specs.History.{Revision};
 ghost use Rattle.mtn_make_roster.specs.Basis.{Underlies, IsCauseOf, made_refusal};
 ghost use Rattle.mtn_marking.specs.Graph.{IsMarkedAt};
 ghost use Rattle.mtn_replay.specs.Making.{made as made_of, made_tree, new_content as content_of};
+ghost use Rattle.mtn_roster.specs.Walk.{AreStops};
 
 use mtn_ancestry::Pos;
 use mtn_base::{Id, NoMemory};
 use mtn_changes::{Change, Edge};
-use mtn_make_roster::{Basis, MakeError, make, mark, new_content};
+use mtn_make_roster::{Basis, MakeError, WalkedTree, make, mark, new_content};
 use mtn_marking::MarkedRoster;
 use mtn_roster::Roster;
 use std::alloc::Global;
 
 /// `make`.
-pub fn made(alloc: Global, edges: &[Edge], basis: &Basis, new: Id) -> Result<Roster, MakeError>
+pub fn made(alloc: Global, edges: &[Edge], basis: &Basis, new: Id) -> Result<WalkedTree, MakeError>
     requires { AreEdges edges.now }
-    ensures tree { IfOk result (λ roster. (h : Seq Revision) → Underlies h edges.now basis.now new → roster ≡ made_tree h new edges.now) }
+    ensures walk { IfOk result (λ made. AreStops made.tree made.stops.items) }
+    ensures tree { IfOk result (λ made. (h : Seq Revision) → Underlies h edges.now basis.now new → made.tree ≡ made_tree h new edges.now) }
     ensures fine { OnOk result ((h : Seq Revision) → Underlies h edges.now basis.now new → made_refusal h new edges.now ≡ None) }
     ensures err { IfErr result (λ e. (h : Seq Revision) → Underlies h edges.now basis.now new → IsCauseOf (made_refusal h new edges.now) e) }
 {

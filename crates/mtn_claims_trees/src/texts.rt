@@ -3,6 +3,7 @@ ghost use Rattle.std.specs.Prelude.{◌≡◌, ◌↔◌, ◌++◌, ℕ, Contain
 ghost use Rattle.std.specs.List.Sorted.{IsStrictlyIncreasing};
 ghost use Rattle.mtn_basic_io.specs.Spelling.{spelling};
 ghost use Rattle.mtn_manifest.specs.Manifest.{manifest_of};
+ghost use Rattle.mtn_roster.specs.Walk.{AreStops};
 ghost use Rattle.mtn_roster_text.specs.Naming.{id_at, ids_in, table_of};
 ghost use Rattle.mtn_roster_text.specs.Positions.{IsMarkIn};
 ghost use Rattle.mtn_roster_text.specs.RosterText.{roster_of};
@@ -10,7 +11,7 @@ ghost use Rattle.mtn_roster_text.specs.RosterText.{roster_of};
 use mtn_ancestry::Pos;
 use mtn_base::{Id, NoMemory};
 use mtn_marking::MarkedRoster;
-use mtn_roster::Roster;
+use mtn_roster::{Roster, Stop};
 use mtn_roster_text::{IdTable, marked_positions};
 use std::alloc::Global;
 
@@ -20,6 +21,19 @@ pub fn manifest(roster: &Roster, out: &mut Vec<u8>) -> Result<(), NoMemory>
     ensures err { OnErr result (out.new.items ≡ out.old.items) }
 {
     mtn_manifest::write(roster, out)
+}
+
+/// `mtn_manifest::write_along`.
+pub fn manifest_along(
+    roster: &Roster,
+    stops: &[Stop],
+    out: &mut Vec<u8>,
+) -> Result<(), NoMemory>
+    requires { AreStops roster.now stops.now }
+    ensures ok { OnOk result (out.new.items ≡ out.old.items ++ spelling (manifest_of roster.now)) }
+    ensures err { OnErr result (out.new.items ≡ out.old.items) }
+{
+    mtn_manifest::write_along(roster, stops, out)
 }
 
 /// `mtn_roster_text::write`.

@@ -42,13 +42,30 @@ fn long_place(alloc: Global, roster: &Roster, stops: &[Stop]) -> Result<Option<u
 }
 
 /// The least path that is too long, component by component.
-fn long_path(alloc: Global, roster: &Roster) -> Result<Option<Path>, NoMemory>
+fn long_path(alloc: Global, roster: &Roster, stops: &[Stop]) -> Result<Option<Path>, NoMemory>
+    requires { AreStops roster.now stops.now }
     ensures { IfOk result (λ path. path ≡ find is_long (map (path_of roster.now) (by_path roster.now))) }
 {
-    let stops = roster.stops(alloc)?;
-    match long_place(alloc, roster, &stops)? {
+    match long_place(alloc, roster, stops)? {
         None => Ok(None),
         Some(place) => roster.path_at(alloc, place),
+    }
+}
+
+/// The walk over a tree that has not too much: its nodes as [`Roster::stops`] gives them.
+pub fn walk_within_limits(alloc: Global, roster: &Roster) -> Result<Vec<Stop>, MakeError>
+    ensures walk { IfOk result (λ stops. AreStops roster.now stops.items) }
+    ensures ok { OnOk result (or_else (too_many roster.now) (too_long roster.now) ≡ None) }
+    ensures err { IfErr result (IsCauseOf (or_else (too_many roster.now) (too_long roster.now))) }
+{
+    let count = roster.len();
+    if count > MAX_NODES as u64 {
+        return Err(MakeError::Refused(Cause::TooManyNodes { count }));
+    }
+    let stops = roster.stops(alloc)?;
+    match long_path(alloc, roster, &stops)? {
+        None => Ok(stops),
+        Some(path) => Err(MakeError::Refused(Cause::PathTooLong { path })),
     }
 }
 
@@ -57,12 +74,6 @@ pub fn within_limits(alloc: Global, roster: &Roster) -> Result<(), MakeError>
     ensures ok { OnOk result (or_else (too_many roster.now) (too_long roster.now) ≡ None) }
     ensures err { IfErr result (IsCauseOf (or_else (too_many roster.now) (too_long roster.now))) }
 {
-    let count = roster.len();
-    if count > MAX_NODES as u64 {
-        return Err(MakeError::Refused(Cause::TooManyNodes { count }));
-    }
-    match long_path(alloc, roster)? {
-        None => Ok(()),
-        Some(path) => Err(MakeError::Refused(Cause::PathTooLong { path })),
-    }
+    walk_within_limits(alloc, roster)?;
+    Ok(())
 }

@@ -3,14 +3,15 @@ ghost use Rattle.std.specs.Prelude.{◌≡◌, List as Seq, None, IfOk, IfErr, O
 ghost use Rattle.mtn_changes.specs.RevisionText.{AreEdges};
 ghost use Rattle.mtn_history_laws.specs.History.{Revision};
 ghost use Rattle.mtn_replay.specs.Making.{made_tree};
+ghost use Rattle.mtn_roster.specs.Walk.{AreStops};
 ghost use Rattle.mtn_make_roster.specs.Basis.{Underlies, IsCauseOf, edges_refusal, made_refusal};
 
 use crate::edges::{edge_tree, joined_tree};
-use crate::limits::within_limits;
+use crate::limits::walk_within_limits;
 use crate::{Basis, MakeError};
 use mtn_base::Id;
 use mtn_changes::Edge;
-use mtn_roster::Roster;
+use mtn_roster::{Roster, Stop};
 use std::alloc::Global;
 
 /// The tree of the edges, whatever it has.
@@ -45,15 +46,23 @@ fn tree_of_edges(alloc: Global, edges: &[Edge], basis: &Basis, new: Id) -> Resul
     }
 }
 
-/// The tree that the edges of a revision make, within its limits, or the first refusal. `new` is the revision's
-/// id. It costs the applying of each edge, the joining of two trees, and one walk.
-pub fn make(alloc: Global, edges: &[Edge], basis: &Basis, new: Id) -> Result<Roster, MakeError>
+/// A tree and the walk over it, for what is made along it.
+#[derive(Drop)]
+pub struct WalkedTree {
+    pub tree: Roster,
+    pub stops: Vec<Stop>,
+}
+
+/// The tree that the edges of a revision make, within its limits, with its walk, or the first refusal. `new` is the
+/// revision's id. It costs the applying of each edge, the joining of two trees, and one walk.
+pub fn make(alloc: Global, edges: &[Edge], basis: &Basis, new: Id) -> Result<WalkedTree, MakeError>
     requires { AreEdges edges.now }
-    ensures tree { IfOk result (λ roster. (h : Seq Revision) → Underlies h edges.now basis.now new → roster ≡ made_tree h new edges.now) }
+    ensures walk { IfOk result (λ made. AreStops made.tree made.stops.items) }
+    ensures tree { IfOk result (λ made. (h : Seq Revision) → Underlies h edges.now basis.now new → made.tree ≡ made_tree h new edges.now) }
     ensures fine { OnOk result ((h : Seq Revision) → Underlies h edges.now basis.now new → made_refusal h new edges.now ≡ None) }
     ensures err { IfErr result (λ e. (h : Seq Revision) → Underlies h edges.now basis.now new → IsCauseOf (made_refusal h new edges.now) e) }
 {
-    let roster = tree_of_edges(alloc, edges, basis, new)?;
-    within_limits(alloc, &roster)?;
-    Ok(roster)
+    let tree = tree_of_edges(alloc, edges, basis, new)?;
+    let stops = walk_within_limits(alloc, &tree)?;
+    Ok(WalkedTree { tree, stops })
 }

@@ -6,20 +6,21 @@
 //!
 //! The crates above rely on this: `write` appends the printed form of exactly these stanzas.
 //!
-//! Cost: one walk; the path of a node is made from its parent's, and each stanza is printed straight into
-//! the text. Besides that it takes the paths of the directories.
+//! Cost: one walk, or none where the caller has it (`write_along`); the path of a node is made from its parent's, and each
+//! stanza is printed straight into the text. Besides that it takes the paths of the directories.
 #![tactic(auto)]
 
 ghost use Rattle.std.specs.Prelude.{◌≡◌, ◌++◌, ◌∷◌, IfOk, OnOk, OnErr};
 ghost use Rattle.mtn_basic_io.specs.Spelling.{stanza_text, spelling};
 ghost use Rattle.mtn_base.specs.Front.{IsFront};
+ghost use Rattle.mtn_roster.specs.Walk.{AreStops};
 ghost use Rattle.mtn_manifest.specs.Manifest.{node_stanza, manifest_of, text_at, kept_at, IsMet};
 
 mod printing;
 
 use crate::printing::write_node;
 use mtn_base::{Bytes, NoMemory};
-use mtn_roster::{Entry, Roster, Slot};
+use mtn_roster::{Entry, Roster, Slot, Stop};
 pub use printing::{write_body, write_head};
 use std::alloc::Global;
 
@@ -74,17 +75,17 @@ fn write_next(path: &[u8], entry: &Entry, out: &mut Vec<u8>) -> Result<(), NoMem
 }
 
 /// Appends the stanzas, node by node along the walk.
-fn write_all(roster: &Roster, out: &mut Vec<u8>) -> Result<(), NoMemory>
+fn write_all(roster: &Roster, stops: &[Stop], out: &mut Vec<u8>) -> Result<(), NoMemory>
+    requires { AreStops roster.now stops.now }
     ensures ok { OnOk result (out.new.items ≡ out.old.items ++ spelling (manifest_of roster.now)) }
     ensures kept { IsFront out.old.items out.new.items }
 {
     let alloc = *out.allocator();
     let _nodes = roster.len();
-    let stops = roster.stops(alloc)?;
     let mut kept = Vec::with_capacity(alloc, stops.len())?;
     let mut text = Vec::new(alloc);
     write_head(out)?;
-    for stop in &stops {
+    for stop in stops {
         let entry = roster.at_place(stop.place).unwrap();
         put_text(&kept, &entry.slot, stop.above, &mut text)?;
         kept.push(kept_of(alloc, &text, entry)?)?;
@@ -93,15 +94,25 @@ fn write_all(roster: &Roster, out: &mut Vec<u8>) -> Result<(), NoMemory>
     Ok(())
 }
 
+/// Appends the manifest of a tree whose walk the caller has. An `Err` leaves `out` as it was.
+pub fn write_along(roster: &Roster, stops: &[Stop], out: &mut Vec<u8>) -> Result<(), NoMemory>
+    requires { AreStops roster.now stops.now }
+    ensures ok { OnOk result (out.new.items ≡ out.old.items ++ spelling (manifest_of roster.now)) }
+    ensures err { OnErr result (out.new.items ≡ out.old.items) }
+{
+    let len = out.len();
+    let written = write_all(roster, stops, out);
+    if written.is_err() {
+        out.truncate(len);
+    }
+    written
+}
+
 /// Appends the manifest of a tree. An `Err` leaves `out` as it was.
 pub fn write(roster: &Roster, out: &mut Vec<u8>) -> Result<(), NoMemory>
     ensures ok { OnOk result (out.new.items ≡ out.old.items ++ spelling (manifest_of roster.now)) }
     ensures err { OnErr result (out.new.items ≡ out.old.items) }
 {
-    let len = out.len();
-    let written = write_all(roster, out);
-    if written.is_err() {
-        out.truncate(len);
-    }
-    written
+    let stops = roster.stops(*out.allocator())?;
+    write_along(roster, &stops, out)
 }

@@ -6,6 +6,7 @@ ghost use Rattle.mtn_changes.specs.declared.change.Edge.{Edge};
 ghost use Rattle.mtn_history_laws.specs.History.{Revision};
 ghost use Rattle.mtn_replay.specs.Lawful.{IsNext};
 ghost use Rattle.mtn_replay.specs.Making.{made};
+ghost use Rattle.mtn_roster.specs.Walk.{AreStops};
 ghost use Rattle.mtn_model.specs.State.{State};
 ghost use Rattle.mtn_ports.specs.Causes.{Rose};
 ghost use Rattle.mtn_ports.specs.Kept.{Stays, with_all};
@@ -22,10 +23,11 @@ use mtn_base::Id;
 use mtn_history::{Draft, Rebuilt, StoreError};
 use mtn_marking::MarkedRoster;
 use mtn_ports::Keeper;
+use mtn_roster::Stop;
 use mtn_roster_deltas::{NumberError, number};
 use std::alloc::Global;
 
-/// Puts the records of a revision with this tree and these parents, and the draft remembers its roster; and tells whether it
+/// Puts the records of a revision with this tree, whose walk the caller has, and these parents, and the draft remembers its roster; and tells whether it
 /// did, as it does with each tree that a history may have next. Otherwise, and with an error, what is pending is as it was.
 pub fn keep<K: Keeper>(
     alloc: Global,
@@ -33,10 +35,12 @@ pub fn keep<K: Keeper>(
     id: Id,
     text: &[u8],
     roster: MarkedRoster,
+    stops: &[Stop],
     known: &KeptParents<'_>,
 ) -> Result<bool, StoreError>
     requires room { draft.old.pending.count < MAX_LOG }
     requires nodes { length roster.tree ≤ MAX_NODES }
+    requires walk { AreStops roster.tree stops.now }
     requires few { length known.now.places.now ≤ 2 }
     requires below { All (λ p. p < draft.old.pending.count) known.now.places.now }
     requires unknown { known.now.places.now ≡ [] → shown known.now.entries.now ≡ [] }
@@ -59,7 +63,7 @@ pub fn keep<K: Keeper>(
 {
     let at = Pos(draft.count());
     let next = next_number(draft)?;
-    let (entries, free) = match number(alloc, &roster, known.entries, next) {
+    let (entries, free) = match number(alloc, &roster, stops, known.entries, next) {
         Ok(numbers) => numbers,
         Err(NumberError::Clash) => return Err(unfit(draft, known.places.first().copied())),
         Err(NumberError::NoMemory) => return Err(StoreError::NoMemory),

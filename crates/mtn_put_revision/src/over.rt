@@ -6,6 +6,7 @@ ghost use Rattle.mtn_changes.specs.RevisionText.{AreEdges};
 ghost use Rattle.mtn_entry_laws.specs.Entries.{AreBounded};
 ghost use Rattle.mtn_replay.specs.Making.{made_tree, new_contents};
 ghost use Rattle.mtn_make_roster.specs.Basis.{Underlies};
+ghost use Rattle.mtn_roster.specs.Walk.{AreStops};
 ghost use Rattle.mtn_model.specs.State.{State};
 ghost use Rattle.mtn_ports.specs.Causes.{Rose};
 ghost use Rattle.mtn_ports.specs.Kept.{Stays, with_all};
@@ -27,7 +28,7 @@ use mtn_ancestry::Pos;
 use mtn_base::{Id, MAX_NODES};
 use mtn_changes::Revision;
 use mtn_history::{Draft, HistoryError, StoreError};
-use mtn_make_roster::{Basis, mark};
+use mtn_make_roster::{Basis, WalkedTree, mark};
 use mtn_ports::{Ident, Keeper};
 use mtn_roster::Roster;
 use std::alloc::Global;
@@ -47,11 +48,12 @@ fn over_tree<K: Keeper>(
     fresh: &NewRevision<'_>,
     basis: &Basis,
     known: &KeptParents<'_>,
-    tree: Roster,
+    made: WalkedTree,
 ) -> Result<bool, StoreError>
     requires edges { AreEdges fresh.now.read.now.edges }
     requires bounded { AreBounded fresh.now.read.now.edges }
     requires room { draft.old.pending.count < MAX_LOG }
+    requires walk { AreStops made.tree made.stops.items }
     requires few { length known.now.places.now ≤ 2 }
     requires below { All (λ p. p < draft.old.pending.count) known.now.places.now }
     requires unknown { known.now.places.now ≡ [] → shown known.now.entries.now ≡ [] }
@@ -61,22 +63,23 @@ fn over_tree<K: Keeper>(
     ensures same_reference { draft.new.keeper.ghost_name ≡ draft.old.keeper.ghost_name }
     ensures stays { Stays K.contents K.leaves K.faults draft.old.keeper.now draft.new.keeper.now }
     ensures accepts { (f : List ℕ → List ℕ) (s : State) → (d : IsFounded f (K.contents draft.new.keeper.now) draft.old.pending s) →
-        IsNew f d.stands.history fresh.now → made_refusal_of f s.files d.stands.history fresh.now.id fresh.now.read.now ≡ None → tree ≡ made_tree d.stands.history fresh.now.id fresh.now.read.now.edges →
+        IsNew f d.stands.history fresh.now → made_refusal_of f s.files d.stands.history fresh.now.id fresh.now.read.now ≡ None → made.tree ≡ made_tree d.stands.history fresh.now.id fresh.now.read.now.edges →
         IfOk result (λ kept. IsTrue kept → Accepts f d.records s d.stands.history fresh.now draft.new.pending) }
     ensures unkept { result ≡ Ok false → draft.new.pending ≡ draft.old.pending }
-    ensures none { result ≡ Ok false → AllAscend (shown known.now.entries.now) → NoneMakes draft.old.pending.count fresh.now.id fresh.now.read.now.edges basis.now tree }
+    ensures none { result ≡ Ok false → AllAscend (shown known.now.entries.now) → NoneMakes draft.old.pending.count fresh.now.id fresh.now.read.now.edges basis.now made.tree }
     ensures reads { (f : List ℕ → List ℕ) (s : State) → IsFounded f (K.contents draft.new.keeper.now) draft.old.pending s → K.reads draft.new.keeper.now ≤ K.reads draft.old.keeper.now + 1 }
     ensures err { OnErr result (draft.new.pending ≡ draft.old.pending) }
     ensures damaged { IfSome (K.contents draft.new.keeper.now) (λ c. IfErr result (λ e. IfDamage e
         (IsFound (K.contents draft.new.keeper.now) draft.old.pending (with_all c draft.old.pending.batch)))) }
     ensures failed { result ≡ Err StoreError.Failed → Rose (K.faults draft.old.keeper.now) (K.faults draft.new.keeper.now) }
 {
+    let WalkedTree { tree, stops } = made;
     if tree.len() > MAX_NODES as u64 {
         return Ok(false);
     }
     let at = Pos(draft.count());
     let marked = mark(alloc, tree, basis, at)?;
-    keep(alloc, draft, fresh.id, fresh.text, marked, known)
+    keep(alloc, draft, fresh.id, fresh.text, marked, &stops, known)
 }
 
 // Puts the tree that was planned, where one was and its record can be written.
@@ -110,7 +113,11 @@ fn over_plan<K: Keeper>(
     ensures failed { result ≡ Err StoreError.Failed → Rose (K.faults draft.old.keeper.now) (K.faults draft.new.keeper.now) }
 {
     match planned {
-        Some(tree) => over_tree(alloc, draft, fresh, basis, known, tree),
+        Some(tree) => {
+            let stops = tree.stops(alloc)?;
+            let made = WalkedTree { tree, stops };
+            over_tree(alloc, draft, fresh, basis, known, made)
+        }
         None => Ok(false),
     }
 }
@@ -148,8 +155,8 @@ fn over_edges<I: Ident, K: Keeper>(
     ensures failed { result ≡ Err (HistoryError.Store StoreError.Failed) → Rose (K.faults draft.old.keeper.now) (K.faults draft.new.keeper.now) }
 {
     let first = known.places.first().copied();
-    let tree = tree_of(alloc, ident, draft, fresh.read, basis, first, fresh.id)?;
-    let kept = over_tree(alloc, draft, fresh, basis, known, tree)?;
+    let made = tree_of(alloc, ident, draft, fresh.read, basis, first, fresh.id)?;
+    let kept = over_tree(alloc, draft, fresh, basis, known, made)?;
     if kept {
         return Ok(());
     }

@@ -6,6 +6,7 @@ ghost use Rattle.mtn_history_laws.specs.History.{Revision as Made};
 ghost use Rattle.mtn_replay.specs.Making.{made_tree, new_contents};
 ghost use Rattle.mtn_make_roster.specs.Basis.{Underlies, made_refusal};
 ghost use Rattle.mtn_manifest.specs.Manifest.{manifest_of};
+ghost use Rattle.mtn_roster.specs.Walk.{AreStops};
 ghost use Rattle.mtn_model.specs.State.{State};
 ghost use Rattle.mtn_ports.specs.Causes.{Rose};
 ghost use Rattle.mtn_ports.specs.Kept.{Stays, with_all};
@@ -20,22 +21,28 @@ use mtn_ancestry::Pos;
 use mtn_base::{Cause, Id, NoMemory};
 use mtn_changes::Revision;
 use mtn_history::{Draft, HistoryError, StoreError};
-use mtn_make_roster::{Basis, MakeError, make};
-use mtn_manifest::write;
+use mtn_make_roster::{Basis, MakeError, WalkedTree, make};
+use mtn_manifest::write_along;
 use mtn_ports::{Ident, Keeper};
-use mtn_roster::Roster;
+use mtn_roster::{Roster, Stop};
 use std::alloc::Global;
 
 // The id of a tree's manifest.
-fn manifest_id<I: Ident>(alloc: Global, ident: &I, roster: &Roster) -> Result<Id, NoMemory>
+fn manifest_id<I: Ident>(
+    alloc: Global,
+    ident: &I,
+    roster: &Roster,
+    stops: &[Stop],
+) -> Result<Id, NoMemory>
+    requires { AreStops roster.now stops.now }
     ensures { IfOk result (λ id. id.0 ≡ I.meaning ident.now (spelling (manifest_of roster.now))) }
 {
     let mut text = Vec::new(alloc);
-    write(roster, &mut text)?;
+    write_along(roster, stops, &mut text)?;
     Ok(ident.id(&text))
 }
 
-/// The tree that a text's edges make over the basis, or the first refusal that is not the parents': of a change, of joining,
+/// The tree that a text's edges make over the basis, with its walk, or the first refusal that is not the parents': of a change, of joining,
 /// of too much, of a content, of the manifest's id.
 pub fn tree_of<I: Ident, K: Keeper>(
     alloc: Global,
@@ -45,7 +52,7 @@ pub fn tree_of<I: Ident, K: Keeper>(
     basis: &Basis,
     parent: Option<Pos>,
     new: Id,
-) -> Result<Roster, HistoryError>
+) -> Result<WalkedTree, HistoryError>
     requires edges { AreEdges read.now.edges }
     requires parent { IfSome parent (λ p. p < draft.old.pending.count) }
     requires root { parent ≡ None → Underlies [] read.now.edges basis.now new }
@@ -54,9 +61,10 @@ pub fn tree_of<I: Ident, K: Keeper>(
     ensures same_reference { draft.new.keeper.ghost_name ≡ draft.old.keeper.ghost_name }
     ensures stays { Stays K.contents K.leaves K.faults draft.old.keeper.now draft.new.keeper.now }
     ensures pending { draft.new.pending ≡ draft.old.pending }
+    ensures walk { IfOk result (λ made. AreStops made.tree made.stops.items) }
     ensures tree { (f : List ℕ → List ℕ) (s : State) → (d : IsFounded f (K.contents draft.new.keeper.now) draft.old.pending s) →
-        IfOk result (λ roster. roster ≡ made_tree d.stands.history new read.now.edges) }
-    ensures made { IfOk result (λ roster. (h : List Made) → Underlies h read.now.edges basis.now new → (roster ≡ made_tree h new read.now.edges) × (made_refusal h new read.now.edges ≡ None)) }
+        IfOk result (λ made. made.tree ≡ made_tree d.stands.history new read.now.edges) }
+    ensures made { IfOk result (λ made. (h : List Made) → Underlies h read.now.edges basis.now new → (made.tree ≡ made_tree h new read.now.edges) × (made_refusal h new read.now.edges ≡ None)) }
     ensures fine { (s : State) → (d : IsFounded (I.meaning ident.now) (K.contents draft.new.keeper.now) draft.old.pending s) →
         OnOk result (made_refusal_of (I.meaning ident.now) s.files d.stands.history new read.now ≡ None) }
     ensures refused { (s : State) → (d : IsFounded (I.meaning ident.now) (K.contents draft.new.keeper.now) draft.old.pending s) →
@@ -70,8 +78,8 @@ pub fn tree_of<I: Ident, K: Keeper>(
     ensures failed { result ≡ Err (HistoryError.Store StoreError.Failed) → Rose (K.faults draft.old.keeper.now) (K.faults draft.new.keeper.now) }
 {
     let edges = read.edges.as_slice();
-    let roster = match make(alloc, edges, basis, new) {
-        Ok(roster) => roster,
+    let made = match make(alloc, edges, basis, new) {
+        Ok(made) => made,
         Err(MakeError::Refused(cause)) => return Err(HistoryError::Refused(cause)),
         Err(MakeError::Damaged) => return Err(HistoryError::Store(unfit(draft, parent))),
         Err(MakeError::NoMemory) => return Err(HistoryError::Store(StoreError::NoMemory)),
@@ -79,9 +87,9 @@ pub fn tree_of<I: Ident, K: Keeper>(
     if let Some(id) = unknown_content(draft, edges)? {
         return Err(HistoryError::Refused(Cause::UnknownFile { id }));
     }
-    let computed = manifest_id(alloc, ident, &roster)?;
+    let computed = manifest_id(alloc, ident, &made.tree, &made.stops)?;
     if computed != read.manifest {
         return Err(HistoryError::Refused(Cause::ManifestDiffers { computed }));
     }
-    Ok(roster)
+    Ok(made)
 }

@@ -4,6 +4,7 @@ ghost use Rattle.mtn_base.specs.Names.{name_cmp};
 ghost use Rattle.mtn_base.specs.declared.name.NodeName.{NodeName};
 ghost use Rattle.mtn_marking.specs.declared.node.NodeMarks.{NodeMarks};
 ghost use Rattle.mtn_base.specs.Lists.{rises};
+ghost use Rattle.mtn_roster.specs.Walk.{AreStops};
 ghost use Rattle.mtn_roster.specs.declared.entry.Entry.{Entry};
 ghost use Rattle.mtn_roster_deltas.specs.Chain.{Entries};
 ghost use Rattle.mtn_roster_deltas.specs.Numbering.{all_of, fresh, shown, AreKnown};
@@ -12,6 +13,7 @@ ghost use Rattle.mtn_roster_deltas.specs.Noting.{AreFilled, AreNoted, AreOne, Ha
 use mtn_base::NoMemory;
 use mtn_marking::{MarkMap, MarkedRoster};
 use mtn_records::{Numbered, NumberedEntry};
+use mtn_roster::Stop;
 use std::alloc::Global;
 
 /// So many zeros.
@@ -81,9 +83,11 @@ fn fill_one(numbers: &mut [u64], place: usize, next: u64) -> u64
 pub fn numbers_of(
     alloc: Global,
     roster: &MarkedRoster,
+    stops: &[Stop],
     known: &[&Numbered],
     next: u64,
 ) -> Result<(Vec<u64>, u64), NoMemory>
+    requires walk { AreStops roster.now.tree stops.now }
     requires room { next + length roster.now.tree < 2 ^ 63 }
     ensures long { IfOk result (λ r. length r.0.items ≡ length roster.now.tree) }
     ensures numbers { AreKnown (shown known.now) next → IfOk result (λ r. HaveNumbers (shown known.now) next roster.now.tree r.0.items) }
@@ -92,9 +96,8 @@ pub fn numbers_of(
     let mut numbers = known_numbers(alloc, roster.marks(), known)?;
     let tree = roster.roster();
     let _sane = tree.len();
-    let stops = tree.stops(alloc)?;
     let mut free = next;
-    for stop in &stops {
+    for stop in stops {
         free = fill_one(&mut numbers, stop.place, free);
     }
     Ok((numbers, free))

@@ -2,6 +2,7 @@
 ghost use Rattle.std.specs.Prelude.{◌≡◌, ◌<◌, ◌+◌, ◌^◌, ℕ, map, not, is_some, length, slice_get, slice_index, Some, Err, IfOk};
 ghost use Rattle.mtn_marking.specs.Marking.{IsFor};
 ghost use Rattle.mtn_roster.specs.Tree.{is_dir_body};
+ghost use Rattle.mtn_roster.specs.Walk.{AreStops};
 ghost use Rattle.mtn_roster.specs.declared.entry.Attr.{Attr};
 ghost use Rattle.mtn_roster.specs.declared.entry.Entry.{Entry};
 ghost use Rattle.mtn_marking.specs.declared.node.AttrMarks.{AttrMarks};
@@ -16,7 +17,7 @@ use mtn_ancestry::PosSet;
 use mtn_base::{Bytes, List, NoMemory, NodeName};
 use mtn_marking::{AttrMarks, MarkedRoster, NodeMarks};
 use mtn_records::{Numbered, NumberedAttr, NumberedBody, NumberedEntry, copy_value};
-use mtn_roster::{Attr, Body, Entry, Slot};
+use mtn_roster::{Attr, Body, Entry, Slot, Stop};
 use std::alloc::Global;
 
 /// The number of a node of the tree.
@@ -142,22 +143,24 @@ fn numbered_entries(
     Ok(entries)
 }
 
-/// The entries of a marked tree, by ascending numbers: known nodes keep their numbers, and new ones get `next`, `next + 1`
+/// The entries of a marked tree, whose walk the caller has, by ascending numbers: known nodes keep their numbers, and new ones get `next`, `next + 1`
 /// and so on, as the walk meets them; and the least number that is free then. Where two nodes would get one number, or one
 /// would get 0, it is a Clash. There is none where the known numbers are from 1 and below `next`, one for each node.
 pub fn number(
     alloc: Global,
     roster: &MarkedRoster,
+    stops: &[Stop],
     known: &[&Numbered],
     next: u64,
 ) -> Result<(Numbered, u64), NumberError>
+    requires walk { AreStops roster.now.tree stops.now }
     requires room { next + length roster.now.tree < 2 ^ 63 }
     ensures spells { IfOk result (λ r. Spells r.0 roster.now) }
     ensures numbers { AreKnown (shown known.now) next → IfOk result (λ r. IsNumbering (shown known.now) next roster.now r.0) }
     ensures next { AreKnown (shown known.now) next → IfOk result (λ r. r.1 ≡ next + length (fresh (shown known.now) roster.now.tree)) }
     ensures clash { result ≡ Err NumberError.Clash → AreKnown (shown known.now) next → ⊥ }
 {
-    let (numbers, free) = numbers_of(alloc, roster, known, next)?;
+    let (numbers, free) = numbers_of(alloc, roster, stops, known, next)?;
     let _sane = roster.roster().len();
     let mut entries = numbered_entries(alloc, roster, &numbers)?;
     entries.sort_by(|first, second| first.number.cmp(&second.number))?;

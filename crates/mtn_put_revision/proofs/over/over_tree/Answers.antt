@@ -14,7 +14,7 @@ pub keep-requires-clause-parents : goal.keep-requires-clause-parents
 keep-requires-clause-parents g c = λ f s d. (c.requires.based f s d).1.kept
 
 pub returns-then-len-clause-none : goal.returns-then-len-clause-none
-returns-then-len-clause-none g c = λ same asc h spell under fine is count. too_many_made h c.args.fresh.now.read.now.edges c.args.fresh.now.id c.args.tree fine is (omega (arith, c.if-len.true, c.len.ensures.count))
+returns-then-len-clause-none g c = λ same asc h spell under fine is count. too_many_made h c.args.fresh.now.read.now.edges c.args.fresh.now.id c.args.made.tree fine is (omega (arith, c.if-len.true, c.len.ensures.count))
 
 pub returns-clause-none : goal.returns-clause-none
 returns-clause-none g c = λ same asc h spell under fine is count.

@@ -33,24 +33,24 @@ pub returns-then-ne-clause-refused : goal.returns-then-ne-clause-refused
 returns-then-ne-clause-refused g c = λ s d.
     let f = g.I.Ident.meaning c.args.ident.now in
     let u = c.requires.based f s (back f (g.K.Keeper.contents c.args.draft.now.keeper.now) (g.K.Keeper.contents c.unknown_content.new.draft.keeper.now) c.args.draft.now.pending s c.unknown_content.ensures.stays.same d) in
-    made_differs f s.files d.stands.history c.args.new c.args.read.now c.in-Ok.roster c.in_ok-computed.computed ((subst (λ (es : List Edge). (h : List Revision) → Underlies h es c.args.basis.now c.args.new → made_refusal h c.args.new es ≡ None) c.as_slice-edges.ensures c.in-Ok.ensures.fine) d.stands.history u) (sym c.in_default.is ∙ subst (λ (es : List Edge). c.in_ok-id.field-0 ≡ find (λ (i : Id). is_none (get s.files i.0)) (new_contents es)) c.as_slice-edges.ensures (c.in_ok-id.ensures.found f s d))
-    ((subst (λ (es : List Edge). (h : List Revision) → Underlies h es c.args.basis.now c.args.new → c.in-Ok.roster ≡ made_tree h c.args.new es) c.as_slice-edges.ensures c.in-Ok.ensures.tree) d.stands.history u) c.in_ok-computed.ensures (not_same c.in_ok-computed.computed c.args.read.now.manifest c.ne.result true c.ne.ensures c.if-ne.true)
+    made_differs f s.files d.stands.history c.args.new c.args.read.now c.in-Ok.made.tree c.in_ok-computed.computed ((subst (λ (es : List Edge). (h : List Revision) → Underlies h es c.args.basis.now c.args.new → made_refusal h c.args.new es ≡ None) c.as_slice-edges.ensures c.in-Ok.ensures.fine) d.stands.history u) (sym c.in_default.is ∙ subst (λ (es : List Edge). c.in_ok-id.field-0 ≡ find (λ (i : Id). is_none (get s.files i.0)) (new_contents es)) c.as_slice-edges.ensures (c.in_ok-id.ensures.found f s d))
+    ((subst (λ (es : List Edge). (h : List Revision) → Underlies h es c.args.basis.now c.args.new → c.in-Ok.made.tree ≡ made_tree h c.args.new es) c.as_slice-edges.ensures c.in-Ok.ensures.tree) d.stands.history u) c.in_ok-computed.ensures (not_same c.in_ok-computed.computed c.args.read.now.manifest c.ne.result true c.ne.ensures c.if-ne.true)
 
 pub returns-clause-tree : goal.returns-clause-tree
 returns-clause-tree g c = λ f s d.
     let u = c.requires.based f s (back f (g.K.Keeper.contents c.args.draft.now.keeper.now) (g.K.Keeper.contents c.unknown_content.new.draft.keeper.now) c.args.draft.now.pending s c.unknown_content.ensures.stays.same d) in
-    (subst (λ (es : List Edge). (h : List Revision) → Underlies h es c.args.basis.now c.args.new → c.in-Ok.roster ≡ made_tree h c.args.new es) c.as_slice-edges.ensures c.in-Ok.ensures.tree) d.stands.history u
+    (subst (λ (es : List Edge). (h : List Revision) → Underlies h es c.args.basis.now c.args.new → c.in-Ok.made.tree ≡ made_tree h c.args.new es) c.as_slice-edges.ensures c.in-Ok.ensures.tree) d.stands.history u
 
 pub returns-clause-fine : goal.returns-clause-fine
 returns-clause-fine g c = λ s d.
     let f = g.I.Ident.meaning c.args.ident.now in
     let u = c.requires.based f s (back f (g.K.Keeper.contents c.args.draft.now.keeper.now) (g.K.Keeper.contents c.unknown_content.new.draft.keeper.now) c.args.draft.now.pending s c.unknown_content.ensures.stays.same d) in
-    made_fine f s.files d.stands.history c.args.new c.args.read.now c.in-Ok.roster c.in_ok-computed.computed ((subst (λ (es : List Edge). (h : List Revision) → Underlies h es c.args.basis.now c.args.new → made_refusal h c.args.new es ≡ None) c.as_slice-edges.ensures c.in-Ok.ensures.fine) d.stands.history u) (sym c.in_default.is ∙ subst (λ (es : List Edge). c.in_ok-id.field-0 ≡ find (λ (i : Id). is_none (get s.files i.0)) (new_contents es)) c.as_slice-edges.ensures (c.in_ok-id.ensures.found f s d))
-    ((subst (λ (es : List Edge). (h : List Revision) → Underlies h es c.args.basis.now c.args.new → c.in-Ok.roster ≡ made_tree h c.args.new es) c.as_slice-edges.ensures c.in-Ok.ensures.tree) d.stands.history u) c.in_ok-computed.ensures (not_same c.in_ok-computed.computed c.args.read.now.manifest c.ne.result false c.ne.ensures c.if-ne.false)
+    made_fine f s.files d.stands.history c.args.new c.args.read.now c.in-Ok.made.tree c.in_ok-computed.computed ((subst (λ (es : List Edge). (h : List Revision) → Underlies h es c.args.basis.now c.args.new → made_refusal h c.args.new es ≡ None) c.as_slice-edges.ensures c.in-Ok.ensures.fine) d.stands.history u) (sym c.in_default.is ∙ subst (λ (es : List Edge). c.in_ok-id.field-0 ≡ find (λ (i : Id). is_none (get s.files i.0)) (new_contents es)) c.as_slice-edges.ensures (c.in_ok-id.ensures.found f s d))
+    ((subst (λ (es : List Edge). (h : List Revision) → Underlies h es c.args.basis.now c.args.new → c.in-Ok.made.tree ≡ made_tree h c.args.new es) c.as_slice-edges.ensures c.in-Ok.ensures.tree) d.stands.history u) c.in_ok-computed.ensures (not_same c.in_ok-computed.computed c.args.read.now.manifest c.ne.result false c.ne.ensures c.if-ne.false)
 
 pub returns-clause-made : goal.returns-clause-made
 returns-clause-made g c = λ h under. (
-  (subst (λ (es : List Edge). (h : List Revision) → Underlies h es c.args.basis.now c.args.new → c.in-Ok.roster ≡ made_tree h c.args.new es) c.as_slice-edges.ensures c.in-Ok.ensures.tree) h under,
+  (subst (λ (es : List Edge). (h : List Revision) → Underlies h es c.args.basis.now c.args.new → c.in-Ok.made.tree ≡ made_tree h c.args.new es) c.as_slice-edges.ensures c.in-Ok.ensures.tree) h under,
   (subst (λ (es : List Edge). (h : List Revision) → Underlies h es c.args.basis.now c.args.new → made_refusal h c.args.new es ≡ None) c.as_slice-edges.ensures c.in-Ok.ensures.fine) h under,
 )
 

@@ -3,8 +3,8 @@ use Rattle.std.proofs.Common.{◌∙◌, ◌+◌, length, take, List, ℕ, sym, 
 use Rattle.std.specs.Prelude.{option_map}
 use Rattle.mtn_base.specs.declared.name.NodeName.{NodeName}
 use Rattle.mtn_roster.specs.declared.entry.Entry.{Entry}
-use Rattle.mtn_roster.specs.Tree.{Tree, IsSane}
-use Rattle.mtn_roster.specs.Walk.{by_path, AreStops}
+use Rattle.mtn_roster.specs.Tree.{IsSane}
+use Rattle.mtn_roster.specs.Walk.{by_path}
 use Rattle.mtn_marking.proofs.Fitting.{for_long}
 use Rattle.mtn_marking.proofs.Zips.{got_at}
 use Rattle.mtn_roster_deltas.specs.Numbering.{all_of, shown}
@@ -26,15 +26,13 @@ loop-stop-init c = (
 pub fill_one-free-requires-clause-within : goal.fill_one-free-requires-clause-within
 fill_one-free-requires-clause-within c =
     let t = c.args.roster.now.tree in
-    let are = subst (λ (u : Tree). AreStops u c.deref-stop-items.result.now) c.roster-tree.ensures.tree (subst (AreStops c.roster-tree.result.now) (sym c.deref-stop-items.ensures.value) c.in_ok-stops.ensures) in
-    let s = stop_is t c.deref-stop-items.result.now are c.loop-stop.stop-index (record { place = 0; above = 0 }) c.loop-stop-test.true in
+    let s = stop_is t c.args.stops.now c.requires.walk c.loop-stop.stop-index (record { place = 0; above = 0 }) c.loop-stop-test.true in
     omega (arith, (got_at t _ s.0 s.2).0, ap length c.deref_mut.ensures.value, c.loop-stop.invariant.0)
 
 pub fill_one-free-requires-clause-room : goal.fill_one-free-requires-clause-room
 fill_one-free-requires-clause-room c =
     let t = c.args.roster.now.tree in
-    let are = subst (λ (u : Tree). AreStops u c.deref-stop-items.result.now) c.roster-tree.ensures.tree (subst (AreStops c.roster-tree.result.now) (sym c.deref-stop-items.ensures.value) c.in_ok-stops.ensures) in
-    omega (arith, c.loop-stop.invariant.1, stops_long t c.deref-stop-items.result.now are, c.loop-stop-test.true, walk_long t, c.requires.room)
+    omega (arith, c.loop-stop.invariant.1, stops_long t c.args.stops.now c.requires.walk, c.loop-stop-test.true, walk_long t, c.requires.room)
 
 pub loop-stop-preserved : goal.loop-stop-preserved
 loop-stop-preserved c =
@@ -42,8 +40,7 @@ loop-stop-preserved c =
     let es = all_of (shown c.args.known.now) in
     let i = c.loop-stop.stop-index in
     let w = by_path t in
-    let are = subst (λ (u : Tree). AreStops u c.deref-stop-items.result.now) c.roster-tree.ensures.tree (subst (AreStops c.roster-tree.result.now) (sym c.deref-stop-items.ensures.value) c.in_ok-stops.ensures) in
-    let s = stop_is t c.deref-stop-items.result.now are i (record { place = 0; above = 0 }) c.loop-stop-test.true in
+    let s = stop_is t c.args.stops.now c.requires.walk i (record { place = 0; above = 0 }) c.loop-stop-test.true in
     let sane = subst IsSane c.roster-tree.ensures.tree c.len-sane.ensures.sane in
     let back = back_is c.fill_one-free.new.numbers c.loop-stop.numbers.items c.loop-stop.numbers.len (c.fill_one-free.auto.numbers ∙ c.deref_mut.ensures.len) in (
       ap length back ∙ c.fill_one-free.auto.numbers ∙ ap length c.deref_mut.ensures.value ∙ c.loop-stop.invariant.0,
@@ -58,14 +55,12 @@ loop-stop-preserved c =
 pub returns-clause-numbers : goal.returns-clause-numbers
 returns-clause-numbers c = λ known.
     let t = c.args.roster.now.tree in
-    let are = subst (λ (u : Tree). AreStops u c.deref-stop-items.result.now) c.roster-tree.ensures.tree (subst (AreStops c.roster-tree.result.now) (sym c.deref-stop-items.ensures.value) c.in_ok-stops.ensures) in
     let sane = subst IsSane c.roster-tree.ensures.tree c.len-sane.ensures.sane in
     all_filled (shown c.args.known.now) c.args.next t c.loop-stop.numbers.items c.loop-stop.free c.loop-stop.stop-index sane
-    (omega (arith, stops_long t c.deref-stop-items.result.now are, c.loop-stop-test.false)) c.loop-stop.invariant.0 (c.loop-stop.invariant.2 known)
+    (omega (arith, stops_long t c.args.stops.now c.requires.walk, c.loop-stop-test.false)) c.loop-stop.invariant.0 (c.loop-stop.invariant.2 known)
 
 pub returns-clause-next : goal.returns-clause-next
 returns-clause-next c = λ known.
     let t = c.args.roster.now.tree in
-    let are = subst (λ (u : Tree). AreStops u c.deref-stop-items.result.now) c.roster-tree.ensures.tree (subst (AreStops c.roster-tree.result.now) (sym c.deref-stop-items.ensures.value) c.in_ok-stops.ensures) in
     all_met (shown c.args.known.now) c.args.next t c.loop-stop.numbers.items c.loop-stop.free c.loop-stop.stop-index
-    (omega (arith, stops_long t c.deref-stop-items.result.now are, c.loop-stop-test.false)) (c.loop-stop.invariant.2 known)
+    (omega (arith, stops_long t c.args.stops.now c.requires.walk, c.loop-stop-test.false)) (c.loop-stop.invariant.2 known)
