@@ -151,6 +151,16 @@ pub fn keep_revision<K: Keeper>(
     draft.keep_revision(id, text, log, roster, rebuilt)
 }
 
+/// As `Draft::remember_log`.
+pub fn remember_log<K: Keeper>(draft: &mut Draft<'_, K>, at: Pos, log: &LogRecord)
+    requires below { at < draft.old.pending.count }
+    requires right { IfSome (K.contents draft.old.keeper.now) (λ c. IsLogged (with_all c draft.old.pending.batch) at log.now) }
+    ensures keeper { draft.new.keeper ≡ draft.old.keeper }
+    ensures pending { draft.new.pending ≡ draft.old.pending }
+{
+    draft.remember_log(at, log);
+}
+
 /// As `Draft::nothing_pending`.
 pub fn nothing_pending<K: Keeper>(draft: &Draft<'_, K>) -> Pending
     requires bare { draft.now.pending.batch ≡ [] }

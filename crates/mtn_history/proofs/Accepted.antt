@@ -1,4 +1,4 @@
--- The roster of a new revision is what its record gives.
+-- The roster of a new revision is what its record gives, and so is its record of the log.
 use Rattle.std.proofs.Common.{◌≡◌, ◌<◌, ◌+◌, ◌^◌, ℕ, List, Some, refl, ap, ◌∙◌, arith}
 use Rattle.mtn_roster_deltas.specs.Chain.{Entries}
 use Rattle.mtn_roster_deltas.specs.Difference.{IsDifference}
@@ -7,15 +7,26 @@ use Rattle.mtn_marking.specs.Marking.{MarkedTree}
 use Rattle.mtn_model.specs.State.{Logged}
 use Rattle.mtn_model.specs.Table.{Contents, body_at}
 use Rattle.mtn_ports.specs.Kept.{with_all}
-use Rattle.mtn_records.specs.Bounds.{IsRosterAt}
+use Rattle.mtn_records.specs.Bounds.{IsLogAt, IsRosterAt}
 use Rattle.mtn_records.specs.Fields.{number_text}
+use Rattle.mtn_records.specs.declared.record.LogRecord.{LogRecord}
 use Rattle.mtn_records.specs.declared.record.RosterRecord.TheVariants.{Whole, Delta}
+use Rattle.mtn_history.specs.Logs.{IsLogged}
 use Rattle.mtn_history.specs.Records.{meta_puts, with_revision}
 use Rattle.mtn_history.specs.Rosters.{IsRebuilt}
 use Rattle.mtn_history.specs.declared.pending.Pending.{Pending}
 use Rattle.mtn_history.proofs.Extending.{get_itself}
 use Rattle.mtn_history.proofs.Knowing.{chain_kept, grown_is, same_rosters}
 use Rattle.mtn_history.proofs.RosterLemmas.{Chained, whole_chained, delta_chained}
+
+-- the record of the log
+pub logged_accepted : (c : Contents) (p : Pending) (l : Logged) (log roster : List ℕ) (entry : LogRecord) → IsLogAt p.count log entry → IsLogged (with_all c (with_revision p l log roster).batch) p.count entry
+logged_accepted c p l log roster entry text = record {
+  body = log;
+  held = ap (λ (d : Contents). body_at d 4 (number_text p.count)) (grown_is c p l log roster)
+      ∙ get_itself (with_all (with_all c p.batch) (meta_puts p.is_new p.count) 4) (number_text p.count) log;
+  text = text;
+}
 
 module _ (c : Contents) (p : Pending) (l : Logged) (log roster : List ℕ) (room : p.count < 2 ^ 63) (es : Entries) (t : MarkedTree) (spells : Spells es t) where
   abbrev pub grown : Contents

@@ -254,8 +254,8 @@ impl<'a, K: Keeper> Draft<'a, K> {
         self.cache.log(at)
     }
 
-    /// Remembers a record of the log.
-    pub(crate) fn remember_log(&mut self, at: Pos, log: &LogRecord)
+    /// Remembers the log's record at a position, for `log_at`: one that was read, or that of a revision which was just put.
+    pub fn remember_log(&mut self, at: Pos, log: &LogRecord)
         requires below { at < self.old.pending.count }
         requires right { IfSome (K.contents self.old.keeper.now) (λ c. IsLogged (with_all c self.old.pending.batch) at log.now) }
         ensures keeper { self.new.keeper ≡ self.old.keeper }

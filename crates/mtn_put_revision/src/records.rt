@@ -7,14 +7,14 @@ ghost use Rattle.mtn_roster_deltas.specs.Numbering.{shown};
 ghost use Rattle.mtn_model.specs.State.{State};
 ghost use Rattle.mtn_ports.specs.Causes.{Rose};
 ghost use Rattle.mtn_ports.specs.Kept.{Stays, with_all};
-ghost use Rattle.mtn_records.specs.Bounds.{IsRosterAt, IsWithin};
+ghost use Rattle.mtn_records.specs.Bounds.{IsLogAt, IsRosterAt, IsWithin};
 ghost use Rattle.mtn_records.specs.Records.{IsRosterRecord};
 ghost use Rattle.mtn_records.specs.declared.record.RosterRecord.TheVariants.{Whole};
 ghost use Rattle.mtn_history.specs.Errors.{IfDamage};
 ghost use Rattle.mtn_history.specs.Revisions.{next_of};
 ghost use Rattle.mtn_history.specs.Stands.{IsFounded};
 ghost use Rattle.mtn_put_revision.specs.Finding.{IsFound};
-ghost use Rattle.mtn_put_revision.specs.Keeping.{IsDeltaBody, IsLogBodyOf, IsWhole, IsWrittenOn};
+ghost use Rattle.mtn_put_revision.specs.Keeping.{IsDeltaBody, IsWhole, IsWrittenOn};
 ghost use Rattle.mtn_put_revision.specs.Writing.{AllAscend, IsTyped, NoneHas};
 
 use crate::typed::typed_record;
@@ -35,7 +35,7 @@ pub struct KeptParents<'a> {
     pub depth: u8,
 }
 
-/// The least number that no node has yet, by the last record of the log.
+/// The least number that no node has yet, by the last record of the log, which the draft remembers where it put it.
 pub fn next_number<K: Keeper>(draft: &mut Draft<'_, K>) -> Result<u64, StoreError>
     ensures same_reference { draft.new.keeper.ghost_name ≡ draft.old.keeper.ghost_name }
     ensures stays { Stays K.contents K.leaves K.faults draft.old.keeper.now draft.new.keeper.now }
@@ -54,7 +54,7 @@ pub fn next_number<K: Keeper>(draft: &mut Draft<'_, K>) -> Result<u64, StoreErro
         return Ok(1);
     }
     let at = Pos(count - 1);
-    let log = draft.logged(at)?;
+    let log = draft.log_at(at)?;
     if log.next_node > LAST_NUMBER {
         return Err(draft.log_held(at));
     }
@@ -169,25 +169,27 @@ fn parent_list(places: &[Pos]) -> ParentList
     }
 }
 
-/// The body of a record of the log under its position.
-pub fn log_body(
-    alloc: Global,
-    id: Id,
-    next_node: u64,
-    places: &[Pos],
-    at: Pos,
-) -> Result<Bytes, NoMemory>
-    requires few { length places.now ≤ 2 }
-    requires below { All (λ p. p < at) places.now }
-    ensures { IfOk result (λ body. IsLogBodyOf id next_node places.now at body) }
+/// The record of the log of a revision with these parents.
+pub fn log_record(id: Id, next_node: u64, places: &[Pos]) -> LogRecord
+    requires { length places.now ≤ 2 }
+    ensures id { result.id ≡ id }
+    ensures next { result.next_node ≡ next_node }
+    ensures parents { list_of result.parents ≡ places.now }
 {
-    let log = LogRecord {
+    LogRecord {
         id,
         next_node,
         parents: parent_list(places),
-    };
-    let _twenty = id.as_slice();
+    }
+}
+
+/// The body of a record of the log under its position.
+pub fn log_body(alloc: Global, log: &LogRecord, at: Pos) -> Result<Bytes, NoMemory>
+    requires { All (λ p. p < at) (list_of log.now.parents) }
+    ensures { IfOk result (λ body. IsLogAt at body log.now) }
+{
+    let _twenty = log.id.as_slice();
     let mut body = Vec::new(alloc);
-    write_log(&log, &mut body)?;
+    write_log(log, &mut body)?;
     Ok(Items::from_vec(body))
 }

@@ -1,11 +1,15 @@
 -- The records are those of the state with the text.
 use Rattle.std.proofs.Common.{◌<◌, List, ℕ, true, Option, Ok, refl, sym, ap, ◌∙◌, subst, ◌≤◌, ◌+◌}
 use Rattle.std.specs.Prelude.{All, IfSome, IsTrue}
+use Rattle.mtn_ancestry.specs.Log.{list_of}
+use Rattle.mtn_base.specs.declared.id.Id.{Id}
 use Rattle.mtn_changes.specs.declared.change.Edge.{Edge}
 use Rattle.mtn_roster_deltas.specs.Numbering.{shown, AreKnown}
 use Rattle.mtn_replay.specs.Lawful.{IsNext}
 use Rattle.mtn_replay.specs.Making.{made}
 use Rattle.mtn_model.specs.State.{State}
+use Rattle.mtn_records.specs.Bounds.{IsLogAt}
+use Rattle.mtn_records.specs.declared.record.LogRecord.{LogRecord}
 use Rattle.mtn_ports.specs.Kept.{with_all}
 use Rattle.mtn_ports.proofs.KeptLemmas.{stays_trans}
 use Rattle.mtn_history.specs.Errors.{IfDamage}
@@ -22,6 +26,12 @@ use Rattle.mtn_put_revision.proofs.Grounds.{moved}
 use Rattle.mtn_put_revision.proofs.Numbers.{parents_known}
 use Rattle.mtn_put_revision.proofs.Putting.{kept_draft, new_rebuilt}
 use Rattle.mtn_put_revision.proofs.keep.keep.Goals as goal
+
+-- the body of a record is that of its parts
+body_of : (entry : LogRecord) (id : Id) (next : ℕ) (places : List ℕ) (at : ℕ) (body : List ℕ) → entry.id ≡ id → entry.next_node ≡ next → list_of entry.parents ≡ places → IsLogAt at body entry → IsLogBodyOf id next places at body
+body_of entry id next places at body is free same text =
+    let whole : entry ≡ record { id = id; next_node = next; parents = entry.parents } = λ i. record { id = is i; next_node = free i; parents = entry.parents } in
+    record { parents = entry.parents; same = same; text = subst (IsLogAt at body) whole text }
 
 pub returns-in-Err-Clash-clause-stays : goal.returns-in-Err-Clash-clause-stays
 returns-in-Err-Clash-clause-stays g c = stays_trans g.K.Keeper.contents g.K.Keeper.leaves g.K.Keeper.faults _ _ _ c.in_ok-next.ensures.stays c.unfit.ensures.stays
@@ -65,7 +75,7 @@ returns-clause-kept g c =
     kept_draft f told p s d c.args.id c.args.text.now edges c.args.roster known.places.now (shown known.entries.now) known.depth c.in_ok-next.next c.in-Ok.numbers.1 w.depth c.in-Ok.numbers.0 w.body c.in_ok-log.log c.keep_revision.new.self.pending
     c.requires.room (c.in_ok-next.ensures.next f s d) c.in-Ok.ensures.numbers c.in-Ok.ensures.next
     (subst (λ n. IsRecordOn known.places.now (shown known.entries.now) known.depth c.in-Ok.numbers.0 n w.body w.depth) c.count.ensures said.0)
-    (subst (λ n. IsLogBodyOf c.args.id c.in-Ok.numbers.1 known.places.now n c.in_ok-log.log) c.count.ensures c.in_ok-log.ensures)
+    (subst (λ n. IsLogBodyOf c.args.id c.in-Ok.numbers.1 known.places.now n c.in_ok-log.log) c.count.ensures (body_of c.log_record-entry.result c.args.id c.in-Ok.numbers.1 known.places.now c.count.result c.in_ok-log.log c.log_record-entry.ensures.id c.log_record-entry.ensures.next c.log_record-entry.ensures.parents c.in_ok-log.ensures))
     (c.in_ok-keep_revision.ensures.ok ∙ ap (λ (q : Pending). with_revision q (record { id = c.args.id.0; text = c.args.text.now }) c.in_ok-log.log w.body) c.in_ok-next.ensures.pending)
     made_is parents accepted)
 
