@@ -1,5 +1,6 @@
 -- The roster of a new revision is what its record gives, and so is its record of the log.
-use Rattle.std.proofs.Common.{◌≡◌, ◌<◌, ◌+◌, ◌^◌, ℕ, List, Some, refl, ap, ◌∙◌, arith}
+use Rattle.std.specs.Prelude.{IfSome}
+use Rattle.std.proofs.Common.{◌≡◌, ◌<◌, ◌+◌, ◌^◌, ℕ, List, Option, Some, None, refl, sym, ap, subst, ◌∙◌, arith}
 use Rattle.mtn_roster_deltas.specs.Chain.{Entries}
 use Rattle.mtn_roster_deltas.specs.Difference.{IsDifference}
 use Rattle.mtn_roster_deltas.specs.Spelled.{Spells}
@@ -20,13 +21,20 @@ use Rattle.mtn_history.proofs.Knowing.{chain_kept, grown_is, same_rosters}
 use Rattle.mtn_history.proofs.RosterLemmas.{Chained, whole_chained, delta_chained}
 
 -- the record of the log
-pub logged_accepted : (c : Contents) (p : Pending) (l : Logged) (log roster : List ℕ) (entry : LogRecord) → IsLogAt p.count log entry → IsLogged (with_all c (with_revision p l log roster).batch) p.count entry
+logged_accepted : (c : Contents) (p : Pending) (l : Logged) (log roster : List ℕ) (entry : LogRecord) → IsLogAt p.count log entry → IsLogged (with_all c (with_revision p l log roster).batch) p.count entry
 logged_accepted c p l log roster entry text = record {
   body = log;
   held = ap (λ (d : Contents). body_at d 4 (number_text p.count)) (grown_is c p l log roster)
       ∙ get_itself (with_all (with_all c p.batch) (meta_puts p.is_new p.count) 4) (number_text p.count) log;
   text = text;
 }
+
+pub logged_told : (told : Option Contents) (p after : Pending) (l : Logged) (log roster : List ℕ) (at : ℕ) (entry : LogRecord) → after ≡ with_revision p l log roster → at ≡ p.count → IsLogAt at log entry →
+    IfSome told (λ c. IsLogged (with_all c after.batch) at entry)
+logged_told None p after l log roster at entry is place text = tt
+logged_told (Some c) p after l log roster at entry is place text =
+    subst (λ (q : Pending). IsLogged (with_all c q.batch) at entry) (sym is)
+    (subst (λ n. IsLogged (with_all c (with_revision p l log roster).batch) n entry) (sym place) (logged_accepted c p l log roster entry (subst (λ n. IsLogAt n log entry) place text)))
 
 module _ (c : Contents) (p : Pending) (l : Logged) (log roster : List ℕ) (room : p.count < 2 ^ 63) (es : Entries) (t : MarkedTree) (spells : Spells es t) where
   abbrev pub grown : Contents

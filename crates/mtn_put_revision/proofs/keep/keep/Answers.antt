@@ -17,6 +17,7 @@ use Rattle.mtn_history.specs.Records.{with_revision}
 use Rattle.mtn_history.specs.Rosters.{IsRebuilt}
 use Rattle.mtn_history.specs.Stands.{IsDraft, IsFounded}
 use Rattle.mtn_history.specs.declared.pending.Pending.{Pending}
+use Rattle.mtn_history.proofs.Accepted.{logged_told}
 use Rattle.mtn_history.proofs.Founding.{back}
 use Rattle.mtn_history.proofs.Knowing.{told_back}
 use Rattle.mtn_put_revision.specs.Finding.{IsFound, IsUnfounded}
@@ -62,6 +63,21 @@ keep_revision-requires-clause-right g c =
     (subst (λ n. IsRecordOn known.places.now (shown known.entries.now) known.depth c.in-Ok.numbers.0 n w.body w.depth) c.count.ensures said.0)
     (told_back (g.K.Keeper.contents c.args.draft.now.keeper.now) mid (λ y. IsFirstRebuilt (with_all y p.batch) known.places.now (shown known.entries.now) known.depth) c.in_ok-next.ensures.stays.same c.requires.first)))
 
+pub log_body-requires : goal.log_body-requires
+log_body-requires g c =
+    subst (λ (ps : List ℕ). All (λ p. p < c.count.result) ps) (sym c.log_record-entry.ensures.parents) (subst (λ n. All (λ p. p < n) c.args.known.now.places.now) (sym c.count.ensures) c.requires.below)
+
+pub remember_log-requires-clause-below : goal.remember_log-requires-clause-below
+remember_log-requires-clause-below g c =
+    let n = ap (λ (x : Pending). x.count) c.in_ok-keep_revision.ensures.ok in
+    let m = ap (λ (x : Pending). x.count) c.in_ok-next.ensures.pending in
+    omega (arith, n, m, c.count.ensures)
+
+pub remember_log-requires-clause-right : goal.remember_log-requires-clause-right
+remember_log-requires-clause-right g c =
+    logged_told (g.K.Keeper.contents c.keep_revision.new.self.keeper.now) c.next_number.new.draft.pending c.keep_revision.new.self.pending (record { id = c.args.id.0; text = c.args.text.now }) c.in_ok-log.log c.in-Some.written.body
+    c.count.result c.log_record-entry.result c.in_ok-keep_revision.ensures.ok (c.count.ensures ∙ ap (λ (x : Pending). x.count) (sym c.in_ok-next.ensures.pending)) c.in_ok-log.ensures
+
 pub returns-clause-kept : goal.returns-clause-kept
 returns-clause-kept g c =
     let told = g.K.Keeper.contents c.next_number.new.draft.keeper.now in
@@ -71,12 +87,12 @@ returns-clause-kept g c =
     let said = subst (λ (o : Option Written). IfSome o (IsWrittenOn c.args.known.now.places.now (shown c.args.known.now.entries.now) c.args.known.now.depth c.in-Ok.numbers.0 c.count.result)) c.in-Some.is c.in_ok-written.ensures.record in
     subst (λ h. (f : List ℕ → List ℕ) (s : State) → (d : IsFounded f (g.K.Keeper.contents h.now) p s) → (edges : List Edge) → IsMade d.stands.history edges c.args.id c.args.roster →
     AreParents d.stands.history d.stands.kept edges known.places.now (shown known.entries.now) known.depth → IsNext f s.files d.stands.history (record { id = c.args.id.0; text = c.args.text.now }) (made d.stands.history c.args.id edges) →
-    IsTrue true → IsDraft f d.records c.keep_revision.new.self.pending (with_text s (record { id = c.args.id.0; text = c.args.text.now }))) (sym c.in_ok-keep_revision.ensures.keeper) (λ f s d edges made_is parents accepted kept.
-    kept_draft f told p s d c.args.id c.args.text.now edges c.args.roster known.places.now (shown known.entries.now) known.depth c.in_ok-next.next c.in-Ok.numbers.1 w.depth c.in-Ok.numbers.0 w.body c.in_ok-log.log c.keep_revision.new.self.pending
+    IsTrue true → IsDraft f d.records c.remember_log.new.self.pending (with_text s (record { id = c.args.id.0; text = c.args.text.now }))) (sym (c.remember_log.ensures.keeper ∙ c.in_ok-keep_revision.ensures.keeper)) (λ f s d edges made_is parents accepted kept.
+    kept_draft f told p s d c.args.id c.args.text.now edges c.args.roster known.places.now (shown known.entries.now) known.depth c.in_ok-next.next c.in-Ok.numbers.1 w.depth c.in-Ok.numbers.0 w.body c.in_ok-log.log c.remember_log.new.self.pending
     c.requires.room (c.in_ok-next.ensures.next f s d) c.in-Ok.ensures.numbers c.in-Ok.ensures.next
     (subst (λ n. IsRecordOn known.places.now (shown known.entries.now) known.depth c.in-Ok.numbers.0 n w.body w.depth) c.count.ensures said.0)
     (subst (λ n. IsLogBodyOf c.args.id c.in-Ok.numbers.1 known.places.now n c.in_ok-log.log) c.count.ensures (body_of c.log_record-entry.result c.args.id c.in-Ok.numbers.1 known.places.now c.count.result c.in_ok-log.log c.log_record-entry.ensures.id c.log_record-entry.ensures.next c.log_record-entry.ensures.parents c.in_ok-log.ensures))
-    (c.in_ok-keep_revision.ensures.ok ∙ ap (λ (q : Pending). with_revision q (record { id = c.args.id.0; text = c.args.text.now }) c.in_ok-log.log w.body) c.in_ok-next.ensures.pending)
+    (c.remember_log.ensures.pending ∙ c.in_ok-keep_revision.ensures.ok ∙ ap (λ (q : Pending). with_revision q (record { id = c.args.id.0; text = c.args.text.now }) c.in_ok-log.log w.body) c.in_ok-next.ensures.pending)
     made_is parents accepted)
 
 pub returns-in_default-clause-none : goal.returns-in_default-clause-none
@@ -100,4 +116,4 @@ returns-in_err-keep_revision-clause-reads g c =
 
 pub returns-clause-reads : goal.returns-clause-reads
 returns-clause-reads g c =
-    subst (λ h. (f : List ℕ → List ℕ) (s : State) → IsFounded f (g.K.Keeper.contents h.now) c.args.draft.now.pending s → g.K.Keeper.reads h.now ≤ g.K.Keeper.reads c.args.draft.now.keeper.now + 1) (sym c.in_ok-keep_revision.ensures.keeper) (λ f s d. c.in_ok-next.ensures.reads f s d)
+    subst (λ h. (f : List ℕ → List ℕ) (s : State) → IsFounded f (g.K.Keeper.contents h.now) c.args.draft.now.pending s → g.K.Keeper.reads h.now ≤ g.K.Keeper.reads c.args.draft.now.keeper.now + 1) (sym (c.remember_log.ensures.keeper ∙ c.in_ok-keep_revision.ensures.keeper)) (λ f s d. c.in_ok-next.ensures.reads f s d)
