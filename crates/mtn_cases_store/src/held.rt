@@ -21,7 +21,7 @@ impl Held {
     }
 
     /// Puts records.
-    pub fn apply(&mut self, batch: &Batch) -> Result<(), KeepError> {
+    pub fn apply(&mut self, batch: Batch) -> Result<(), KeepError> {
         match self {
             Held::Plain(keeper) => keeper.apply(batch),
             Held::Doubtful(keeper) => keeper.apply(batch),

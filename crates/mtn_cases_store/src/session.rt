@@ -132,7 +132,7 @@ impl Session {
         }
         let mut batch = Batch::new(alloc);
         batch.put(table, &key, &plain(alloc, body)?).ok()?;
-        self.held.apply(&batch).ok()
+        self.held.apply(batch).ok()
     }
 
     // Which calls of the sink fail, and its room.

@@ -3,6 +3,7 @@ use crate::fields::{fields, number, put_number};
 use mtn_base::Bytes;
 use mtn_ports::Batch;
 use std::alloc::Global;
+use std::mem;
 
 /// Puts a record whose key is not empty.
 pub fn put(batch: &mut Batch, table: &[u8], key: &[u8], body: &[u8]) -> Option<()> {
@@ -40,6 +41,17 @@ fn cut(batch: &mut Batch, text: &[u8]) -> Option<()> {
     Some(())
 }
 
+// Puts the records of the other batch, which has none then.
+fn append(alloc: Global, batch: &mut Batch, other: &mut Batch) -> Option<()> {
+    batch.append(mem::replace(other, Batch::new(alloc))).ok()
+}
+
+// A copy stands in the batch's place.
+fn copy(batch: &mut Batch) -> Option<()> {
+    *batch = batch.copy().ok()?;
+    Some(())
+}
+
 // The key at a place.
 fn at(batch: &Batch, text: &[u8], out: &mut Vec<u8>) -> Option<()> {
     match batch.at(number(text)? as usize) {
@@ -69,7 +81,8 @@ fn step(
             key.as_slice(),
             body.as_slice(),
         ),
-        (b"extend", []) => batch.extend(other).ok(),
+        (b"append", []) => append(alloc, batch, other),
+        (b"copy", []) => copy(batch),
         (b"cut", [len]) => cut(batch, len.as_slice()),
         (b"len", []) => put_number(alloc, batch.len() as u64, out).ok(),
         (b"at", [place]) => at(batch, place.as_slice(), out),
@@ -79,8 +92,9 @@ fn step(
     }
 }
 
-/// `batch STEP..`, with colons between the words of a step: `put:TABLE:KEY:BODY`, `also:..` into another batch, `extend` with
-/// that one, `cut:LEN`, `len`, `at:PLACE`, `find:TABLE:KEY`, `least:TABLE:AFTER`. A blank stands behind each answer.
+/// `batch STEP..`, with colons between the words of a step: `put:TABLE:KEY:BODY`, `also:..` into another batch, `append` of
+/// that one, which has no records then, `copy`, where a copy goes on, `cut:LEN`, `len`, `at:PLACE`, `find:TABLE:KEY`,
+/// `least:TABLE:AFTER`. A blank stands behind each answer.
 pub fn batch(alloc: Global, args: &[Bytes], out: &mut Vec<u8>) -> Option<()> {
     let mut batch = Batch::new(alloc);
     let mut other = Batch::new(alloc);

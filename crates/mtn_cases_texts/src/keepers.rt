@@ -36,7 +36,7 @@ fn apply<K: Keeper>(
         key.as_slice(),
         body.as_slice(),
     )?;
-    match keeper.apply(&batch) {
+    match keeper.apply(batch) {
         Ok(()) => out.extend_from_slice(b"Ok").ok(),
         Err(error) => failed(error, out),
     }

@@ -140,7 +140,7 @@ impl<'a, K: Keeper, N: Behind> Keeper for Below<'a, K, N> {
         Err(KeepError::NoMemory)
     }
 
-    fn apply(&mut self, _batch: &Batch) -> Result<(), KeepError> {
+    fn apply(&mut self, _batch: Batch) -> Result<(), KeepError> {
         Err(KeepError::NoMemory)
     }
 }

@@ -79,7 +79,7 @@ impl<'a, N: Told> Keeper for Extract<'a, N> {
         Err(KeepError::NoMemory)
     }
 
-    fn apply(&mut self, _batch: &Batch) -> Result<(), KeepError> {
+    fn apply(&mut self, _batch: Batch) -> Result<(), KeepError> {
         Err(KeepError::NoMemory)
     }
 }

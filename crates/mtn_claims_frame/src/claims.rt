@@ -58,8 +58,8 @@ pub fn goes_on(status: Status) -> bool
 }
 
 /// As `mtn_frame::put_all`, handed where memory is taken from: it takes none.
-pub fn put_all<K: Keeper>(_alloc: Global, keeper: &mut K, batch: &Batch) -> Result<(), KeepError>
-    ensures { Puts K.contents K.leaves K.faults K.reads keeper.old keeper.new batch.now result }
+pub fn put_all<K: Keeper>(_alloc: Global, keeper: &mut K, batch: Batch) -> Result<(), KeepError>
+    ensures { Puts K.contents K.leaves K.faults K.reads keeper.old keeper.new batch result }
 {
     mtn_frame::put_all(keeper, batch)
 }

@@ -35,11 +35,11 @@ pub fn open<K: Keeper>(
 }
 
 /// `Pending::finish`.
-pub fn finish<K: Keeper>(pending: &Pending, keeper: &mut K) -> Result<(), StoreError>
+pub fn finish<K: Keeper>(pending: Pending, keeper: &mut K) -> Result<(), StoreError>
     ensures told { WasTold (K.contents keeper.old) (K.contents keeper.new) }
-    ensures ok { OnOk result (Finishes pending.now (K.contents keeper.old) (K.contents keeper.new)) }
+    ensures ok { OnOk result (Finishes pending (K.contents keeper.old) (K.contents keeper.new)) }
     ensures err { OnErr result (Same (K.contents keeper.old) (K.contents keeper.new)) }
-    ensures crash { FinishLeaves pending.now (K.contents keeper.old) (K.contents keeper.new) (K.leaves keeper.old) (K.leaves keeper.new) }
+    ensures crash { FinishLeaves pending (K.contents keeper.old) (K.contents keeper.new) (K.leaves keeper.old) (K.leaves keeper.new) }
     ensures later { K.faults keeper.old ≤ K.faults keeper.new }
     ensures failed { result ≡ Err StoreError.Failed → Rose (K.faults keeper.old) (K.faults keeper.new) }
     ensures damaged { IfErr result (λ e. IfDamage e (λ _. ⊥)) }

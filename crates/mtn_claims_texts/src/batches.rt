@@ -62,12 +62,12 @@ pub fn least_above<'a>(
     batch.least_above(table, after)
 }
 
-/// As `Batch::extend`.
-pub fn extend(batch: &mut Batch, other: &Batch) -> Result<(), NoMemory>
-    ensures ok { OnOk result (batch.new ≡ batch.old ++ other.now) }
+/// As `Batch::append`.
+pub fn append(batch: &mut Batch, other: Batch) -> Result<(), NoMemory>
+    ensures ok { OnOk result (batch.new ≡ batch.old ++ other) }
     ensures err { OnErr result (batch.new ≡ batch.old) }
 {
-    batch.extend(other)
+    batch.append(other)
 }
 
 /// As `Ident::id`.

@@ -60,10 +60,10 @@ pub fn next_record<K: Keeper>(
 }
 
 /// As `Keeper::apply`.
-pub fn apply<K: Keeper>(keeper: &mut K, batch: &Batch) -> Result<(), KeepError>
-    ensures ok { OnOk result (Adds (K.contents keeper.old) (K.contents keeper.new) batch.now) }
+pub fn apply<K: Keeper>(keeper: &mut K, batch: Batch) -> Result<(), KeepError>
+    ensures ok { OnOk result (Adds (K.contents keeper.old) (K.contents keeper.new) batch) }
     ensures err { OnErr result (Same (K.contents keeper.old) (K.contents keeper.new)) }
-    ensures crash { MayLeave (K.contents keeper.old) (K.contents keeper.new) (K.leaves keeper.old) (K.leaves keeper.new) batch.now }
+    ensures crash { MayLeave (K.contents keeper.old) (K.contents keeper.new) (K.leaves keeper.old) (K.leaves keeper.new) batch }
     ensures later { K.faults keeper.old ≤ K.faults keeper.new }
     ensures failed { IsErrOf result KeepError.Failed → Rose (K.faults keeper.old) (K.faults keeper.new) }
     ensures reads { K.reads keeper.new ≡ K.reads keeper.old }
@@ -82,7 +82,7 @@ pub fn new_keeper(contents: Batch, failing: Vec<u64>) -> Result<MemKeeper, NoMem
 }
 
 /// As `MemKeeper::apply`: which calls fail.
-pub fn apply_in_memory(keeper: &mut MemKeeper, batch: &Batch) -> Result<(), KeepError>
+pub fn apply_in_memory(keeper: &mut MemKeeper, batch: Batch) -> Result<(), KeepError>
     ensures fails { IsErrOf result KeepError.Failed ↔ IsTrue (is_listed (keeper_calls keeper.old)) }
     ensures calls { keeper_calls keeper.new ≡ called (is_listed (keeper_calls keeper.old)) (keeper_calls keeper.old) }
 {

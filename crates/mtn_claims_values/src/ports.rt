@@ -30,6 +30,13 @@ pub fn batch_len(batch: &Batch) -> usize
     batch.len()
 }
 
+/// As `Batch::copy`.
+pub fn copy_batch(batch: &Batch) -> Result<Batch, NoMemory>
+    ensures { IfOk result (λ copy. copy ≡ batch.now) }
+{
+    batch.copy()
+}
+
 /// As `Batch::as_slice`.
 pub fn as_slice(batch: &Batch) -> &[Put]
     ensures value { result.now ≡ batch.now }

@@ -37,7 +37,7 @@ fn one<R: Threads + Sync, I: Ident, O: Sink, K: Keeper>(
 {
     let worked = work_job(rt, alloc, ident, job, memory, keeper);
     let settled = settle(alloc, form, worked);
-    match put_all(keeper, &settled.batch) {
+    match put_all(keeper, settled.batch) {
         Ok(()) => deliver(sink, settled.status, settled.text.as_slice()),
         Err(KeepError::Failed) => Status::StoreFault,
         Err(KeepError::NoMemory) => Status::NoMemory,

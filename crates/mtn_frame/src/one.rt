@@ -38,8 +38,8 @@ fn work_on<C: Commands, K: Keeper>(
 }
 
 /// Puts the records, all of them or none; where there are none the keeper is not called.
-pub fn put_all<K: Keeper>(keeper: &mut K, batch: &Batch) -> Result<(), KeepError>
-    ensures { Puts K.contents K.leaves K.faults K.reads keeper.old keeper.new batch.now result }
+pub fn put_all<K: Keeper>(keeper: &mut K, batch: Batch) -> Result<(), KeepError>
+    ensures { Puts K.contents K.leaves K.faults K.reads keeper.old keeper.new batch result }
 {
     if batch.len() == 0 {
         return Ok(());
@@ -78,7 +78,7 @@ pub fn one<C: Commands, O: Sink, K: Keeper>(
 {
     let worked = work_on(alloc, commands, job, memory, keeper);
     let settled = settle(alloc, form, worked);
-    match put_all(keeper, &settled.batch) {
+    match put_all(keeper, settled.batch) {
         Ok(()) => deliver(sink, settled.status, settled.text.as_slice()),
         Err(KeepError::Failed) => Status::StoreFault,
         Err(KeepError::NoMemory) => Status::NoMemory,

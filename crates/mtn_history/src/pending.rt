@@ -56,13 +56,13 @@ impl Pending {
         Ok(Pending::new(alloc, meta))
     }
 
-    /// Puts the pending records, all of them or none; where none are pending the keeper is not called.
+    /// Hands the pending records over, which are put all or none; where none are pending the keeper is not called.
     /// After an error the keeper's contents are as they were.
-    pub fn finish<K: Keeper>(&self, keeper: &mut K) -> Result<(), StoreError>
+    pub fn finish<K: Keeper>(self, keeper: &mut K) -> Result<(), StoreError>
         ensures told { WasTold (K.contents keeper.old) (K.contents keeper.new) }
-        ensures ok { OnOk result (Finishes self.now (K.contents keeper.old) (K.contents keeper.new)) }
+        ensures ok { OnOk result (Finishes self (K.contents keeper.old) (K.contents keeper.new)) }
         ensures err { OnErr result (Same (K.contents keeper.old) (K.contents keeper.new)) }
-        ensures crash { FinishLeaves self.now (K.contents keeper.old) (K.contents keeper.new) (K.leaves keeper.old) (K.leaves keeper.new) }
+        ensures crash { FinishLeaves self (K.contents keeper.old) (K.contents keeper.new) (K.leaves keeper.old) (K.leaves keeper.new) }
         ensures later { K.faults keeper.old ≤ K.faults keeper.new }
         ensures failed { result ≡ Err StoreError.Failed → Rose (K.faults keeper.old) (K.faults keeper.new) }
         ensures damaged { IfErr result (λ e. IfDamage e (λ _. ⊥)) }
@@ -70,7 +70,7 @@ impl Pending {
         if self.batch.len() == 0 {
             return Ok(());
         }
-        Ok(keeper.apply(&self.batch)?)
+        Ok(keeper.apply(self.batch)?)
     }
 
     fn new(alloc: Global, meta: Meta) -> Pending

@@ -118,8 +118,8 @@ impl<S: Alter + Drop> Keeper for SqliteKeeper<S> {
         }
     }
 
-    fn apply(&mut self, batch: &Batch) -> Result<(), KeepError> {
-        match put_all(&mut self.connection, batch) {
+    fn apply(&mut self, batch: Batch) -> Result<(), KeepError> {
+        match put_all(&mut self.connection, &batch) {
             Ok(()) => Ok(()),
             Err(error) => Err(self.refuse(error)),
         }

@@ -141,7 +141,7 @@ impl<O: Opener + Drop> Keeper for LazyKeeper<O> {
         self.counted(ended)
     }
 
-    fn apply(&mut self, batch: &Batch) -> Result<(), KeepError> {
+    fn apply(&mut self, batch: Batch) -> Result<(), KeepError> {
         let ended = match &mut self.opened {
             Some(keeper) => keeper.apply(batch),
             None => match made(&self.opener) {

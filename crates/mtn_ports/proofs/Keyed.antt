@@ -1,5 +1,5 @@
 -- Records of which each is under a key that is not empty, in a table whose number is a byte.
-use Rattle.std.proofs.Common.{◌≡◌, ◌<◌, ◌++◌, ◌&&◌, ℕ, Bool, true, false, cond, List, [], ◌∷◌, Option, None, Some, length, get_or, refl, ap, ◌∙◌, arith, zero, suc, eqb}
+use Rattle.std.proofs.Common.{◌≡◌, ◌<◌, ◌++◌, ◌&&◌, ℕ, Bool, true, false, cond, List, [], ◌∷◌, Option, None, Some, length, get_or, refl, ap, subst, sym, ◌∙◌, arith, zero, suc, eqb}
 use Rattle.std.specs.Prelude.{bytes_eq, IfSome, if◌then◌else◌}
 use Rattle.std.specs.List.{AllByRecursion}
 use Rattle.std.specs.FinMap.{get-empty}
@@ -25,6 +25,14 @@ pub keyed_at : (ps : List Put) (i : ℕ) (d : Put) → AllByRecursion IsKeyed ps
 keyed_at [] i d all lt = absurd (omega (arith, lt))
 keyed_at (p ∷ ps) zero d all lt = all.0
 keyed_at (p ∷ ps) (suc i) d all lt = keyed_at ps i d all.1 (omega (arith, lt))
+
+-- a record between others
+pub keyed_between : (ps : List Put) (p : Put) (qs left all : List Put) → ps ++ left ≡ all → left ≡ p ∷ qs → AllByRecursion IsKeyed all → 0 < length p.key
+keyed_between ps p qs left all are is keyed = keyed_after ps p qs (subst (AllByRecursion IsKeyed) (sym are ∙ ap (λ rest. ps ++ rest) is) keyed)
+  where
+    keyed_after : (ps : List Put) (p : Put) (qs : List Put) → AllByRecursion IsKeyed (ps ++ p ∷ qs) → 0 < length p.key
+    keyed_after [] p qs keyed = keyed.0.key
+    keyed_after (o ∷ ps) p qs keyed = keyed_after ps p qs keyed.1
 
 -- nothing under a key that no record has
 module _ (table : ℕ) (key : List ℕ) (other : (p : Put) → IsKeyed p → (eqb p.table table && bytes_eq key p.key) ≡ false) where

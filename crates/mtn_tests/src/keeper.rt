@@ -52,7 +52,7 @@ fn put<K: Keeper>(
 {
     let mut batch = Batch::new(alloc);
     batch.put(table, key, body)?;
-    keeper.apply(&batch)
+    keeper.apply(batch)
 }
 
 // Whether this body stands under the key.
@@ -113,7 +113,7 @@ fn later_records_stand_over_earlier_ones_and_keys_come_in_order(
     done(batch.put(2, b"a", b"2"))?;
     done(batch.put(2, b"b", b"3"))?;
     done(batch.put(3, b"c", b""))?;
-    done(keeper.apply(&batch))?;
+    done(keeper.apply(batch))?;
     done(put(alloc, &mut keeper, 2, b"a", b"4"))?;
     assert!(rt; done(has(alloc, &mut keeper, 2, b"a", b"4"))?);
     assert!(rt; done(has(alloc, &mut keeper, 2, b"b", b"3"))?);

@@ -3,7 +3,7 @@ use Rattle.mtn_frame.proofs.OneLemmas.{put_none, on_err}
 use Rattle.mtn_frame.proofs.one.put_all.Goals as goal
 
 pub returns-then-len-eq0 : goal.returns-then-len-eq0
-returns-then-len-eq0 g c = put_none g.K.Keeper.contents g.K.Keeper.leaves g.K.Keeper.faults g.K.Keeper.reads c.args.keeper.now c.args.batch.now (sym c.len.ensures ∙ c.if-len-eq0.true)
+returns-then-len-eq0 g c = put_none g.K.Keeper.contents g.K.Keeper.leaves g.K.Keeper.faults g.K.Keeper.reads c.args.keeper.now c.args.batch (sym c.len.ensures ∙ c.if-len-eq0.true)
 
 pub returns : goal.returns
 returns g c =
