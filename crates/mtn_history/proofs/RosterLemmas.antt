@@ -1,8 +1,8 @@
 -- Rosters, rebuilt along their chains.
-use Rattle.std.specs.Prelude.{IfSome, nat_lt, not, reverse, slice_get, option_and_then, ◌==◌, ◌&&◌}
+use Rattle.std.specs.Prelude.{IfSome, IsTrue, nat_lt, not, reverse, slice_get, option_and_then, ◌==◌, ◌&&◌}
 use Rattle.std.specs.Option.{option_map_or}
 use Rattle.std.proofs.Common.{◌≡◌, ◌≤◌, ◌<◌, ◌+◌, ℕ, zero, suc, Bool, true, false, cond, List, [], ◌∷◌, ◌++◌, length, Option, Some, None, refl, sym, ap, ◌∙◌, subst, ◌⊎◌, ⊎_elim, inl, inr, arith}
-use Rattle.std.proofs.lemmas.List.{length-append, length-reverse, append-nil, reverse-reverse}
+use Rattle.std.proofs.lemmas.List.{length-append, length-reverse, append-nil, reverse-append, reverse-reverse}
 use mathlib.Core.List.{reverse-cons}
 use Rattle.std.proofs.lemmas.Bool.Decides.{nat_tests}
 use Rattle.mtn_roster_deltas.specs.Chain.{Entries, applied, after_record, after_all, rebuilt, deepest, ascend}
@@ -27,9 +27,11 @@ use Rattle.mtn_history.specs.declared.errors.StoreError.TheVariants.{Failed, Dam
 use Rattle.mtn_history.specs.declared.errors.Damage.{Damage}
 use Rattle.mtn_history.specs.declared.errors.Damage.TheVariants.{Bad, Missing}
 use Rattle.mtn_history.specs.Revisions.{Kept, AreKept, AreRosters, IsRosterOf}
-use Rattle.mtn_history.specs.Rosters.{IsRostered, IsChainDown, IsPathDown, IsChainOf, IsRosterHeld, UnrosteredAt, UnrebuiltAt, UnmadeBelow, IsRebuilt, base_of}
+use Rattle.mtn_history.specs.Rosters.{IsRostered, IsChainDown, IsPathDown, IsChainOf, AreDeltasOn, IsRosterHeld, GivesNoTree, UnrosteredAt, UnrebuiltAt, UnmadeBelow, IsRebuilt, Rebuilds, base_of}
+use Rattle.mtn_history.specs.declared.rosters.Chain.{Chain}
+use Rattle.mtn_history.specs.declared.rosters.Rebuilt.{Rebuilt}
 use Rattle.mtn_history.proofs.LogLemmas.{told_on}
-use Rattle.mtn_roster_deltas.proofs.Differing.{chain_grows}
+use Rattle.mtn_roster_deltas.proofs.Differing.{chain_grows, rebuilt_on}
 use Rattle.mtn_roster_deltas.proofs.Spelling.{one_tree}
 use Rattle.mtn_replay.proofs.Places.{within, inside}
 use Rattle.mtn_history.specs.Revisions.{deeper, depth_on}
@@ -67,6 +69,12 @@ module _ (c : Contents) where
   path_ends r to es [] p here = (subst (λ k. IsRostered c k (Whole es)) p here, refl)
   path_ends r to es (Whole fs ∷ rs) p here = absurd p
   path_ends r to es (Delta base e h k ∷ rs) p here = (p.0, path_ends base to es rs p.1 here)
+
+  -- a path and the chain below it are a chain
+  path_on : (r to : ℕ) (rs chain : List RosterRecord) → IsPathDown c r rs to → IsChainDown c to chain → IsChainDown c r (rs ++ chain)
+  path_on r to [] chain p below = subst (λ k. IsChainDown c k chain) p below
+  path_on r to (Whole es ∷ rs) chain p below = absurd p
+  path_on r to (Delta base d g ch ∷ rs) chain p below = (p.0, path_on base to rs chain p.1 below)
 
   -- a path leads down
   pub path_low : (r to : ℕ) (rs : List RosterRecord) → IsPathDown c r rs to → to ≤ r
@@ -115,6 +123,10 @@ rebuilt_short (Whole all ∷ rs) es e = by (ascend all) refl e
     by true is h = ⊎_elim (λ none. omega (arith, none)) (λ some. omega (arith, some)) (after_short 1 all es rs h)
     by false is h = absurd cc
 
+-- deltas that give entries leave the depth a byte
+pub depth_fits : (depth : ℕ) (es fs : Entries) (rs : List RosterRecord) → depth < 256 → after_all (depth + 1) es rs ≡ Some fs → depth + length rs < 256
+depth_fits depth es fs rs lt made = ⊎_elim (λ none. omega (arith, none, lt)) (λ some. omega (arith, some)) (after_short (depth + 1) es fs rs made)
+
 -- sixteen records and no whole one are no chain that gives entries
 pub too_deep : (c : Contents) (r to : ℕ) (rs : List RosterRecord) → IsPathDown c r rs to → length rs ≡ 16 → IsChainOf c r None
 too_deep c r to rs path long chain es down made =
@@ -147,7 +159,7 @@ chain_whole_at c at next rs (Whole es) path here is = path_ends c at next es rs 
 chain_whole_at c at next rs (Delta base d g ch) path here is = absurd cc
 
 pub chain_whole : (mid new : Option Contents) (ps : List Put) (at next : ℕ) (rs more turned : List RosterRecord) (x : RosterRecord) (depth : ℕ) → length rs ≡ depth → Same mid new → IfSome mid (λ c. IsPathDown (with_all c ps) at rs next) →
-    IfSome new (λ c. IsRostered (with_all c ps) next x) → base_of x ≡ None → more ≡ rs ++ x ∷ [] → turned ≡ reverse more → IfSome new (λ c. IsChainOf (with_all c ps) at (Some (turned, depth)))
+    IfSome new (λ c. IsRostered (with_all c ps) next x) → base_of x ≡ None → more ≡ rs ++ x ∷ [] → turned ≡ reverse more → IfSome new (λ c. IsChainDown (with_all c ps) at (reverse turned) × (length turned ≡ depth + 1))
 chain_whole mid None ps at next rs more turned x depth long same path here is grown turns = tt
 chain_whole mid (Some c) ps at next rs more turned x depth long same path here is grown turns = (
   subst (IsChainDown (with_all c ps) at) (sym (ap reverse (turns ∙ ap reverse grown) ∙ reverse-reverse (rs ++ x ∷ [])))
@@ -173,20 +185,64 @@ unrebuilt_none mid (Some c) ps at e same none held =
     unrebuilt_at (with_all c ps) at e (λ chain es t down made spelled. told_on mid (Some c) (λ d. IsChainOf (with_all d ps) at None) same none c refl chain es down made) held
 
 -- the chain gives no tree
-pub unrebuilt_bad : (mid new : Option Contents) (ps : List Put) (at : ℕ) (e : StoreError) (chain : List RosterRecord) (depth : ℕ) → Same mid new → IfSome mid (λ c. IsChainOf (with_all c ps) at (Some (chain, depth))) →
-    ((es : Entries) (t : MarkedTree) → rebuilt chain ≡ Some es → Spells es t → ⊥) →
+pub unrebuilt_bad : (mid new : Option Contents) (ps : List Put) (at : ℕ) (e : StoreError) (chain : Chain) → Same mid new → IfSome mid (λ c. IsChainOf (with_all c ps) at (Some chain)) →
+    ((c : Contents) (r : ℕ) → IsChainOf c r (Some chain) → GivesNoTree c r) →
     IfSome new (λ c. IfDamage e (IsRosterHeld (with_all c ps) at)) → IfSome new (λ c. IfDamage e (UnmadeBelow (at + 1) (with_all c ps)))
-unrebuilt_bad mid None ps at e chain depth same is bad held = tt
-unrebuilt_bad mid (Some c) ps at e chain depth same is bad held =
-    unrebuilt_at (with_all c ps) at e (λ other es t down made spelled.
-    let one : other ≡ reverse chain = one_chain (with_all c ps) at other (reverse chain) down (told_on mid (Some c) (λ d. IsChainOf (with_all d ps) at (Some (chain, depth))) same is c refl).0 in
-    bad es t (sym (ap rebuilt (ap reverse one ∙ reverse-reverse chain)) ∙ made) spelled) held
+unrebuilt_bad mid None ps at e chain same is bad held = tt
+unrebuilt_bad mid (Some c) ps at e chain same is bad held =
+    unrebuilt_at (with_all c ps) at e (bad (with_all c ps) at (told_on mid (Some c) (λ d. IsChainOf (with_all d ps) at (Some chain)) same is c refl)) held
 
-pub is_rebuilt : (told : Option Contents) (ps : List Put) (at : ℕ) (chain : List RosterRecord) (depth : ℕ) (es : Entries) (t : MarkedTree) → IfSome told (λ c. IsChainOf (with_all c ps) at (Some (chain, depth))) → rebuilt chain ≡ Some es → Spells es t →
-    IfSome told (λ c. IsRebuilt (with_all c ps) at es t depth)
-is_rebuilt None ps at chain depth es t is made spelled = tt
-is_rebuilt (Some c) ps at chain depth es t is made spelled =
-    record { chain = reverse chain; down = is.0; entries = ap rebuilt (reverse-reverse chain) ∙ made; spelled = spelled; deltas = length-reverse chain ∙ is.1 }
+pub is_rebuilt : (told : Option Contents) (ps : List Put) (at : ℕ) (chain : Chain) (found : Rebuilt) → IfSome told (λ c. IsChainOf (with_all c ps) at (Some chain)) →
+    ((c : Contents) (r : ℕ) → IsChainOf c r (Some chain) → Rebuilds c r found) → IfSome told (λ c. Rebuilds (with_all c ps) at found)
+is_rebuilt None ps at chain found is gives = tt
+is_rebuilt (Some c) ps at chain found is gives = gives (with_all c ps) at is
+
+pub chain_known : (told : Option Contents) (ps : List Put) (at next : ℕ) (rs : List RosterRecord) (known : Rebuilt) (chain : Chain) → IfSome told (λ c. IsPathDown (with_all c ps) at rs next) → IfSome told (λ c. Rebuilds (with_all c ps) next known) →
+    ((c : Contents) (r to : ℕ) → IsPathDown c r rs to → Rebuilds c to known → IsChainOf c r (Some chain)) → IfSome told (λ c. IsChainOf (with_all c ps) at (Some chain))
+chain_known None ps at next rs known chain path found gives = tt
+chain_known (Some c) ps at next rs known chain path found gives = gives (with_all c ps) at next path found
+
+-- a chain that was read down to its whole record
+module _ (c : Contents) (at : ℕ) (records : List RosterRecord) (depth : ℕ) (down : IsChainDown c at (reverse records)) (long : length records ≡ depth + 1) where
+  pub rebuilt_whole : (es : Entries) (t : MarkedTree) → rebuilt records ≡ Some es → Spells es t → IsRebuilt c at es t depth
+  rebuilt_whole es t made spelled = record {
+    chain = reverse records;
+    down = down;
+    entries = ap rebuilt (reverse-reverse records) ∙ made;
+    spelled = spelled;
+    deltas = length-reverse records ∙ long;
+  }
+
+  pub none_whole : ((es : Entries) (t : MarkedTree) → rebuilt records ≡ Some es → Spells es t → ⊥) → GivesNoTree c at
+  none_whole bad chain es t other made spelled =
+      let one : chain ≡ reverse records = one_chain c at chain (reverse records) other down in
+      bad es t (sym (ap rebuilt (ap reverse one ∙ reverse-reverse records)) ∙ made) spelled
+
+-- and one that ends at a roster that is known
+module _ (c : Contents) (at : ℕ) (deltas : List RosterRecord) (known : Rebuilt) (up : AreDeltasOn c at (reverse deltas) known) where
+  all_down : IsChainDown c at (reverse deltas ++ up.right.chain)
+  all_down = path_on c at up.base (reverse deltas) up.right.chain up.path up.right.down
+
+  made_above : rebuilt (reverse (reverse deltas ++ up.right.chain)) ≡ after_all (known.depth + 1) known.entries deltas
+  made_above =
+      ap rebuilt (reverse-append (reverse deltas) up.right.chain ∙ ap (λ l. reverse up.right.chain ++ l) (reverse-reverse deltas))
+      ∙ rebuilt_on (reverse up.right.chain) deltas known.entries up.right.entries
+      ∙ ap (λ n. after_all n known.entries deltas) (length-reverse up.right.chain ∙ up.right.deltas)
+
+  pub rebuilt_above : (depth : ℕ) (es : Entries) (t : MarkedTree) → after_all (known.depth + 1) known.entries deltas ≡ Some es → Spells es t → depth ≡ known.depth + length deltas → IsRebuilt c at es t depth
+  rebuilt_above depth es t made spelled is = record {
+    chain = reverse deltas ++ up.right.chain;
+    down = all_down;
+    entries = made_above ∙ made;
+    spelled = spelled;
+    deltas = length-append (reverse deltas) up.right.chain ∙ omega (arith, length-reverse deltas, up.right.deltas, is);
+  }
+
+  pub none_above : (known.depth ≤ deepest → IsTrue (ascend known.entries) → (es : Entries) (t : MarkedTree) → after_all (known.depth + 1) known.entries deltas ≡ Some es → Spells es t → ⊥) → GivesNoTree c at
+  none_above bad chain es t other made spelled =
+      let one : chain ≡ reverse deltas ++ up.right.chain = one_chain c at chain (reverse deltas ++ up.right.chain) other all_down in
+      let short : known.depth ≤ 15 = omega (arith, rebuilt_short (reverse up.right.chain) known.entries up.right.entries, length-reverse up.right.chain, up.right.deltas) in
+      bad short up.right.spelled.ascending es t (sym made_above ∙ sym (ap (λ l. rebuilt (reverse l)) one) ∙ made) spelled
 
 pub one_more_record : (rs more : List RosterRecord) (x : RosterRecord) (n : ℕ) → length rs ≡ n → more ≡ rs ++ x ∷ [] → length more ≡ n + 1
 one_more_record rs more x n long is = ap length is ∙ omega (arith, length-append rs (x ∷ []), long)

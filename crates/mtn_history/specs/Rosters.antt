@@ -10,6 +10,8 @@ use Rattle.mtn_records.specs.declared.record.RosterRecord.{RosterRecord}
 use Rattle.mtn_records.specs.declared.record.RosterRecord.TheVariants.{Whole, Delta}
 use Rattle.mtn_history.specs.declared.errors.Damage.{Damage}
 use Rattle.mtn_history.specs.declared.errors.Damage.TheVariants.{Bad, Missing}
+use Rattle.mtn_history.specs.declared.rosters.Chain.{Chain}
+use Rattle.mtn_history.specs.declared.rosters.Chain.TheVariants.{ToWhole, ToKnown}
 use Rattle.mtn_history.specs.declared.rosters.Rebuilt.{Rebuilt}
 use Rattle.mtn_history.specs.Meta.{Counted}
 
@@ -46,18 +48,17 @@ abbrev pub IsRosterThere : Contents → ℕ → Type 0
 IsRosterThere c r = IsSome (body_at c 5 (number_text r))
 
 -- the record at a position and those below it give no tree with marks
+abbrev pub GivesNoTree : Contents → ℕ → Type 0
+GivesNoTree c r = (chain : List RosterRecord) (es : Entries) (t : MarkedTree) → IsChainDown c r chain → rebuilt (reverse chain) ≡ Some es → Spells es t → ⊥
+
+-- the same of a record that is shown
 abbrev pub UnrebuiltAt : Contents → ℕ → Damage → Type 0
-UnrebuiltAt c r d = IsRosterHeld c r d × ((chain : List RosterRecord) (es : Entries) (t : MarkedTree) → IsChainDown c r chain → rebuilt (reverse chain) ≡ Some es → Spells es t → ⊥)
+UnrebuiltAt c r d = IsRosterHeld c r d × GivesNoTree c r
 
 -- what a record stands on
 abbrev pub base_of : RosterRecord → Option ℕ
 base_of (Whole entries) = None
 base_of (Delta base depth gone changed) = Some base
-
--- the chain of a position, its whole record first, and how many deltas it has; none where no chain from there gives entries
-abbrev pub IsChainOf : Contents → ℕ → Option (List RosterRecord × ℕ) → Type 0
-IsChainOf c r (Some (chain, depth)) = IsChainDown c r (reverse chain) × (length chain ≡ depth + 1)
-IsChainOf c r None = (chain : List RosterRecord) (es : Entries) → IsChainDown c r chain → rebuilt (reverse chain) ≡ Some es → ⊥
 
 -- a position below n whose record is none, is not there, or gives no tree with those below it
 pub record UnmadeBelow (n : ℕ) (c : Contents) (d : Damage) : Type 0 where
@@ -82,3 +83,16 @@ pub record RosterDamage (c : Contents) (d : Damage) : Type 0 where
   pub count : ℕ
   pub counted : Counted c count
   pub wrong : UnmadeBelow count c d
+
+-- the deltas from a position down to one whose roster is known
+pub record AreDeltasOn (c : Contents) (r : ℕ) (deltas : List RosterRecord) (known : Rebuilt) : Type 0 where
+  pub base : ℕ
+  pub path : IsPathDown c r deltas base
+  pub right : Rebuilds c base known
+
+-- The chain of a position, its lowest record first: down to a whole record, and how many deltas it has, or down to a roster that
+-- is known; none where no chain from there gives entries
+abbrev pub IsChainOf : Contents → ℕ → Option Chain → Type 0
+IsChainOf c r (Some (ToWhole records depth)) = IsChainDown c r (reverse records.items) × (length records.items ≡ depth + 1)
+IsChainOf c r (Some (ToKnown deltas known)) = AreDeltasOn c r (reverse deltas.items) known.value
+IsChainOf c r None = (chain : List RosterRecord) (es : Entries) → IsChainDown c r chain → rebuilt (reverse chain) ≡ Some es → ⊥

@@ -1,14 +1,15 @@
 // The rosters that records give.
-ghost use Rattle.std.specs.Prelude.{◌≡◌, ◌<◌, ◌≤◌, ◌+◌, List, ℕ, option_map, Err, IfOk, IfErr, IfSome, OnOk};
+ghost use Rattle.std.specs.Prelude.{◌≡◌, ◌<◌, ◌≤◌, ◌+◌, List, ℕ, Some, Err, IfOk, IfErr, IfSome, IsErrOf, OnOk};
 ghost use Rattle.mtn_base.specs.declared.limits.TheConstants.{MAX_CHAIN};
 ghost use Rattle.mtn_marking.specs.Graph.{IsMarkedAt};
 ghost use Rattle.mtn_model.specs.State.{State};
+ghost use Rattle.mtn_model.specs.Table.{Contents};
 ghost use Rattle.mtn_ports.specs.Causes.{Rose};
 ghost use Rattle.mtn_ports.specs.Kept.{with_all};
 ghost use Rattle.mtn_records.specs.Bounds.{IsWithin};
 ghost use Rattle.mtn_history.specs.Asking.{OnlyAsks};
 ghost use Rattle.mtn_history.specs.Errors.{IfDamage};
-ghost use Rattle.mtn_history.specs.Rosters.{IsRostered, IsChainOf, IsRosterHeld, UnrosteredAt, UnmadeBelow, Rebuilds, base_of as base_in};
+ghost use Rattle.mtn_history.specs.Rosters.{IsRostered, IsChainOf, IsPathDown, IsRosterHeld, GivesNoTree, UnrosteredAt, UnmadeBelow, Rebuilds, base_of as base_in};
 ghost use Rattle.mtn_history.specs.Stands.{IsFounded};
 
 use crate::damaged::{bad, missing};
@@ -18,7 +19,8 @@ use mtn_base::MAX_CHAIN;
 use mtn_marking::MarkedRoster;
 use mtn_ports::Keeper;
 use mtn_records::{Numbered, RecordError, RosterRecord, read_roster};
-use mtn_roster_deltas::rebuild;
+use mtn_roster_deltas::{rebuild, rebuild_on};
+use std::alloc::Global;
 use std::rc::Rc;
 
 /// A roster as its records give it: its entries under their numbers, the roster with its marks, and how many deltas its
@@ -30,11 +32,19 @@ pub struct Rebuilt {
     pub depth: u8,
 }
 
-// A whole record and the deltas above it, and how many these are.
+// What a roster is rebuilt from, the lowest record first.
 #[derive(Drop)]
-struct Chain {
-    records: Vec<RosterRecord>,
-    depth: u8,
+enum Chain {
+    // A whole record and the deltas above it, and how many these are.
+    ToWhole {
+        records: Vec<RosterRecord>,
+        depth: u8,
+    },
+    // Deltas above a roster that is remembered.
+    ToKnown {
+        deltas: Vec<RosterRecord>,
+        known: Rc<Rebuilt>,
+    },
 }
 
 impl<'a, K: Keeper> Draft<'a, K> {
@@ -75,17 +85,21 @@ impl<'a, K: Keeper> Draft<'a, K> {
         }
     }
 
-    // The records from a position down to a whole one. None where there are more than a chain may have.
+    // The records from a position down to the first whose roster is remembered, or else to a whole one. None where there are
+    // more than a chain may have.
     fn chain(&mut self, at: Pos) -> Result<Option<Chain>, StoreError>
         ensures asks { OnlyAsks K.contents K.leaves K.faults K.reads MAX_CHAIN self.old self.new }
 
-        ensures read { IfSome (K.contents self.new.keeper.now) (λ c. IfOk result (λ chain. IsChainOf (with_all c self.old.pending.batch) at (option_map (λ x. (x.records.items, x.depth)) chain))) }
+        ensures read { IfSome (K.contents self.new.keeper.now) (λ c. IfOk result (IsChainOf (with_all c self.old.pending.batch) at)) }
         ensures damaged { IfSome (K.contents self.new.keeper.now) (λ c. IfErr result (λ e. IfDamage e (UnmadeBelow (at + 1) (with_all c self.old.pending.batch)))) }
         ensures failed { result ≡ Err StoreError.Failed → Rose (K.faults self.old.keeper.now) (K.faults self.new.keeper.now) }
     {
         let mut chain = Vec::new(self.alloc());
         let mut next = at;
         for depth in 0..MAX_CHAIN {
+            if let Some(known) = self.recall(next)? {
+                return Ok(Some(above(chain, known)));
+            }
             let record = self.rostered(next)?;
             let base = base_of(&record);
             chain.push(record)?;
@@ -93,7 +107,7 @@ impl<'a, K: Keeper> Draft<'a, K> {
                 Some(base) => next = base,
                 None => {
                     chain.reverse();
-                    return Ok(Some(Chain {
+                    return Ok(Some(Chain::ToWhole {
                         records: chain,
                         depth,
                     }));
@@ -112,15 +126,11 @@ impl<'a, K: Keeper> Draft<'a, K> {
         ensures damaged { IfSome (K.contents self.new.keeper.now) (λ c. IfErr result (λ e. IfDamage e (UnmadeBelow (at + 1) (with_all c self.old.pending.batch)))) }
         ensures failed { result ≡ Err StoreError.Failed → Rose (K.faults self.old.keeper.now) (K.faults self.new.keeper.now) }
     {
-        let Some(Chain { records, depth }) = self.chain(at)? else {
+        let Some(chain) = self.chain(at)? else {
             return Err(self.roster_held(at));
         };
-        match rebuild(self.alloc(), records) {
-            Ok((entries, roster)) => Ok(Rebuilt {
-                entries,
-                roster,
-                depth,
-            }),
+        match rebuilt_by(self.alloc(), chain) {
+            Ok(rebuilt) => Ok(rebuilt),
             Err(RecordError::Bad) => Err(self.roster_held(at)),
             Err(RecordError::NoMemory) => Err(StoreError::NoMemory),
         }
@@ -142,8 +152,9 @@ impl<'a, K: Keeper> Draft<'a, K> {
         Ok(rebuilt)
     }
 
-    /// A revision's roster. One of those that were read or accepted last is remembered; else it asks for at most sixteen
-    /// records. Over records that stand for a state it is that of the history.
+    /// A revision's roster. One of those that were read or accepted last is remembered; else it asks for its record and for
+    /// those below it, down to one whose roster is remembered or to a whole one: at most sixteen. Over records that stand for
+    /// a state it is that of the history.
     pub fn roster_at(&mut self, at: Pos) -> Result<Rc<Rebuilt>, StoreError>
         ensures asks { OnlyAsks K.contents K.leaves K.faults K.reads (MAX_CHAIN + 1) self.old self.new }
 
@@ -167,5 +178,40 @@ fn base_of(stored: &RosterRecord) -> Option<Pos>
     match stored {
         RosterRecord::Whole(_) => None,
         RosterRecord::Delta { base, .. } => Some(*base),
+    }
+}
+
+// Deltas, the lowest last, above a roster that is remembered.
+fn above(mut deltas: Vec<RosterRecord>, known: Rc<Rebuilt>) -> Chain
+    ensures { (c : Contents) (at next : ℕ) → IsPathDown c at deltas.items next → Rebuilds c next known.value → IsChainOf c at (Some result) }
+{
+    deltas.reverse();
+    Chain::ToKnown { deltas, known }
+}
+
+// The roster that a chain gives. Bad where it gives none.
+fn rebuilt_by(alloc: Global, chain: Chain) -> Result<Rebuilt, RecordError>
+    ensures rebuilt { (c : Contents) (at : ℕ) → IsChainOf c at (Some chain) → IfOk result (Rebuilds c at) }
+    ensures bad { IsErrOf result RecordError.Bad → (c : Contents) (at : ℕ) → IsChainOf c at (Some chain) → GivesNoTree c at }
+{
+    match chain {
+        Chain::ToWhole { records, depth } => {
+            let (entries, roster) = rebuild(alloc, records)?;
+            Ok(Rebuilt {
+                entries,
+                roster,
+                depth,
+            })
+        }
+        Chain::ToKnown { deltas, known } => {
+            let count = deltas.len();
+            let base = known.entries.copy(alloc)?;
+            let (entries, roster) = rebuild_on(alloc, base, known.depth, deltas)?;
+            Ok(Rebuilt {
+                entries,
+                roster,
+                depth: known.depth + count as u8,
+            })
+        }
     }
 }

@@ -4,10 +4,23 @@ use Rattle.std.proofs.lemmas.Result.{err_from_is_err_and}
 use Rattle.mtn_ports.specs.Kept.{with_all}
 use Rattle.mtn_history.specs.declared.pending.Pending.{Pending}
 use Rattle.mtn_history.specs.Errors.{IfDamage}
-use Rattle.mtn_history.specs.Rosters.{IsRostered, UnrosteredAt}
+use Rattle.mtn_history.specs.Rosters.{IsRostered, UnrosteredAt, Rebuilds}
 use Rattle.mtn_history.proofs.AskingLemmas.{asks_on, asks_within}
-use Rattle.mtn_history.proofs.RosterLemmas.{unmade, path_next, chain_whole, no_chain, one_more_record, stays_low}
+use Rattle.mtn_history.proofs.RosterLemmas.{unmade, path_next, chain_known, chain_whole, no_chain, one_more_record, stays_low}
 use Rattle.mtn_history.proofs.draft.Draft.chain.Goals as goal
+
+pub returns-in_err-known-clause-asks : goal.returns-in_err-known-clause-asks
+returns-in_err-known-clause-asks g c = asks_within g.K.Keeper.contents g.K.Keeper.leaves g.K.Keeper.faults g.K.Keeper.reads c.loop-depth.depth 16 c.args.self.now c.loop-depth.self (omega (arith, c.loop-depth-test.true)) c.loop-depth.invariant.asks
+
+pub returns-in-Some-clause-asks : goal.returns-in-Some-clause-asks
+returns-in-Some-clause-asks g c = asks_within g.K.Keeper.contents g.K.Keeper.leaves g.K.Keeper.faults g.K.Keeper.reads c.loop-depth.depth 16 c.args.self.now c.loop-depth.self (omega (arith, c.loop-depth-test.true)) c.loop-depth.invariant.asks
+
+pub returns-in-Some-clause-read : goal.returns-in-Some-clause-read
+returns-in-Some-clause-read g c =
+    chain_known (g.K.Keeper.contents c.loop-depth.self.keeper.now) c.args.self.now.pending.batch c.args.at c.loop-depth.next c.loop-depth.chain.items c.in-Some.known.value c.above.result c.loop-depth.invariant.path
+    (subst (λ (p : Pending). IfSome (g.K.Keeper.contents c.loop-depth.self.keeper.now) (λ d. Rebuilds (with_all d p.batch) c.loop-depth.next c.in-Some.known.value)) c.loop-depth.invariant.asks.pending
+    (subst (λ o. IfSome (g.K.Keeper.contents c.loop-depth.self.keeper.now) (λ d. IfSome o (λ r. Rebuilds (with_all d c.loop-depth.self.pending.batch) c.loop-depth.next r.value))) c.in-Some.is c.in_ok-known.ensures))
+    c.above.ensures
 
 pub returns-in_err-record-clause-asks : goal.returns-in_err-record-clause-asks
 returns-in_err-record-clause-asks g c = asks_within g.K.Keeper.contents g.K.Keeper.leaves g.K.Keeper.faults g.K.Keeper.reads (c.loop-depth.depth + 1) 16 c.args.self.now c.rostered.new.self (omega (arith, c.loop-depth-test.true)) (asks_on g.K.Keeper.contents g.K.Keeper.leaves g.K.Keeper.faults g.K.Keeper.reads c.loop-depth.depth 1 c.args.self.now c.loop-depth.self c.rostered.new.self c.loop-depth.invariant.asks c.rostered.ensures.asks)
@@ -35,11 +48,11 @@ pub loop-depth-preserved : goal.loop-depth-preserved
 loop-depth-preserved g c = record {
   asks = asks_on g.K.Keeper.contents g.K.Keeper.leaves g.K.Keeper.faults g.K.Keeper.reads c.loop-depth.depth 1 c.args.self.now c.loop-depth.self c.rostered.new.self c.loop-depth.invariant.asks c.rostered.ensures.asks;
   long = one_more_record c.loop-depth.chain.items c.push.new.self.items c.in_ok-record.record c.loop-depth.depth c.loop-depth.invariant.long c.in_ok-push.ensures.items;
-  low = stays_low c.in_ok-record.record c.args.at c.loop-depth.next c.in-Some.base (sym c.base_of-base.ensures ∙ c.in-Some.is) c.in_ok-record.ensures.below c.loop-depth.invariant.low;
-  path = path_next (g.K.Keeper.contents c.loop-depth.self.keeper.now) (g.K.Keeper.contents c.rostered.new.self.keeper.now) c.args.self.now.pending.batch c.args.at c.loop-depth.next c.in-Some.base c.loop-depth.chain.items c.push.new.self.items c.in_ok-record.record
+  low = stays_low c.in_ok-record.record c.args.at c.loop-depth.next c.in-Some-2.base (sym c.base_of-base.ensures ∙ c.in-Some-2.is) c.in_ok-record.ensures.below c.loop-depth.invariant.low;
+  path = path_next (g.K.Keeper.contents c.loop-depth.self.keeper.now) (g.K.Keeper.contents c.rostered.new.self.keeper.now) c.args.self.now.pending.batch c.args.at c.loop-depth.next c.in-Some-2.base c.loop-depth.chain.items c.push.new.self.items c.in_ok-record.record
       c.rostered.ensures.asks.stays.same c.loop-depth.invariant.path
       (subst (λ (p : Pending). IfSome (g.K.Keeper.contents c.rostered.new.self.keeper.now) (λ d. IsRostered (with_all d p.batch) c.loop-depth.next c.in_ok-record.record)) c.loop-depth.invariant.asks.pending c.in_ok-record.ensures.read)
-      (sym c.base_of-base.ensures ∙ c.in-Some.is) c.in_ok-push.ensures.items;
+      (sym c.base_of-base.ensures ∙ c.in-Some-2.is) c.in_ok-push.ensures.items;
 }
 
 pub returns-clause-asks : goal.returns-clause-asks
