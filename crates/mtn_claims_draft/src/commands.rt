@@ -220,7 +220,7 @@ pub fn perform<R: Threads + Sync, I: Ident, K: Keeper>(
     alloc: Global,
     call: &Call,
     ident: &I,
-    payload: &[u8],
+    payload: Bytes,
     draft: &mut Draft<'_, K>,
 ) -> Result<Reply, CommandError>
     requires bare { draft.old.pending.batch ≡ [] }
@@ -228,9 +228,9 @@ pub fn perform<R: Threads + Sync, I: Ident, K: Keeper>(
     requires unmigrated { call.now ≢ Call.Migrate }
     ensures same_reference { draft.new.keeper.ghost_name ≡ draft.old.keeper.ghost_name }
     ensures performs { Performs (I.meaning ident.now) K.contents K.leaves K.faults draft.old.keeper.now draft.new.keeper.now draft.old.pending draft.new.pending
-        (may_conflict (Some call.now)) (reads_packets (Some call.now)) (Steps (I.meaning ident.now) call.now payload.now) result }
+        (may_conflict (Some call.now)) (reads_packets (Some call.now)) (Steps (I.meaning ident.now) call.now payload) result }
     ensures few_reads { (c : Contents) (s : State) (n : ℕ) → K.contents draft.new.keeper.now ≡ Some c → IsDraft (I.meaning ident.now) c draft.old.pending s →
-        Asks (I.meaning ident.now) call.now payload.now s n → K.reads draft.new.keeper.now ≤ K.reads draft.old.keeper.now + n }
+        Asks (I.meaning ident.now) call.now payload s n → K.reads draft.new.keeper.now ≤ K.reads draft.old.keeper.now + n }
 {
     mtn_commands::perform::perform(rt, alloc, call, ident, payload, draft)
 }
@@ -246,12 +246,12 @@ pub fn id_text(alloc: Global, id: Id) -> Result<Bytes, NoMemory>
 pub fn put_file<I: Ident, K: Keeper>(
     alloc: Global,
     ident: &I,
-    payload: &[u8],
+    payload: Bytes,
     draft: &mut Draft<'_, K>,
 ) -> Result<Bytes, HistoryError>
     ensures same_reference { draft.new.keeper.ghost_name ≡ draft.old.keeper.ghost_name }
     ensures drafts { Drafts (I.meaning ident.now) K.contents K.leaves K.faults draft.old.keeper.now draft.new.keeper.now draft.old.pending draft.new.pending
-        (Steps (I.meaning ident.now) Call.PutFile payload.now) result }
+        (Steps (I.meaning ident.now) Call.PutFile payload) result }
 {
     mtn_commands::put_file::put_file(alloc, ident, payload, draft)
 }

@@ -22,11 +22,11 @@ fn is_word(words: &[Bytes], name: &[u8]) -> bool
     }
 }
 
-fn put(alloc: Global, payload: &[u8]) -> Result<Worked, NoMemory>
-    ensures { IfOk result (λ worked. (worked.reply ≡ record { conflicts = false; text = [] }) × (worked.batch ≡ record { table = 2; key = toy_key; body = payload.now } ∷ [])) }
+fn put(alloc: Global, payload: Bytes) -> Result<Worked, NoMemory>
+    ensures { IfOk result (λ worked. (worked.reply ≡ record { conflicts = false; text = [] }) × (worked.batch ≡ record { table = 2; key = toy_key; body = payload } ∷ [])) }
 {
     let mut batch = Batch::new(alloc);
-    batch.put(2, &[1], payload)?;
+    batch.put_owned(2, &[1], payload)?;
     Ok(Worked {
         reply: Reply {
             conflicts: false,
@@ -123,7 +123,7 @@ impl Commands for Toy {
         &self,
         alloc: Global,
         words: &[Bytes],
-        payload: &[u8],
+        payload: Bytes,
         _memory: &mut (),
         keeper: &mut K,
     ) -> Result<Worked, WorkError> {

@@ -133,6 +133,22 @@ pub fn keep<K: Keeper>(
     draft.keep(table, key, body)
 }
 
+/// As `Draft::keep_owned`.
+pub fn keep_owned<K: Keeper>(
+    draft: &mut Draft<'_, K>,
+    table: u8,
+    key: &[u8],
+    body: Bytes,
+) -> Result<(), NoMemory>
+    requires beside { is_beside table ≡ true }
+    requires keyed { 0 < length key.now }
+    ensures keeper { draft.new.keeper ≡ draft.old.keeper }
+    ensures ok { OnOk result (draft.new.pending ≡ record draft.old.pending { batch = draft.old.pending.batch ++ record_puts draft.old.pending.is_new draft.old.pending.count table key.now body; is_new = false }) }
+    ensures err { OnErr result (draft.new.pending ≡ draft.old.pending) }
+{
+    draft.keep_owned(table, key, body)
+}
+
 /// As `Draft::keep_revision`.
 pub fn keep_revision<K: Keeper>(
     draft: &mut Draft<'_, K>,
@@ -203,12 +219,12 @@ pub fn has_file<K: Keeper>(draft: &mut Draft<'_, K>, id: Id) -> Result<bool, Sto
 pub fn put_file_as<K: Keeper>(
     draft: &mut Draft<'_, K>,
     id: Id,
-    bytes: &[u8],
+    bytes: Bytes,
 ) -> Result<(), HistoryError>
     ensures same_reference { draft.new.keeper.ghost_name ≡ draft.old.keeper.ghost_name }
     ensures stays { Stays K.contents K.leaves K.faults draft.old.keeper.now draft.new.keeper.now }
     ensures accepts { (f : List ℕ → List ℕ) (c : Contents) (s : State) → K.contents draft.new.keeper.now ≡ Some c → IsDraft f c draft.old.pending s
-        → id.0 ≡ f bytes.now → KeepsFile f c s bytes.now result draft.new.pending }
+        → id.0 ≡ f bytes → KeepsFile f c s bytes result draft.new.pending }
     ensures err { OnErr result (draft.new.pending ≡ draft.old.pending) }
     ensures sound { IfErr result (λ e. IfStoreDamage e (λ _. ⊥)) }
     ensures failed { result ≡ Err (HistoryError.Store StoreError.Failed) → Rose (K.faults draft.old.keeper.now) (K.faults draft.new.keeper.now) }

@@ -9,7 +9,7 @@ ghost use Rattle.mtn_history.specs.Errors.{IfDamage, IfStoreDamage};
 ghost use Rattle.mtn_history.specs.Files.{AcceptsFile, FindsFile, IsFileHeld};
 ghost use Rattle.mtn_history.specs.Stands.{IsDraft};
 
-use mtn_base::Id;
+use mtn_base::{Bytes, Id};
 use mtn_history::{Draft, HistoryError, StoreError};
 use mtn_ports::{Ident, Keeper};
 
@@ -17,12 +17,12 @@ use mtn_ports::{Ident, Keeper};
 pub fn put_file<I: Ident, K: Keeper>(
     draft: &mut Draft<'_, K>,
     ident: &I,
-    bytes: &[u8],
+    bytes: Bytes,
 ) -> Result<Id, HistoryError>
     ensures same_reference { draft.new.keeper.ghost_name ≡ draft.old.keeper.ghost_name }
     ensures stays { Stays K.contents K.leaves K.faults draft.old.keeper.now draft.new.keeper.now }
     ensures accepts { (c : Contents) (s : State) → K.contents draft.new.keeper.now ≡ Some c → IsDraft (I.meaning ident.now) c draft.old.pending s
-        → AcceptsFile (I.meaning ident.now) c s bytes.now result draft.new.pending }
+        → AcceptsFile (I.meaning ident.now) c s bytes result draft.new.pending }
     ensures err { OnErr result (draft.new.pending ≡ draft.old.pending) }
     ensures sound { IfErr result (λ e. IfStoreDamage e (λ _. ⊥)) }
     ensures failed { result ≡ Err (HistoryError.Store StoreError.Failed) → Rose (K.faults draft.old.keeper.now) (K.faults draft.new.keeper.now) }

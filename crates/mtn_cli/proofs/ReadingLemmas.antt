@@ -1,7 +1,7 @@
 -- What is shown where packets are read, the store is checked, or an older one is migrated, from one job to a session and to the top call.
 use Rattle.std.specs.List.{list_any}
-use Rattle.std.proofs.Common.{◌≡◌, ◌<◌, inl, inr, ℕ, Bool, true, false, List, length, get_or, Option, Result, sym, ap, ◌∙◌, subst}
-use Rattle.std.proofs.lemmas.List.Folds.{list_any_at}
+use Rattle.std.specs.Prelude.{◌||◌}
+use Rattle.std.proofs.Common.{◌≡◌, inl, inr, ℕ, Bool, true, false, List, [], ◌∷◌, ◌++◌, Option, Result, refl, sym, ap, ◌∙◌, subst}
 use Rattle.mtn_frame.specs.Outcome.{JobOutcome as Ending}
 use Rattle.mtn_model.specs.Table.{Contents}
 use Rattle.mtn_model.specs.declared.status.Status.{Status}
@@ -18,6 +18,15 @@ use Rattle.mtn_frame.specs.declared.works.WorkError.{WorkError}
 use Rattle.mtn_frame.specs.declared.works.Worked.{Worked}
 use Rattle.mtn_old_stores.specs.Stores.{StandsIn, Store as AnyStore}
 use Rattle.mtn_cli.specs.Store.{IsFirstLine, IsLine, IsOldStore, ShowsDamage, is_checking, is_migrating, is_reading, job_checking, job_migrating, job_reading, script_checking, script_migrating, script_reading}
+
+-- a test that a job passes, of a list that has it behind others
+any_behind : (test : Job → Bool) (front rest : List Job) (job : Job) → test job ≡ true → list_any test (front ++ job ∷ rest) ≡ true
+any_behind test [] rest job on = ap (λ b. b || list_any test rest) on
+any_behind test (x ∷ front) rest job on = ap (λ b. test x || b) (any_behind test front rest job on) ∙ or_true (test x)
+  where
+    or_true : (b : Bool) → (b || true) ≡ true
+    or_true true = refl
+    or_true false = refl
 
 -- the same damage where more may read packets, check the store, or migrate it
 shows_more : (f : List ℕ → List ℕ) (P Q R S U V : Type 0) → (P → Q) → (R → S) → (U → V) → (c : Contents) (line : List ℕ) → ShowsDamage f P R U c line → ShowsDamage f Q S V c line
@@ -62,12 +71,12 @@ module _ (f : List ℕ → List ℕ) {M : Type 0} (Knows : M → Contents → Ty
     }
 
     -- a job of a session
-    pub one_of_jobs : (jobs items : List Job) (n : ℕ) (job : Job) → items ≡ jobs → n < length items → job ≡ get_or items n job → Does (job_reading job ≡ true) (job_checking job ≡ true) (job_migrating job ≡ true) → Does (list_any job_reading jobs ≡ true) (list_any job_checking jobs ≡ true) (list_any job_migrating jobs ≡ true)
-    one_of_jobs jobs items n job same lt is one =
+    pub one_of_jobs : (jobs front left rest : List Job) (job : Job) → front ++ left ≡ jobs → left ≡ job ∷ rest → Does (job_reading job ≡ true) (job_checking job ≡ true) (job_migrating job ≡ true) → Does (list_any job_reading jobs ≡ true) (list_any job_checking jobs ≡ true) (list_any job_migrating jobs ≡ true)
+    one_of_jobs jobs front left rest job all is one =
         wider (job_reading job ≡ true) (list_any job_reading jobs ≡ true) (job_checking job ≡ true) (list_any job_checking jobs ≡ true) (job_migrating job ≡ true) (list_any job_migrating jobs ≡ true) (any job_reading) (any job_checking) (any job_migrating) one
       where
         any : (test : Job → Bool) → test job ≡ true → list_any test jobs ≡ true
-        any test on = ap (list_any test) (sym same) ∙ list_any_at test items n job lt (ap test (sym is) ∙ on)
+        any test on = ap (list_any test) (sym all ∙ ap (λ js. front ++ js) is) ∙ any_behind test front rest job on
 
     -- a job alone
     pub bare_job : (script : Script) (job : Job) → script ≡ Bare job → Does (job_reading job ≡ true) (job_checking job ≡ true) (job_migrating job ≡ true) → Does (script_reading script ≡ true) (script_checking script ≡ true) (script_migrating script ≡ true)

@@ -26,14 +26,14 @@ fn one<R: Threads + Sync, I: Ident, O: Sink, K: Keeper>(
     alloc: Global,
     ident: &I,
     form: Form,
-    job: &Job,
+    job: Job,
     memory: &mut Memory,
     sink: &mut O,
     keeper: &mut K,
 ) -> Status
     requires { IfSome (K.contents keeper.old) (Knows memory.old) }
-    ensures { One (StandsIn (I.meaning ident.now)) (ShowsDamage (I.meaning ident.now) (job_reading job.now ≡ true) (job_checking job.now ≡ true) (job_migrating job.now ≡ true)) (IsFirstLine (I.meaning ident.now)) IsOldStore IsLine Knows K.contents K.leaves K.faults K.reads keeper.old keeper.new memory.new
-        (O.written sink.old) (O.written sink.new) (O.faults sink.old) (O.faults sink.new) form (job_spelled is_spelled job.now) (job_merging is_merging job.now) (job_vouching is_checking job.now) (Does (Step (I.meaning ident.now)) job.now) (BoundsJob (bounds (I.meaning ident.now)) job.now) (ChangesJob (changes (I.meaning ident.now)) job.now) result }
+    ensures { One (StandsIn (I.meaning ident.now)) (ShowsDamage (I.meaning ident.now) (job_reading job ≡ true) (job_checking job ≡ true) (job_migrating job ≡ true)) (IsFirstLine (I.meaning ident.now)) IsOldStore IsLine Knows K.contents K.leaves K.faults K.reads keeper.old keeper.new memory.new
+        (O.written sink.old) (O.written sink.new) (O.faults sink.old) (O.faults sink.new) form (job_spelled is_spelled job) (job_merging is_merging job) (job_vouching is_checking job) (Does (Step (I.meaning ident.now)) job) (BoundsJob (bounds (I.meaning ident.now)) job) (ChangesJob (changes (I.meaning ident.now)) job) result }
 {
     let worked = work_job(rt, alloc, ident, job, memory, keeper);
     let settled = settle(alloc, form, worked);
@@ -50,23 +50,26 @@ fn run_jobs<R: Threads + Sync, I: Ident, O: Sink, K: Keeper>(
     rt: &R,
     alloc: Global,
     ident: &I,
-    jobs: &List<Job>,
+    jobs: List<Job>,
     memory: &mut Memory,
     sink: &mut O,
     keeper: &mut K,
 ) -> Status
     requires { IfSome (K.contents keeper.old) (Knows memory.old) }
-    ensures { RunsJobs (StandsIn (I.meaning ident.now)) (ShowsDamage (I.meaning ident.now) (list_any job_reading jobs.now ≡ true) (list_any job_checking jobs.now ≡ true) (list_any job_migrating jobs.now ≡ true)) (Does (Step (I.meaning ident.now))) K.contents K.leaves K.faults keeper.old keeper.new
-        (O.written sink.old) (O.written sink.new) (O.faults sink.old) (O.faults sink.new) jobs.now result }
+    ensures { RunsJobs (StandsIn (I.meaning ident.now)) (ShowsDamage (I.meaning ident.now) (list_any job_reading jobs ≡ true) (list_any job_checking jobs ≡ true) (list_any job_migrating jobs ≡ true)) (Does (Step (I.meaning ident.now))) K.contents K.leaves K.faults keeper.old keeper.new
+        (O.written sink.old) (O.written sink.new) (O.faults sink.old) (O.faults sink.new) jobs result }
 {
-    for (number, job) in jobs.as_slice().iter().enumerate() {
-        let form = Form::Numbered {
-            number: number as u64,
-        };
+    let jobs = jobs.into_vec();
+    // No number is above it.
+    let _count = jobs.len();
+    let mut number = 0;
+    for job in jobs {
+        let form = Form::Numbered { number };
         let status = one(rt, alloc, ident, form, job, memory, sink, keeper);
         if !goes_on(status) {
             return status;
         }
+        number += 1;
     }
     Status::Ok
 }
@@ -76,12 +79,12 @@ pub fn run_script<R: Threads + Sync, I: Ident, O: Sink, K: Keeper>(
     rt: &R,
     alloc: Global,
     ident: &I,
-    script: &Script,
+    script: Script,
     sink: &mut O,
     keeper: &mut K,
 ) -> Status
-    ensures { RunsScript (StandsIn (I.meaning ident.now)) (ShowsDamage (I.meaning ident.now) (script_reading script.now ≡ true) (script_checking script.now ≡ true) (script_migrating script.now ≡ true)) (IsFirstLine (I.meaning ident.now)) IsOldStore IsLine (Does (Step (I.meaning ident.now))) (BoundsJob (bounds (I.meaning ident.now))) (ChangesJob (changes (I.meaning ident.now))) K.contents K.leaves K.faults K.reads keeper.old keeper.new
-        (O.written sink.old) (O.written sink.new) (O.faults sink.old) (O.faults sink.new) script.now (script_spelled is_spelled script.now) (script_merging is_merging script.now) (script_vouching is_checking script.now) result }
+    ensures { RunsScript (StandsIn (I.meaning ident.now)) (ShowsDamage (I.meaning ident.now) (script_reading script ≡ true) (script_checking script ≡ true) (script_migrating script ≡ true)) (IsFirstLine (I.meaning ident.now)) IsOldStore IsLine (Does (Step (I.meaning ident.now))) (BoundsJob (bounds (I.meaning ident.now))) (ChangesJob (changes (I.meaning ident.now))) K.contents K.leaves K.faults K.reads keeper.old keeper.new
+        (O.written sink.old) (O.written sink.new) (O.faults sink.old) (O.faults sink.new) script (script_spelled is_spelled script) (script_merging is_merging script) (script_vouching is_checking script) result }
 {
     let mut memory = Memory::new(alloc);
     match script {

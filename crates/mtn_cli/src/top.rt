@@ -70,7 +70,7 @@ fn run_words<R: Threads + Sync, I: Ident, S: Source, O: Sink, K: Keeper>(
         Err(ReadStop::NoMemory) => return Status::NoMemory,
     };
     match script_of(alloc, words, input) {
-        Ok(script) => run_script(rt, alloc, ident, &script, sink, keeper),
+        Ok(script) => run_script(rt, alloc, ident, script, sink, keeper),
         Err(NoMemory) => Status::NoMemory,
     }
 }

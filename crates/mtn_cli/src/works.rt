@@ -42,7 +42,7 @@ fn work_on<R: Threads + Sync, I: Ident, K: Keeper>(
     alloc: Global,
     call: &Call,
     ident: &I,
-    payload: &[u8],
+    payload: Bytes,
     memory: &mut Memory,
     keeper: &mut K,
 ) -> Result<Worked, WorkError>
@@ -50,7 +50,7 @@ fn work_on<R: Threads + Sync, I: Ident, K: Keeper>(
     requires unchecked { call.now ≢ Call.Check }
     requires unmigrated { call.now ≢ Call.Migrate }
     ensures { Works (StandsIn (I.meaning ident.now)) (MeetsDamage (I.meaning ident.now) (reads_packets (Some call.now) ≡ true)) (IsFirstLine (I.meaning ident.now)) IsOldStore IsLine Knows K.contents K.leaves K.faults K.reads keeper.old keeper.new memory.new
-        true (may_conflict (Some call.now)) (checks_store (Some call.now)) (StepIn (I.meaning ident.now) (Some call.now) payload.now) (bounds_in (I.meaning ident.now) (Some call.now) payload.now) (changes_of (I.meaning ident.now) (Some call.now) payload.now) result }
+        true (may_conflict (Some call.now)) (checks_store (Some call.now)) (StepIn (I.meaning ident.now) (Some call.now) payload) (bounds_in (I.meaning ident.now) (Some call.now) payload) (changes_of (I.meaning ident.now) (Some call.now) payload) result }
 {
     let pending = match Pending::open(alloc, memory, keeper) {
         Ok(pending) => pending,
@@ -89,7 +89,7 @@ fn work_shown<R: Threads + Sync, I: Ident, K: Keeper>(
     alloc: Global,
     call: &Call,
     ident: &I,
-    payload: &[u8],
+    payload: Bytes,
     memory: &mut Memory,
     keeper: &mut K,
 ) -> Result<Worked, WorkError>
@@ -97,7 +97,7 @@ fn work_shown<R: Threads + Sync, I: Ident, K: Keeper>(
     requires unchecked { call.now ≢ Call.Check }
     requires unmigrated { call.now ≢ Call.Migrate }
     ensures { Works (StandsIn (I.meaning ident.now)) (ShowsDamage (I.meaning ident.now) (reads_packets (Some call.now) ≡ true) (checks_store (Some call.now) ≡ true) (migrates_store (Some call.now) ≡ true)) (IsFirstLine (I.meaning ident.now)) IsOldStore IsLine Knows K.contents K.leaves K.faults K.reads keeper.old keeper.new memory.new
-        true (may_conflict (Some call.now)) (checks_store (Some call.now)) (StepIn (I.meaning ident.now) (Some call.now) payload.now) (bounds_in (I.meaning ident.now) (Some call.now) payload.now) (changes_of (I.meaning ident.now) (Some call.now) payload.now) result }
+        true (may_conflict (Some call.now)) (checks_store (Some call.now)) (StepIn (I.meaning ident.now) (Some call.now) payload) (bounds_in (I.meaning ident.now) (Some call.now) payload) (changes_of (I.meaning ident.now) (Some call.now) payload) result }
 {
     let worked = work_on(rt, alloc, call, ident, payload, memory, keeper);
     if !puts_many(call) {
@@ -120,19 +120,19 @@ fn work_call<R: Threads + Sync, I: Ident, K: Keeper>(
     alloc: Global,
     call: &Call,
     ident: &I,
-    payload: &[u8],
+    payload: Bytes,
     memory: &mut Memory,
     keeper: &mut K,
 ) -> Result<Worked, WorkError>
     requires { IfSome (K.contents keeper.old) (Knows memory.old) }
     ensures { Works (StandsIn (I.meaning ident.now)) (ShowsDamage (I.meaning ident.now) (reads_packets (Some call.now) ≡ true) (checks_store (Some call.now) ≡ true) (migrates_store (Some call.now) ≡ true)) (IsFirstLine (I.meaning ident.now)) IsOldStore IsLine Knows K.contents K.leaves K.faults K.reads keeper.old keeper.new memory.new
-        true (may_conflict (Some call.now)) (checks_store (Some call.now)) (StepIn (I.meaning ident.now) (Some call.now) payload.now) (bounds_in (I.meaning ident.now) (Some call.now) payload.now) (changes_of (I.meaning ident.now) (Some call.now) payload.now) result }
+        true (may_conflict (Some call.now)) (checks_store (Some call.now)) (StepIn (I.meaning ident.now) (Some call.now) payload) (bounds_in (I.meaning ident.now) (Some call.now) payload) (changes_of (I.meaning ident.now) (Some call.now) payload) result }
 {
     match call {
         Call::Check => check(rt, alloc, ident, keeper),
         Call::Migrate => {
             *memory = Memory::new(alloc);
-            migrate_store(alloc, payload, keeper)
+            migrate_store(alloc, payload.as_slice(), keeper)
         }
         _ => work_shown(rt, alloc, call, ident, payload, memory, keeper),
     }
@@ -144,13 +144,13 @@ fn work_words<R: Threads + Sync, I: Ident, K: Keeper>(
     alloc: Global,
     ident: &I,
     words: &[Bytes],
-    payload: &[u8],
+    payload: Bytes,
     memory: &mut Memory,
     keeper: &mut K,
 ) -> Result<Worked, WorkError>
     requires { IfSome (K.contents keeper.old) (Knows memory.old) }
     ensures { Works (StandsIn (I.meaning ident.now)) (ShowsDamage (I.meaning ident.now) (is_reading words.now ≡ true) (is_checking words.now ≡ true) (is_migrating words.now ≡ true)) (IsFirstLine (I.meaning ident.now)) IsOldStore IsLine Knows K.contents K.leaves K.faults K.reads keeper.old keeper.new memory.new
-        (is_spelled words.now) (is_merging words.now) (is_checking words.now) (Step (I.meaning ident.now) words.now payload.now) (bounds (I.meaning ident.now) words.now payload.now) (changes (I.meaning ident.now) words.now payload.now) result }
+        (is_spelled words.now) (is_merging words.now) (is_checking words.now) (Step (I.meaning ident.now) words.now payload) (bounds (I.meaning ident.now) words.now payload) (changes (I.meaning ident.now) words.now payload) result }
 {
     match read_words(alloc, words) {
         Ok(call) => work_call(rt, alloc, &call, ident, payload, memory, keeper),
@@ -164,13 +164,13 @@ pub fn work_job<R: Threads + Sync, I: Ident, K: Keeper>(
     rt: &R,
     alloc: Global,
     ident: &I,
-    job: &Job,
+    job: Job,
     memory: &mut Memory,
     keeper: &mut K,
 ) -> Result<Worked, WorkError>
     requires { IfSome (K.contents keeper.old) (Knows memory.old) }
-    ensures { Works (StandsIn (I.meaning ident.now)) (ShowsDamage (I.meaning ident.now) (job_reading job.now ≡ true) (job_checking job.now ≡ true) (job_migrating job.now ≡ true)) (IsFirstLine (I.meaning ident.now)) IsOldStore IsLine Knows K.contents K.leaves K.faults K.reads keeper.old keeper.new memory.new
-        (job_spelled is_spelled job.now) (job_merging is_merging job.now) (job_vouching is_checking job.now) (Does (Step (I.meaning ident.now)) job.now) (BoundsJob (bounds (I.meaning ident.now)) job.now) (ChangesJob (changes (I.meaning ident.now)) job.now) result }
+    ensures { Works (StandsIn (I.meaning ident.now)) (ShowsDamage (I.meaning ident.now) (job_reading job ≡ true) (job_checking job ≡ true) (job_migrating job ≡ true)) (IsFirstLine (I.meaning ident.now)) IsOldStore IsLine Knows K.contents K.leaves K.faults K.reads keeper.old keeper.new memory.new
+        (job_spelled is_spelled job) (job_merging is_merging job) (job_vouching is_checking job) (Does (Step (I.meaning ident.now)) job) (BoundsJob (bounds (I.meaning ident.now)) job) (ChangesJob (changes (I.meaning ident.now)) job) result }
 {
     match job {
         Job::Call { words, payload } => {
@@ -179,7 +179,7 @@ pub fn work_job<R: Threads + Sync, I: Ident, K: Keeper>(
                 alloc,
                 ident,
                 words.as_slice(),
-                payload.as_slice(),
+                payload,
                 memory,
                 keeper,
             )
@@ -187,7 +187,7 @@ pub fn work_job<R: Threads + Sync, I: Ident, K: Keeper>(
         Job::BadInput { number } => Err(WorkError::Refused {
             refusal: Refusal {
                 packet: 0,
-                cause: Cause::BadRequest { number: *number },
+                cause: Cause::BadRequest { number },
             },
         }),
     }

@@ -17,7 +17,6 @@ use crate::key::key;
 use crate::merge::{merge, told};
 use crate::merge_heads::merge_heads;
 use crate::packets::packets;
-use crate::put_file::put_file;
 use crate::put_revision::commit;
 use crate::show_conflicts::show_conflicts;
 use mtn_frame::Reply;
@@ -26,7 +25,7 @@ use mtn_ports::{Ident, Keeper};
 use mtn_step::Call;
 use std::alloc::Global;
 
-/// What a command other than `put_revision`, `read`, `generate`, `check` and `migrate` does over a draft, and replies: its line of the step. One arm a command.
+/// What a command other than `put_file`, `put_revision`, `read`, `generate`, `check` and `migrate` does over a draft, and replies: its line of the step. One arm a command.
 pub fn on_draft<I: Ident, K: Keeper>(
     alloc: Global,
     call: &Call,
@@ -38,13 +37,13 @@ pub fn on_draft<I: Ident, K: Keeper>(
     requires unchecked { call.now ≢ Call.Check }
     requires unmigrated { call.now ≢ Call.Migrate }
     requires unput { call.now ≢ Call.PutRevision }
+    requires unkept { call.now ≢ Call.PutFile }
     requires ungenerated { (count : ℕ) → call.now ≢ Call.Generate count }
     ensures same_reference { draft.new.keeper.ghost_name ≡ draft.old.keeper.ghost_name }
     ensures replies { Replies (I.meaning ident.now) K.contents K.leaves K.faults draft.old.keeper.now draft.new.keeper.now draft.old.pending draft.new.pending
         (may_conflict (Some call.now)) (Steps (I.meaning ident.now) call.now payload.now) result }
 {
     match call {
-        Call::PutFile => told(put_file(alloc, ident, payload, draft)),
         Call::GetFile { id } => told(get_file(alloc, ident, *id, payload, draft)),
         Call::GetRevision { id } => told(get_revision(alloc, ident, *id, payload, draft)),
         Call::GetManifestOf { id } => told(get_manifest_of(ident, *id, payload, draft)),
@@ -83,6 +82,7 @@ pub fn on_draft<I: Ident, K: Keeper>(
             alloc, ident, branch, author, date, *key, *resolves, payload, draft,
         ),
         Call::Packets { id, have } => told(packets(alloc, ident, *id, have, payload, draft)),
+        Call::PutFile => unreachable!(),
         Call::PutRevision => unreachable!(),
         Call::Read => unreachable!(),
         Call::Generate { .. } => unreachable!(),

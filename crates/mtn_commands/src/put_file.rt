@@ -21,16 +21,16 @@ pub fn id_text(alloc: Global, id: Id) -> Result<Bytes, NoMemory>
     Ok(List::from_vec(text))
 }
 
-/// Keeps the payload as a file, and answers its id.
+/// Keeps the payload, which is handed over, as a file, and answers its id.
 pub fn put_file<I: Ident, K: Keeper>(
     alloc: Global,
     ident: &I,
-    payload: &[u8],
+    payload: Bytes,
     draft: &mut Draft<'_, K>,
 ) -> Result<Bytes, HistoryError>
     ensures same_reference { draft.new.keeper.ghost_name ≡ draft.old.keeper.ghost_name }
     ensures drafts { Drafts (I.meaning ident.now) K.contents K.leaves K.faults draft.old.keeper.now draft.new.keeper.now draft.old.pending draft.new.pending
-        (Steps (I.meaning ident.now) Call.PutFile payload.now) result }
+        (Steps (I.meaning ident.now) Call.PutFile payload) result }
 {
     let id = draft.put_file(ident, payload)?;
     Ok(id_text(alloc, id)?)

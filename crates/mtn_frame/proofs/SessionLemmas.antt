@@ -1,5 +1,5 @@
 -- The loop over the jobs of a session.
-use Rattle.std.proofs.Common.{◌≡◌, ◌≤◌, ◌<◌, ◌⊎◌, inl, inr, ℕ, zero, suc, ◌+◌, Bool, true, false, List, [], ◌∷◌, ◌++◌, length, take, Option, Some, None, refl, sym, ap, ◌∙◌, subst, arith, append_assoc, get_or}
+use Rattle.std.proofs.Common.{◌≡◌, ◌≤◌, ◌<◌, ◌⊎◌, inl, inr, ℕ, zero, suc, ◌+◌, Bool, true, false, List, [], ◌∷◌, ◌++◌, length, take, Option, Some, None, refl, sym, ap, ◌∙◌, subst, arith, append_assoc, length-append}
 use Rattle.std.specs.Prelude.{IfSome}
 use Rattle.std.specs.Io.KnownBytes.{Appends}
 use Rattle.std.proofs.KnownBytes.{Appends-trans}
@@ -60,13 +60,16 @@ some_after : {S : Type 0} (Stands : Contents → S → Type 0) (Is : Job → S �
 some_after Stands Is s jobs e [] o reaches stands = record { first = o; more = []; reaches = reaches; stands = stands }
 some_after Stands Is s jobs e (x ∷ os) o reaches stands = record { first = x; more = os ++ o ∷ []; reaches = reaches; stands = subst (Stands e) (sym (state_more x.state os o)) stands }
 
--- the job at a place of the list
-split_at_place : (xs : List Job) (n : ℕ) (job : Job) → n < length xs → job ≡ get_or xs n job → (front : List Job) × (rest : List Job) × (xs ≡ front ++ job ∷ rest) × (length front ≡ n)
-split_at_place [] n job inside is = absurd (omega (arith, inside))
-split_at_place (x ∷ xs) zero job inside is = ([], xs, ap (λ y. y ∷ xs) (sym is), refl)
-split_at_place (x ∷ xs) (suc n) job inside is =
-    let more = split_at_place xs n job (omega (arith, inside)) is in
-    (x ∷ more.0, more.1, ap (λ ys. x ∷ ys) more.2, ap suc more.3)
+-- the jobs so far with one more, and those that are left then
+pub jobs_again : (front left rest jobs : List Job) (job : Job) → front ++ left ≡ jobs → left ≡ job ∷ rest → (front ++ job ∷ []) ++ rest ≡ jobs
+jobs_again front left rest jobs job all is = append_assoc front (job ∷ []) rest ∙ ap (λ js. front ++ js) (sym is) ∙ all
+
+pub one_more_job : (front : List Job) (job : Job) (n : ℕ) → n ≡ length front → n + 1 ≡ length (front ++ job ∷ [])
+one_more_job front job n count = omega (arith, count, length-append front (job ∷ []))
+
+-- a job that is not the last has a number that can be counted on from
+pub is_before : (front left rest jobs : List Job) (job : Job) → front ++ left ≡ jobs → left ≡ job ∷ rest → length front < length jobs
+is_before front left rest jobs job all is = omega (arith, ap length all, length-append front left, ap length is)
 
 module _ {S : Type 0} (Stands : Contents → S → Type 0) (Damages Firsts : Contents → List ℕ → Type 0) (Refuses : Contents → Refusal → Type 0) (Lines : List ℕ → Type 0) {M : Type 0} (Knows : M → Contents → Type 0) {K : Type 0} (contents : K → Option Contents) (leaves : K → Contents → Type 0) (faults asked : K → ℕ)
     (Is : Job → S → JobOutcome S → Type 0) (jobs : List Job) (old : K) (w0 : Option (List ℕ)) (o0 : ℕ) where
@@ -236,23 +239,26 @@ module _ {S : Type 0} (Stands : Contents → S → Type 0) (Damages Firsts : Con
     sink_later = walking.sink_later;
   }
 
-  module _ (cur next : K) (m m1 : M) (w w1 : Option (List ℕ)) (o o1 : ℕ) (items : List Job) (n : ℕ) (job : Job) (spelled merges vouched : Bool) (bounded : S → ℕ → Type 0) (changed : Contents → Contents → Type 0) (result : Status) (same : items ≡ jobs) (inside : n < length items) (is : job ≡ get_or items n job)
+  module _ (cur next : K) (m m1 : M) (w w1 : Option (List ℕ)) (o o1 : ℕ) (front left rest : List Job) (job : Job) (n : ℕ) (spelled merges vouched : Bool) (bounded : S → ℕ → Type 0) (changed : Contents → Contents → Type 0) (result : Status) (all : front ++ left ≡ jobs) (is : left ≡ job ∷ rest) (count : n ≡ length front)
       (walking : Walking cur m w o n) (one : One Stands Damages Firsts Refuses Lines Knows contents leaves faults asked cur next m1 w w1 o o1 (Numbered n) spelled merges vouched (Is job) bounded changed result) where
+    about : jobs ≡ front ++ job ∷ rest
+    about = sym all ∙ ap (λ js. front ++ js) is
+
+    walked : Walking cur m w o (length front)
+    walked = subst (Walking cur m w o) count walking
+
+    this : One Stands Damages Firsts Refuses Lines Knows contents leaves faults asked cur next m1 w w1 o o1 (Numbered (length front)) spelled merges vouched (Is job) bounded changed result
+    this = subst (λ k. One Stands Damages Firsts Refuses Lines Knows contents leaves faults asked cur next m1 w w1 o o1 (Numbered k) spelled merges vouched (Is job) bounded changed result) count one
+
     pub ended_at : goes_on result ≡ false → RunsJobs Stands Damages Is contents leaves faults old next w0 w1 o0 o1 jobs result
-    ended_at off =
-        let at = split_at_place items n job inside is in
-        ends cur next m m1 w w1 o o1 at.0 at.1 job (sym same ∙ at.2) spelled merges vouched bounded changed result (subst (Walking cur m w o) (sym at.3) walking)
-        (subst (λ k. One Stands Damages Firsts Refuses Lines Knows contents leaves faults asked cur next m1 w w1 o o1 (Numbered k) spelled merges vouched (Is job) bounded changed result) (sym at.3) one) off
+    ended_at off = ends cur next m m1 w w1 o o1 front rest job about spelled merges vouched bounded changed result walked this off
 
     pub walked_on : goes_on result ≡ true → Walking next m1 w1 o1 (n + 1)
-    walked_on on =
-        let at = split_at_place items n job inside is in
-        subst (Walking next m1 w1 o1) (one_more at.0 n at.3)
-        (walks_on cur next m m1 w w1 o o1 at.0 at.1 job (sym same ∙ at.2) spelled merges vouched bounded changed result (subst (Walking cur m w o) (sym at.3) walking)
-        (subst (λ k. One Stands Damages Firsts Refuses Lines Knows contents leaves faults asked cur next m1 w w1 o o1 (Numbered k) spelled merges vouched (Is job) bounded changed result) (sym at.3) one) on)
+    walked_on on = subst (Walking next m1 w1 o1) (one_more front n count) (walks_on cur next m m1 w w1 o o1 front rest job about spelled merges vouched bounded changed result walked this on)
       where
-        one_more : (front : List Job) (k : ℕ) → length front ≡ k → suc (length front) ≡ k + 1
+        one_more : (front : List Job) (k : ℕ) → k ≡ length front → suc (length front) ≡ k + 1
         one_more front k e = omega (arith, e)
 
-  pub all_walked : (cur : K) (m : M) (w : Option (List ℕ)) (o : ℕ) (items : List Job) (n : ℕ) → items ≡ jobs → n ≡ length items → Walking cur m w o n → RunsJobs Stands Damages Is contents leaves faults old cur w0 w o0 o jobs status.Ok
-  all_walked cur m w o items n same long walking = all_done cur m w o (subst (Walking cur m w o) (long ∙ ap length same) walking)
+  pub all_walked : (cur : K) (m : M) (w : Option (List ℕ)) (o : ℕ) (front left : List Job) (n : ℕ) → front ++ left ≡ jobs → left ≡ [] → n ≡ length front → Walking cur m w o n → RunsJobs Stands Damages Is contents leaves faults old cur w0 w o0 o jobs status.Ok
+  all_walked cur m w o front left n all none count walking =
+      all_done cur m w o (subst (Walking cur m w o) (count ∙ ap length (sym (append-nil front) ∙ ap (λ js. front ++ js) (sym none) ∙ all)) walking)

@@ -16,22 +16,22 @@ use std::alloc::Global;
 fn work_on<C: Commands, K: Keeper>(
     alloc: Global,
     commands: &C,
-    job: &Job,
+    job: Job,
     memory: &mut C::Memory,
     keeper: &mut K,
 ) -> Result<Worked, WorkError>
     requires { IfSome (K.contents keeper.old) (C.knows commands.now memory.old) }
     ensures { Works (C.stands commands.now) (C.damages commands.now) (C.firsts commands.now) (C.refuses commands.now) C.lines (C.knows commands.now) K.contents K.leaves K.faults K.reads keeper.old keeper.new memory.new
-        (is_spelled C.spelled job.now) (is_merging C.merging job.now) (is_vouching C.vouching job.now) (Does (C.does commands.now) job.now) (BoundsJob (C.bounds commands.now) job.now) (ChangesJob (C.changes commands.now) job.now) result }
+        (is_spelled C.spelled job) (is_merging C.merging job) (is_vouching C.vouching job) (Does (C.does commands.now) job) (BoundsJob (C.bounds commands.now) job) (ChangesJob (C.changes commands.now) job) result }
 {
     match job {
         Job::Call { words, payload } => {
-            commands.work(alloc, words.as_slice(), payload.as_slice(), memory, keeper)
+            commands.work(alloc, words.as_slice(), payload, memory, keeper)
         }
         Job::BadInput { number } => Err(WorkError::Refused {
             refusal: Refusal {
                 packet: 0,
-                cause: Cause::BadRequest { number: *number },
+                cause: Cause::BadRequest { number },
             },
         }),
     }
@@ -67,14 +67,14 @@ pub fn one<C: Commands, O: Sink, K: Keeper>(
     alloc: Global,
     commands: &C,
     form: Form,
-    job: &Job,
+    job: Job,
     memory: &mut C::Memory,
     sink: &mut O,
     keeper: &mut K,
 ) -> Status
     requires { IfSome (K.contents keeper.old) (C.knows commands.now memory.old) }
     ensures { One (C.stands commands.now) (C.damages commands.now) (C.firsts commands.now) (C.refuses commands.now) C.lines (C.knows commands.now) K.contents K.leaves K.faults K.reads keeper.old keeper.new memory.new
-        (O.written sink.old) (O.written sink.new) (O.faults sink.old) (O.faults sink.new) form (is_spelled C.spelled job.now) (is_merging C.merging job.now) (is_vouching C.vouching job.now) (Does (C.does commands.now) job.now) (BoundsJob (C.bounds commands.now) job.now) (ChangesJob (C.changes commands.now) job.now) result }
+        (O.written sink.old) (O.written sink.new) (O.faults sink.old) (O.faults sink.new) form (is_spelled C.spelled job) (is_merging C.merging job) (is_vouching C.vouching job) (Does (C.does commands.now) job) (BoundsJob (C.bounds commands.now) job) (ChangesJob (C.changes commands.now) job) result }
 {
     let worked = work_on(alloc, commands, job, memory, keeper);
     let settled = settle(alloc, form, worked);

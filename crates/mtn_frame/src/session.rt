@@ -23,28 +23,31 @@ pub fn goes_on(status: Status) -> bool
     }
 }
 
-/// Does the jobs in order: each is done, put and answered before the next begins. A fault of the sink or of the keeper, want
+/// Does the jobs in order, each of which is handed over: each is done, put and answered before the next begins. A fault of the sink or of the keeper, want
 /// of memory and a damage end the session.
 pub fn run_jobs<C: Commands, O: Sink, K: Keeper>(
     alloc: Global,
     commands: &C,
-    jobs: &List<Job>,
+    jobs: List<Job>,
     memory: &mut C::Memory,
     sink: &mut O,
     keeper: &mut K,
 ) -> Status
     requires { IfSome (K.contents keeper.old) (C.knows commands.now memory.old) }
     ensures { RunsJobs (C.stands commands.now) (C.damages commands.now) (Does (C.does commands.now)) K.contents K.leaves K.faults keeper.old keeper.new
-        (O.written sink.old) (O.written sink.new) (O.faults sink.old) (O.faults sink.new) jobs.now result }
+        (O.written sink.old) (O.written sink.new) (O.faults sink.old) (O.faults sink.new) jobs result }
 {
-    for (number, job) in jobs.as_slice().iter().enumerate() {
-        let form = Form::Numbered {
-            number: number as u64,
-        };
+    let jobs = jobs.into_vec();
+    // No number is above it.
+    let _count = jobs.len();
+    let mut number = 0;
+    for job in jobs {
+        let form = Form::Numbered { number };
         let status = one(alloc, commands, form, job, memory, sink, keeper);
         if !goes_on(status) {
             return status;
         }
+        number += 1;
     }
     Status::Ok
 }
@@ -53,12 +56,12 @@ pub fn run_jobs<C: Commands, O: Sink, K: Keeper>(
 pub fn run_script<C: Commands, O: Sink, K: Keeper>(
     alloc: Global,
     commands: &C,
-    script: &Script,
+    script: Script,
     sink: &mut O,
     keeper: &mut K,
 ) -> Status
     ensures { RunsScript (C.stands commands.now) (C.damages commands.now) (C.firsts commands.now) (C.refuses commands.now) C.lines (Does (C.does commands.now)) (BoundsJob (C.bounds commands.now)) (ChangesJob (C.changes commands.now)) K.contents K.leaves K.faults K.reads keeper.old keeper.new
-        (O.written sink.old) (O.written sink.new) (O.faults sink.old) (O.faults sink.new) script.now (script_spelled C.spelled script.now) (script_merging C.merging script.now) (script_vouching C.vouching script.now) result }
+        (O.written sink.old) (O.written sink.new) (O.faults sink.old) (O.faults sink.new) script (script_spelled C.spelled script) (script_merging C.merging script) (script_vouching C.vouching script) result }
 {
     let mut memory = commands.begin(alloc);
     match script {

@@ -166,7 +166,7 @@ pub fn run_frame<C: Commands, S: Source, O: Sink, K: Keeper>(
         Err(ReadStop::NoMemory) => return Status::NoMemory,
     };
     match script_of(alloc, commands, words, input) {
-        Ok(script) => run_script(alloc, commands, &script, sink, keeper),
+        Ok(script) => run_script(alloc, commands, script, sink, keeper),
         Err(NoMemory) => Status::NoMemory,
     }
 }

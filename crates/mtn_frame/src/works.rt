@@ -108,16 +108,16 @@ pub trait Commands {
     fn begin(&self, alloc: Global) -> Self::Memory
         ensures knows { (c : Contents) → knows self.now result c };
 
-    /// Does one command. What is remembered must be true of the keeper's records.
+    /// Does one command, to which the payload is handed over. What is remembered must be true of the keeper's records.
     fn work<K: Keeper>(
         &self,
         alloc: Global,
         words: &[Bytes],
-        payload: &[u8],
+        payload: Bytes,
         memory: &mut Self::Memory,
         keeper: &mut K,
     ) -> Result<Worked, WorkError>
         requires knows { IfSome (K.contents keeper.old) (knows self.now memory.old) }
         ensures works { Works (stands self.now) (damages self.now) (firsts self.now) (refuses self.now) lines (knows self.now) K.contents K.leaves K.faults K.reads keeper.old keeper.new memory.new
-            (spelled words.now) (merging words.now) (vouching words.now) (does self.now words.now payload.now) (bounds self.now words.now payload.now) (changes self.now words.now payload.now) result };
+            (spelled words.now) (merging words.now) (vouching words.now) (does self.now words.now payload) (bounds self.now words.now payload) (changes self.now words.now payload) result };
 }

@@ -26,7 +26,7 @@ fn add<I: Ident, K: Keeper>(
         (λ s. Adds (I.meaning ident.now) revision (work_of work) (grown s (tips_of tips.now))) result }
 {
     let texts = files_of(alloc, revision, work)?;
-    match put_files(ident, draft, &texts) {
+    match put_files(ident, draft, texts) {
         Ok(()) => put_work(alloc, ident, draft, revision, work, tips),
         Err(error) => Err(GenerateError::Failed(error)),
     }

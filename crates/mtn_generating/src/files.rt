@@ -46,21 +46,21 @@ pub fn files_of(alloc: Global, revision: u64, work: Work) -> Result<Vec<Bytes>, 
     }
 }
 
-/// Keeps texts as files, one after the other. An error leaves those before it pending.
+/// Keeps texts, which are handed over, as files, one after the other. An error leaves those before it pending.
 pub fn put_files<I: Ident, K: Keeper>(
     ident: &I,
     draft: &mut Draft<'_, K>,
-    texts: &[Bytes],
+    texts: Vec<Bytes>,
 ) -> Result<(), HistoryError>
     ensures same_reference { draft.new.keeper.ghost_name ≡ draft.old.keeper.ghost_name }
     ensures stays { Stays K.contents K.leaves K.faults draft.old.keeper.now draft.new.keeper.now }
     ensures puts { (c : Contents) (s : State) → K.contents draft.new.keeper.now ≡ Some c → IsDraft (I.meaning ident.now) c draft.old.pending s
-        → PutsFiles (I.meaning ident.now) c s texts.now result draft.new.pending }
+        → PutsFiles (I.meaning ident.now) c s texts.items result draft.new.pending }
     ensures sound { IfErr result (λ e. IfStoreDamage e (λ _. ⊥)) }
     ensures failed { result ≡ Err (HistoryError.Store StoreError.Failed) → Rose (K.faults draft.old.keeper.now) (K.faults draft.new.keeper.now) }
 {
     for text in texts {
-        match draft.put_file(ident, text.as_slice()) {
+        match draft.put_file(ident, text) {
             Ok(_) => {}
             Err(error) => return Err(error),
         }

@@ -204,6 +204,17 @@ impl<'a, K: Keeper> Draft<'a, K> {
         self.pending.put(table, key, body)
     }
 
+    /// The same with a body that is handed over, which is not copied.
+    pub fn keep_owned(&mut self, table: u8, key: &[u8], body: Bytes) -> Result<(), NoMemory>
+        requires beside { is_beside table ≡ true }
+        requires keyed { 0 < length key.now }
+        ensures keeper { self.new.keeper ≡ self.old.keeper }
+        ensures ok { OnOk result (self.new.pending ≡ record self.old.pending { batch = self.old.pending.batch ++ record_puts self.old.pending.is_new self.old.pending.count table key.now body; is_new = false }) }
+        ensures err { OnErr result (self.new.pending ≡ self.old.pending) }
+    {
+        self.pending.put_owned(table, key, body)
+    }
+
     /// Puts the records of one more revision, behind both records of table 1 where there are none: its text under its id,
     /// and under its position its record of the log and its roster's; then there is one more revision. An error leaves all
     /// as it was.

@@ -11,57 +11,59 @@ ghost use Rattle.mtn_ports.specs.Ident.{MakesIds};
 ghost use Rattle.mtn_history.specs.Stands.{IsDraft, IsFounded};
 
 use crate::{Draft, FILES, HistoryError, StoreError};
-use mtn_base::{Cause, Id, MAX_TEXT};
+use mtn_base::{Bytes, Cause, Id, MAX_TEXT};
 use mtn_ports::{Ident, Keeper};
 
 impl<'a, K: Keeper> Draft<'a, K> {
-    /// Keeps a file under its id, which it answers. A file that is held with the same bytes is kept
-    /// already. It is refused as TextTooLong above 64 MiB, and as Collision where other bytes are held
+    /// Keeps a file under its id, which it answers. The bytes are handed over, and not copied. A file that is held with the
+    /// same bytes is kept already. It is refused as TextTooLong above 64 MiB, and as Collision where other bytes are held
     /// under the id. Any error leaves what is pending as it was.
-    pub fn put_file<I: Ident>(&mut self, ident: &I, bytes: &[u8]) -> Result<Id, HistoryError>
+    pub fn put_file<I: Ident>(&mut self, ident: &I, bytes: Bytes) -> Result<Id, HistoryError>
         ensures same_reference { self.new.keeper.ghost_name ≡ self.old.keeper.ghost_name }
         ensures stays { Stays K.contents K.leaves K.faults self.old.keeper.now self.new.keeper.now }
         ensures accepts { (c : Contents) (s : State) → K.contents self.new.keeper.now ≡ Some c → IsDraft (I.meaning ident.now) c self.old.pending s
-            → AcceptsFile (I.meaning ident.now) c s bytes.now result self.new.pending }
+            → AcceptsFile (I.meaning ident.now) c s bytes result self.new.pending }
         ensures err { OnErr result (self.new.pending ≡ self.old.pending) }
         ensures sound { IfErr result (λ e. IfStoreDamage e (λ _. ⊥)) }
         ensures failed { result ≡ Err (HistoryError.Store StoreError.Failed) → Rose (K.faults self.old.keeper.now) (K.faults self.new.keeper.now) }
         ensures reads { K.reads self.new.keeper.now ≤ K.reads self.old.keeper.now + 1 }
     {
-        if bytes.len() > MAX_TEXT {
+        let text = bytes.as_slice();
+        if text.len() > MAX_TEXT {
             return Err(HistoryError::Refused(Cause::TextTooLong {
-                length: bytes.len() as u64,
+                length: text.len() as u64,
             }));
         }
-        let id = ident.id(bytes);
+        let id = ident.id(text);
         self.put_file_as(id, bytes)?;
         Ok(id)
     }
 
     /// Keeps a file as [`Draft::put_file`] does, under an id that the caller has and that is not computed again. That it is the
     /// id of these bytes is trusted by the clause alone.
-    pub fn put_file_as(&mut self, id: Id, bytes: &[u8]) -> Result<(), HistoryError>
+    pub fn put_file_as(&mut self, id: Id, bytes: Bytes) -> Result<(), HistoryError>
         ensures same_reference { self.new.keeper.ghost_name ≡ self.old.keeper.ghost_name }
         ensures stays { Stays K.contents K.leaves K.faults self.old.keeper.now self.new.keeper.now }
         ensures accepts { (f : List ℕ → List ℕ) (c : Contents) (s : State) → K.contents self.new.keeper.now ≡ Some c → IsDraft f c self.old.pending s
-            → id.0 ≡ f bytes.now → KeepsFile f c s bytes.now result self.new.pending }
+            → id.0 ≡ f bytes → KeepsFile f c s bytes result self.new.pending }
         ensures err { OnErr result (self.new.pending ≡ self.old.pending) }
         ensures sound { IfErr result (λ e. IfStoreDamage e (λ _. ⊥)) }
         ensures failed { result ≡ Err (HistoryError.Store StoreError.Failed) → Rose (K.faults self.old.keeper.now) (K.faults self.new.keeper.now) }
         ensures reads { K.reads self.new.keeper.now ≤ K.reads self.old.keeper.now + 1 }
     {
-        if bytes.len() > MAX_TEXT {
+        let text = bytes.as_slice();
+        if text.len() > MAX_TEXT {
             return Err(HistoryError::Refused(Cause::TextTooLong {
-                length: bytes.len() as u64,
+                length: text.len() as u64,
             }));
         }
         let key = id.0.as_slice();
         let mut held = Vec::new(self.alloc());
         if !self.get(FILES, key, &mut held)? {
-            self.keep(FILES, key, bytes)?;
+            self.keep_owned(FILES, key, bytes)?;
             return Ok(());
         }
-        if held.as_slice() != bytes {
+        if held.as_slice() != bytes.as_slice() {
             return Err(HistoryError::Refused(Cause::Collision { id }));
         }
         Ok(())

@@ -92,6 +92,16 @@ impl Pending {
         ensures ok { OnOk result (self.new ≡ record self.old { batch = self.old.batch ++ record_puts self.old.is_new self.old.count table key.now body.now; is_new = false }) }
         ensures err { OnErr result (self.new ≡ self.old) }
     {
+        let body = Bytes::from_slice(self.alloc, body)?;
+        self.put_owned(table, key, body)
+    }
+
+    /// The same with a body that is handed over, which is not copied.
+    pub fn put_owned(&mut self, table: u8, key: &[u8], body: Bytes) -> Result<(), NoMemory>
+        requires { 0 < length key.now }
+        ensures ok { OnOk result (self.new ≡ record self.old { batch = self.old.batch ++ record_puts self.old.is_new self.old.count table key.now body; is_new = false }) }
+        ensures err { OnErr result (self.new ≡ self.old) }
+    {
         let len = self.batch.len();
         let result = put_all(&mut self.batch, self.is_new, self.count, table, key, body);
         match result {
@@ -177,15 +187,15 @@ fn put_all(
     count: u64,
     table: u8,
     key: &[u8],
-    body: &[u8],
+    body: Bytes,
 ) -> Result<(), NoMemory>
     requires { 0 < length key.now }
-    ensures ok { OnOk result (batch.new ≡ batch.old ++ record_puts is_new count table key.now body.now) }
+    ensures ok { OnOk result (batch.new ≡ batch.old ++ record_puts is_new count table key.now body) }
     ensures front { take (length batch.old) batch.new ≡ batch.old }
     ensures longer { length batch.old ≤ length batch.new }
 {
     put_meta(batch, is_new, count)?;
-    batch.put(table, key, body)
+    batch.put_owned(table, key, body)
 }
 
 // What table 1 says: remembered, or read.

@@ -13,13 +13,13 @@ ghost use Rattle.mtn_reading.specs.Reading.{IsOne, ReadsTo};
 
 use crate::Counts;
 use crate::counts::one_where;
-use mtn_base::Id;
+use mtn_base::{Bytes, Id};
 use mtn_history::{Draft, HistoryError, StoreError};
 use mtn_ports::{Ident, Keeper};
 use mtn_put_revision::put_revision_as;
 use std::alloc::Global;
 
-/// Keeps a file under the id that it has.
+/// Keeps a copy of a file under the id that it has.
 pub fn read_file<K: Keeper>(
     draft: &mut Draft<'_, K>,
     id: Id,
@@ -34,8 +34,9 @@ pub fn read_file<K: Keeper>(
     ensures sound { IfErr result (λ e. IfStoreDamage e (λ _. ⊥)) }
     ensures failed { result ≡ Err (HistoryError.Store StoreError.Failed) → Rose (K.faults draft.old.keeper.now) (K.faults draft.new.keeper.now) }
 {
+    let copy = Bytes::from_slice(draft.alloc(), bytes)?;
     let held = draft.has_file(id)?;
-    draft.put_file_as(id, bytes)?;
+    draft.put_file_as(id, copy)?;
     Ok(Counts {
         files: one_where(!held),
         revisions: 0,

@@ -2,9 +2,6 @@
 use Rattle.mtn_commands.proofs.ReplyLemmas.{replies_as}
 use Rattle.mtn_commands.proofs.on_draft.on_draft.Goals as goal
 
-pub returns-in-PutFile-clause-replies : goal.returns-in-PutFile-clause-replies
-returns-in-PutFile-clause-replies g c = rw c.in-PutFile.is (replies_as _ _ _ _ _ _ _ _ _ _ c.put_file.result c.told.result c.told.ensures c.put_file.ensures.drafts)
-
 pub returns-in-GetFile-clause-replies : goal.returns-in-GetFile-clause-replies
 returns-in-GetFile-clause-replies g c = rw c.in-GetFile.is (replies_as _ _ _ _ _ _ _ _ _ _ c.get_file.result c.told-in-GetFile.result c.told-in-GetFile.ensures c.get_file.ensures.drafts)
 
@@ -63,7 +60,10 @@ pub unreachable-requires-in-Read : goal.unreachable-requires-in-Read
 unreachable-requires-in-Read g c = c.requires.other c.in-Read.is
 
 pub unreachable-requires : goal.unreachable-requires
-unreachable-requires g c = c.requires.unput c.in-PutRevision.is
+unreachable-requires g c = c.requires.unkept c.in-PutFile.is
+
+pub unreachable-requires-in-PutRevision : goal.unreachable-requires-in-PutRevision
+unreachable-requires-in-PutRevision g c = c.requires.unput c.in-PutRevision.is
 
 pub unreachable-requires-in-Generate : goal.unreachable-requires-in-Generate
 unreachable-requires-in-Generate g c = c.requires.ungenerated c.in-Generate.count c.in-Generate.is

@@ -6,7 +6,7 @@ use Rattle.mtn_commands.proofs.put_file.put_file.Goals as goal
 pub returns-clause-drafts : goal.returns-clause-drafts
 returns-clause-drafts g c =
     let f = g.I.Ident.meaning c.args.ident.now in
-    let payload = c.args.payload.now in
+    let payload = c.args.payload in
     record {
       stays = c.in_ok-id.ensures.stays;
       done = λ k s told draft.
