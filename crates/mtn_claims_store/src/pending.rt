@@ -57,12 +57,7 @@ pub fn put(pending: &mut Pending, table: u8, key: &[u8], body: &[u8]) -> Result<
 }
 
 /// `Pending::put_owned`.
-pub fn put_owned(
-    pending: &mut Pending,
-    table: u8,
-    key: &[u8],
-    body: Bytes,
-) -> Result<(), NoMemory>
+pub fn put_owned(pending: &mut Pending, table: u8, key: &[u8], body: Bytes) -> Result<(), NoMemory>
     requires { 0 < length key.now }
     ensures ok { OnOk result (pending.new ≡ record pending.old { batch = pending.old.batch ++ record_puts pending.old.is_new pending.old.count table key.now body; is_new = false }) }
     ensures err { OnErr result (pending.new ≡ pending.old) }

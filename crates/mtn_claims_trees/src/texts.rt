@@ -24,11 +24,7 @@ pub fn manifest(roster: &Roster, out: &mut Vec<u8>) -> Result<(), NoMemory>
 }
 
 /// `mtn_manifest::write_along`.
-pub fn manifest_along(
-    roster: &Roster,
-    stops: &[Stop],
-    out: &mut Vec<u8>,
-) -> Result<(), NoMemory>
+pub fn manifest_along(roster: &Roster, stops: &[Stop], out: &mut Vec<u8>) -> Result<(), NoMemory>
     requires { AreStops roster.now stops.now }
     ensures ok { OnOk result (out.new.items ≡ out.old.items ++ spelling (manifest_of roster.now)) }
     ensures err { OnErr result (out.new.items ≡ out.old.items) }

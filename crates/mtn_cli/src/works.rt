@@ -174,15 +174,7 @@ pub fn work_job<R: Threads + Sync, I: Ident, K: Keeper>(
 {
     match job {
         Job::Call { words, payload } => {
-            work_words(
-                rt,
-                alloc,
-                ident,
-                words.as_slice(),
-                payload,
-                memory,
-                keeper,
-            )
+            work_words(rt, alloc, ident, words.as_slice(), payload, memory, keeper)
         }
         Job::BadInput { number } => Err(WorkError::Refused {
             refusal: Refusal {

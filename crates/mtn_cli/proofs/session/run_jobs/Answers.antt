@@ -16,7 +16,7 @@ loop-job-init g c = record {
   all = c.into_iter.ensures.rest ∙ c.into_vec-jobs.ensures;
   count = refl;
   walking = begins (StandsIn (g.I.Ident.meaning c.args.ident.now)) (ShowsDamage (g.I.Ident.meaning c.args.ident.now) (list_any job_reading c.args.jobs ≡ true) (list_any job_checking c.args.jobs ≡ true) (list_any job_migrating c.args.jobs ≡ true)) (IsFirstLine (g.I.Ident.meaning c.args.ident.now)) IsOldStore IsLine Knows g.K.Keeper.contents g.K.Keeper.leaves g.K.Keeper.faults g.K.Keeper.reads (Does (Step (g.I.Ident.meaning c.args.ident.now))) c.args.jobs
-    c.args.keeper.now (g.O.Sink.written c.args.sink.now) (g.O.Sink.faults c.args.sink.now) c.args.memory.now c.requires;
+      c.args.keeper.now (g.O.Sink.written c.args.sink.now) (g.O.Sink.faults c.args.sink.now) c.args.memory.now c.requires;
 }
 
 pub returns-then-not-goes_on : goal.returns-then-not-goes_on
@@ -33,11 +33,11 @@ loop-job-preserved g c = record {
   all = jobs_again c.loop-job.yielded (into_iter_items c.loop-job.job-iterator) (into_iter_items c.next.new.self) c.args.jobs c.in-Some.job c.loop-job.invariant.all c.in-Some.ensures.steps.0;
   count = one_more_job c.loop-job.yielded c.in-Some.job c.loop-job.number c.loop-job.invariant.count;
   walking = walked_on (StandsIn (g.I.Ident.meaning c.args.ident.now)) (ShowsDamage (g.I.Ident.meaning c.args.ident.now) (list_any job_reading c.args.jobs ≡ true) (list_any job_checking c.args.jobs ≡ true) (list_any job_migrating c.args.jobs ≡ true)) (IsFirstLine (g.I.Ident.meaning c.args.ident.now)) IsOldStore IsLine Knows g.K.Keeper.contents g.K.Keeper.leaves g.K.Keeper.faults g.K.Keeper.reads (Does (Step (g.I.Ident.meaning c.args.ident.now))) c.args.jobs
-    c.args.keeper.now (g.O.Sink.written c.args.sink.now) (g.O.Sink.faults c.args.sink.now)
-    c.loop-job.keeper c.one-status.new.keeper c.loop-job.memory c.one-status.new.memory (g.O.Sink.written c.loop-job.sink) (g.O.Sink.written c.one-status.new.sink) (g.O.Sink.faults c.loop-job.sink) (g.O.Sink.faults c.one-status.new.sink)
-    c.loop-job.yielded (into_iter_items c.loop-job.job-iterator) (into_iter_items c.next.new.self) c.in-Some.job c.loop-job.number (job_spelled is_spelled c.in-Some.job) (job_merging is_merging c.in-Some.job) (job_vouching is_checking c.in-Some.job) (BoundsJob (bounds (g.I.Ident.meaning c.args.ident.now)) c.in-Some.job) (ChangesJob (changes (g.I.Ident.meaning c.args.ident.now)) c.in-Some.job) c.one-status.result c.loop-job.invariant.all c.in-Some.ensures.steps.0 c.loop-job.invariant.count c.loop-job.invariant.walking
-    (one_of_jobs (g.I.Ident.meaning c.args.ident.now) Knows g.K.Keeper.contents g.K.Keeper.leaves g.K.Keeper.faults g.K.Keeper.reads c.loop-job.keeper c.one-status.new.keeper c.one-status.new.memory (g.O.Sink.written c.loop-job.sink) (g.O.Sink.written c.one-status.new.sink) (g.O.Sink.faults c.loop-job.sink) (g.O.Sink.faults c.one-status.new.sink)
-    _ _ _ _ _ _ _ c.one-status.result c.args.jobs c.loop-job.yielded (into_iter_items c.loop-job.job-iterator) (into_iter_items c.next.new.self) c.in-Some.job c.loop-job.invariant.all c.in-Some.ensures.steps.0 c.one-status.ensures) (sym c.goes_on.ensures ∙ c.if-not-goes_on.false);
+      c.args.keeper.now (g.O.Sink.written c.args.sink.now) (g.O.Sink.faults c.args.sink.now)
+      c.loop-job.keeper c.one-status.new.keeper c.loop-job.memory c.one-status.new.memory (g.O.Sink.written c.loop-job.sink) (g.O.Sink.written c.one-status.new.sink) (g.O.Sink.faults c.loop-job.sink) (g.O.Sink.faults c.one-status.new.sink)
+      c.loop-job.yielded (into_iter_items c.loop-job.job-iterator) (into_iter_items c.next.new.self) c.in-Some.job c.loop-job.number (job_spelled is_spelled c.in-Some.job) (job_merging is_merging c.in-Some.job) (job_vouching is_checking c.in-Some.job) (BoundsJob (bounds (g.I.Ident.meaning c.args.ident.now)) c.in-Some.job) (ChangesJob (changes (g.I.Ident.meaning c.args.ident.now)) c.in-Some.job) c.one-status.result c.loop-job.invariant.all c.in-Some.ensures.steps.0 c.loop-job.invariant.count c.loop-job.invariant.walking
+      (one_of_jobs (g.I.Ident.meaning c.args.ident.now) Knows g.K.Keeper.contents g.K.Keeper.leaves g.K.Keeper.faults g.K.Keeper.reads c.loop-job.keeper c.one-status.new.keeper c.one-status.new.memory (g.O.Sink.written c.loop-job.sink) (g.O.Sink.written c.one-status.new.sink) (g.O.Sink.faults c.loop-job.sink) (g.O.Sink.faults c.one-status.new.sink)
+      _ _ _ _ _ _ _ c.one-status.result c.args.jobs c.loop-job.yielded (into_iter_items c.loop-job.job-iterator) (into_iter_items c.next.new.self) c.in-Some.job c.loop-job.invariant.all c.in-Some.ensures.steps.0 c.one-status.ensures) (sym c.goes_on.ensures ∙ c.if-not-goes_on.false);
 }
 
 pub returns : goal.returns

@@ -14,5 +14,5 @@ invariant-loop-job g l = record {
   all : l.yielded ++ into_iter_items l.job-iterator ≡ l.fn.jobs;
   count : l.number ≡ length l.yielded;
   walking : Walking (StandsIn (g.I.Ident.meaning l.fn.ident)) (ShowsDamage (g.I.Ident.meaning l.fn.ident) (list_any job_reading l.fn.jobs ≡ true) (list_any job_checking l.fn.jobs ≡ true) (list_any job_migrating l.fn.jobs ≡ true)) (IsFirstLine (g.I.Ident.meaning l.fn.ident)) IsOldStore IsLine Knows g.K.Keeper.contents g.K.Keeper.leaves g.K.Keeper.faults g.K.Keeper.reads (Does (Step (g.I.Ident.meaning l.fn.ident))) l.fn.jobs
-    l.fn.keeper (g.O.Sink.written l.fn.sink) (g.O.Sink.faults l.fn.sink) l.keeper l.memory (g.O.Sink.written l.sink) (g.O.Sink.faults l.sink) l.number;
+      l.fn.keeper (g.O.Sink.written l.fn.sink) (g.O.Sink.faults l.fn.sink) l.keeper l.memory (g.O.Sink.written l.sink) (g.O.Sink.faults l.sink) l.number;
 }

@@ -10,7 +10,7 @@ loop-job-init g c = record {
   all = c.into_iter.ensures.rest ∙ c.into_vec-jobs.ensures;
   count = refl;
   walking = begins (g.C.Commands.stands c.args.commands.now) (g.C.Commands.damages c.args.commands.now) (g.C.Commands.firsts c.args.commands.now) (g.C.Commands.refuses c.args.commands.now) g.C.Commands.lines (g.C.Commands.knows c.args.commands.now) g.K.Keeper.contents g.K.Keeper.leaves g.K.Keeper.faults g.K.Keeper.reads (Does (g.C.Commands.does c.args.commands.now)) c.args.jobs
-    c.args.keeper.now (g.O.Sink.written c.args.sink.now) (g.O.Sink.faults c.args.sink.now) c.args.memory.now c.requires;
+      c.args.keeper.now (g.O.Sink.written c.args.sink.now) (g.O.Sink.faults c.args.sink.now) c.args.memory.now c.requires;
 }
 
 pub returns-then-not-goes_on : goal.returns-then-not-goes_on
@@ -25,9 +25,9 @@ loop-job-preserved g c = record {
   all = jobs_again c.loop-job.yielded (into_iter_items c.loop-job.job-iterator) (into_iter_items c.next.new.self) c.args.jobs c.in-Some.job c.loop-job.invariant.all c.in-Some.ensures.steps.0;
   count = one_more_job c.loop-job.yielded c.in-Some.job c.loop-job.number c.loop-job.invariant.count;
   walking = walked_on (g.C.Commands.stands c.args.commands.now) (g.C.Commands.damages c.args.commands.now) (g.C.Commands.firsts c.args.commands.now) (g.C.Commands.refuses c.args.commands.now) g.C.Commands.lines (g.C.Commands.knows c.args.commands.now) g.K.Keeper.contents g.K.Keeper.leaves g.K.Keeper.faults g.K.Keeper.reads (Does (g.C.Commands.does c.args.commands.now)) c.args.jobs
-    c.args.keeper.now (g.O.Sink.written c.args.sink.now) (g.O.Sink.faults c.args.sink.now)
-    c.loop-job.keeper c.one-status.new.keeper c.loop-job.memory c.one-status.new.memory (g.O.Sink.written c.loop-job.sink) (g.O.Sink.written c.one-status.new.sink) (g.O.Sink.faults c.loop-job.sink) (g.O.Sink.faults c.one-status.new.sink)
-    c.loop-job.yielded (into_iter_items c.loop-job.job-iterator) (into_iter_items c.next.new.self) c.in-Some.job c.loop-job.number (is_spelled g.C.Commands.spelled c.in-Some.job) (is_merging g.C.Commands.merging c.in-Some.job) (is_vouching g.C.Commands.vouching c.in-Some.job) (BoundsJob (g.C.Commands.bounds c.args.commands.now) c.in-Some.job) (ChangesJob (g.C.Commands.changes c.args.commands.now) c.in-Some.job) c.one-status.result c.loop-job.invariant.all c.in-Some.ensures.steps.0 c.loop-job.invariant.count c.loop-job.invariant.walking c.one-status.ensures (sym c.goes_on.ensures ∙ c.if-not-goes_on.false);
+      c.args.keeper.now (g.O.Sink.written c.args.sink.now) (g.O.Sink.faults c.args.sink.now)
+      c.loop-job.keeper c.one-status.new.keeper c.loop-job.memory c.one-status.new.memory (g.O.Sink.written c.loop-job.sink) (g.O.Sink.written c.one-status.new.sink) (g.O.Sink.faults c.loop-job.sink) (g.O.Sink.faults c.one-status.new.sink)
+      c.loop-job.yielded (into_iter_items c.loop-job.job-iterator) (into_iter_items c.next.new.self) c.in-Some.job c.loop-job.number (is_spelled g.C.Commands.spelled c.in-Some.job) (is_merging g.C.Commands.merging c.in-Some.job) (is_vouching g.C.Commands.vouching c.in-Some.job) (BoundsJob (g.C.Commands.bounds c.args.commands.now) c.in-Some.job) (ChangesJob (g.C.Commands.changes c.args.commands.now) c.in-Some.job) c.one-status.result c.loop-job.invariant.all c.in-Some.ensures.steps.0 c.loop-job.invariant.count c.loop-job.invariant.walking c.one-status.ensures (sym c.goes_on.ensures ∙ c.if-not-goes_on.false);
 }
 
 pub returns : goal.returns
