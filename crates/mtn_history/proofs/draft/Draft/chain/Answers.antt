@@ -27,7 +27,7 @@ returns-in_err-record-clause-asks g c = asks_within g.K.Keeper.contents g.K.Keep
 
 pub returns-in_err-record-clause-damaged : goal.returns-in_err-record-clause-damaged
 returns-in_err-record-clause-damaged g c =
-    let p = err_from_is_err_and c.from_residual.result c.from_residual.ensures.1 in
+    let p = err_from_is_err_and c.from_residual-in_err-record.result c.from_residual-in_err-record.ensures.1 in
     rw (p.1, p.2) (unmade (g.K.Keeper.contents c.rostered.new.self.keeper.now) c.args.self.now.pending.batch c.args.at c.loop-depth.next c.in_err-record.field-0.0 c.loop-depth.invariant.low
     (subst (λ (p : Pending). IfSome (g.K.Keeper.contents c.rostered.new.self.keeper.now) (λ d. IfDamage c.in_err-record.field-0.0 (UnrosteredAt (with_all d p.batch) c.loop-depth.next))) c.loop-depth.invariant.asks.pending c.in_err-record.ensures.damaged))
 
@@ -48,11 +48,11 @@ pub loop-depth-preserved : goal.loop-depth-preserved
 loop-depth-preserved g c = record {
   asks = asks_on g.K.Keeper.contents g.K.Keeper.leaves g.K.Keeper.faults g.K.Keeper.reads c.loop-depth.depth 1 c.args.self.now c.loop-depth.self c.rostered.new.self c.loop-depth.invariant.asks c.rostered.ensures.asks;
   long = one_more_record c.loop-depth.chain.items c.push.new.self.items c.in_ok-record.record c.loop-depth.depth c.loop-depth.invariant.long c.in_ok-push.ensures.items;
-  low = stays_low c.in_ok-record.record c.args.at c.loop-depth.next c.in-Some-2.base (sym c.base_of-base.ensures ∙ c.in-Some-2.is) c.in_ok-record.ensures.below c.loop-depth.invariant.low;
-  path = path_next (g.K.Keeper.contents c.loop-depth.self.keeper.now) (g.K.Keeper.contents c.rostered.new.self.keeper.now) c.args.self.now.pending.batch c.args.at c.loop-depth.next c.in-Some-2.base c.loop-depth.chain.items c.push.new.self.items c.in_ok-record.record
+  low = stays_low c.in_ok-record.record c.args.at c.loop-depth.next c.in-Some-base.base (sym c.base_of-base.ensures ∙ c.in-Some-base.is) c.in_ok-record.ensures.below c.loop-depth.invariant.low;
+  path = path_next (g.K.Keeper.contents c.loop-depth.self.keeper.now) (g.K.Keeper.contents c.rostered.new.self.keeper.now) c.args.self.now.pending.batch c.args.at c.loop-depth.next c.in-Some-base.base c.loop-depth.chain.items c.push.new.self.items c.in_ok-record.record
       c.rostered.ensures.asks.stays.same c.loop-depth.invariant.path
       (subst (λ (p : Pending). IfSome (g.K.Keeper.contents c.rostered.new.self.keeper.now) (λ d. IsRostered (with_all d p.batch) c.loop-depth.next c.in_ok-record.record)) c.loop-depth.invariant.asks.pending c.in_ok-record.ensures.read)
-      (sym c.base_of-base.ensures ∙ c.in-Some-2.is) c.in_ok-push.ensures.items;
+      (sym c.base_of-base.ensures ∙ c.in-Some-base.is) c.in_ok-push.ensures.items;
 }
 
 pub returns-clause-asks : goal.returns-clause-asks
