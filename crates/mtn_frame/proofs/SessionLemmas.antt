@@ -67,6 +67,14 @@ jobs_again front left rest jobs job all is = append_assoc front (job ∷ []) res
 pub one_more_job : (front : List Job) (job : Job) (n : ℕ) → n ≡ length front → n + 1 ≡ length (front ++ job ∷ [])
 one_more_job front job n count = omega (arith, count, length-append front (job ∷ []))
 
+-- so many are left
+pub one_less : (left rest : List Job) (job : Job) (n m : ℕ) → n ≡ length left → left ≡ job ∷ rest → m + 1 ≡ n → m ≡ length rest
+one_less left rest job n m long is less = omega (arith, long, ap length is, less)
+
+pub none_left : (left : List Job) → length left ≡ 0 → left ≡ []
+none_left [] none = refl
+none_left (x ∷ left) none = absurd (omega (arith, none))
+
 -- a job that is not the last has a number that can be counted on from
 pub is_before : (front left rest jobs : List Job) (job : Job) → front ++ left ≡ jobs → left ≡ job ∷ rest → length front < length jobs
 is_before front left rest jobs job all is = omega (arith, ap length all, length-append front left, ap length is)

@@ -1,5 +1,5 @@
 -- Texts that are kept as files, one after the other.
-use Rattle.std.proofs.Common.{◌≡◌, ℕ, List, [], ◌∷◌, ◌++◌, append_assoc, Option, Some, None, Ok, Err, refl, sym, ap, ◌∙◌, subst}
+use Rattle.std.proofs.Common.{◌≡◌, ◌+◌, ℕ, List, [], ◌∷◌, ◌++◌, length, arith, append_assoc, Option, Some, None, Ok, Err, refl, sym, ap, ◌∙◌, subst}
 use Rattle.std.proofs.lemmas.List.{append-nil}
 use Rattle.mtn_base.specs.declared.id.Id.{Id}
 use Rattle.mtn_base.specs.declared.refusal.Cause.{Cause}
@@ -65,5 +65,10 @@ module _ (f : List ℕ → List ℕ) where
     not_put (Refused cause) accepts = refused cause accepts
     not_put (Store e) accepts = accepts
 
-  pub all_put : (c : Contents) (s : State) (texts front left : List (List ℕ)) (p : Pending) → front ++ left ≡ texts → left ≡ [] → HasPut c s front p → PutsFiles f c s texts (Ok tt) p
-  all_put c s texts front left p all none so = subst (λ (xs : List (List ℕ)). HasPut c s xs p) (sym (append-nil front) ∙ ap (λ (xs : List (List ℕ)). front ++ xs) (sym none) ∙ all) so
+  pub all_put : (c : Contents) (s : State) (texts front left : List (List ℕ)) (p : Pending) → front ++ left ≡ texts → length left ≡ 0 → HasPut c s front p → PutsFiles f c s texts (Ok tt) p
+  all_put c s texts front [] p all none so = subst (λ (xs : List (List ℕ)). HasPut c s xs p) (sym (append-nil front) ∙ all) so
+  all_put c s texts front (x ∷ left) p all none so = absurd (omega (arith, none))
+
+-- so many are left
+pub one_less : (left rest : List (List ℕ)) (text : List ℕ) (n m : ℕ) → n ≡ length left → left ≡ text ∷ rest → m + 1 ≡ n → m ≡ length rest
+one_less left rest text n m long is less = omega (arith, long, ap length is, less)

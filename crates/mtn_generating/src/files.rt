@@ -59,6 +59,7 @@ pub fn put_files<I: Ident, K: Keeper>(
     ensures sound { IfErr result (λ e. IfStoreDamage e (λ _. ⊥)) }
     ensures failed { result ≡ Err (HistoryError.Store StoreError.Failed) → Rose (K.faults draft.old.keeper.now) (K.faults draft.new.keeper.now) }
 {
+    let _count = texts.len();
     for text in texts {
         match draft.put_file(ident, text) {
             Ok(_) => {}
