@@ -16,7 +16,7 @@ ghost use Rattle.mtn_put_revision.specs.Finding.{IsFound};
 ghost use Rattle.mtn_put_revision.specs.Keeping.{AreKeptAt, AreParents, IsFirstRebuilt, IsMade, with_text};
 ghost use Rattle.mtn_put_revision.specs.Writing.{AllAscend, IsNextTree};
 
-use crate::records::{KeptParents, Written, log_body, log_record, next_number, write_record};
+use crate::records::{KeptParents, Written, log_body, next_number, write_record};
 use crate::unfit::unfit;
 use mtn_ancestry::Pos;
 use mtn_base::Id;
@@ -76,8 +76,7 @@ pub fn keep<K: Keeper>(
         entries,
         depth,
     } = written;
-    let entry = log_record(id, free, known.places);
-    let log = log_body(alloc, &entry, at)?;
+    let (entry, log) = log_body(alloc, id, free, known.places, at)?;
     let rebuilt = Rebuilt {
         entries,
         roster,

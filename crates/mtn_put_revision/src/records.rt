@@ -14,7 +14,7 @@ ghost use Rattle.mtn_history.specs.Errors.{IfDamage};
 ghost use Rattle.mtn_history.specs.Revisions.{next_of};
 ghost use Rattle.mtn_history.specs.Stands.{IsFounded};
 ghost use Rattle.mtn_put_revision.specs.Finding.{IsFound};
-ghost use Rattle.mtn_put_revision.specs.Keeping.{IsDeltaBody, IsWhole, IsWrittenOn};
+ghost use Rattle.mtn_put_revision.specs.Keeping.{IsDeltaBody, IsLogBodyOf, IsWhole, IsWrittenOn};
 ghost use Rattle.mtn_put_revision.specs.Writing.{AllAscend, IsTyped, NoneHas};
 
 use crate::typed::typed_record;
@@ -169,27 +169,26 @@ fn parent_list(places: &[Pos]) -> ParentList
     }
 }
 
-/// The record of the log of a revision with these parents.
-pub fn log_record(id: Id, next_node: u64, places: &[Pos]) -> LogRecord
-    requires { length places.now ≤ 2 }
-    ensures id { result.id ≡ id }
-    ensures next { result.next_node ≡ next_node }
-    ensures parents { list_of result.parents ≡ places.now }
+/// The record of the log of a revision with these parents, and its body under its position.
+pub fn log_body(
+    alloc: Global,
+    id: Id,
+    next_node: u64,
+    places: &[Pos],
+    at: Pos,
+) -> Result<(LogRecord, Bytes), NoMemory>
+    requires few { length places.now ≤ 2 }
+    requires below { All (λ p. p < at) places.now }
+    ensures body { IfOk result (λ r. IsLogBodyOf id next_node places.now at r.1) }
+    ensures record_of { IfOk result (λ r. IsLogAt at r.1 r.0) }
 {
-    LogRecord {
+    let log = LogRecord {
         id,
         next_node,
         parents: parent_list(places),
-    }
-}
-
-/// The body of a record of the log under its position.
-pub fn log_body(alloc: Global, log: &LogRecord, at: Pos) -> Result<Bytes, NoMemory>
-    requires { All (λ p. p < at) (list_of log.now.parents) }
-    ensures { IfOk result (λ body. IsLogAt at body log.now) }
-{
-    let _twenty = log.id.as_slice();
+    };
+    let _twenty = id.as_slice();
     let mut body = Vec::new(alloc);
-    write_log(log, &mut body)?;
-    Ok(Items::from_vec(body))
+    write_log(&log, &mut body)?;
+    Ok((log, Items::from_vec(body)))
 }

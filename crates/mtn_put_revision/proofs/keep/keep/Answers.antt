@@ -1,15 +1,11 @@
 -- The records are those of the state with the text.
-use Rattle.std.proofs.Common.{◌<◌, List, ℕ, true, Option, Ok, refl, sym, ap, ◌∙◌, subst, ◌≤◌, ◌+◌}
+use Rattle.std.proofs.Common.{◌<◌, List, ℕ, true, Option, Ok, refl, sym, ap, ◌∙◌, subst, ◌≤◌, ◌+◌, arith}
 use Rattle.std.specs.Prelude.{All, IfSome, IsTrue}
-use Rattle.mtn_ancestry.specs.Log.{list_of}
-use Rattle.mtn_base.specs.declared.id.Id.{Id}
 use Rattle.mtn_changes.specs.declared.change.Edge.{Edge}
 use Rattle.mtn_roster_deltas.specs.Numbering.{shown, AreKnown}
 use Rattle.mtn_replay.specs.Lawful.{IsNext}
 use Rattle.mtn_replay.specs.Making.{made}
 use Rattle.mtn_model.specs.State.{State}
-use Rattle.mtn_records.specs.Bounds.{IsLogAt}
-use Rattle.mtn_records.specs.declared.record.LogRecord.{LogRecord}
 use Rattle.mtn_ports.specs.Kept.{with_all}
 use Rattle.mtn_ports.proofs.KeptLemmas.{stays_trans}
 use Rattle.mtn_history.specs.Errors.{IfDamage}
@@ -27,12 +23,6 @@ use Rattle.mtn_put_revision.proofs.Grounds.{moved}
 use Rattle.mtn_put_revision.proofs.Numbers.{parents_known}
 use Rattle.mtn_put_revision.proofs.Putting.{kept_draft, new_rebuilt}
 use Rattle.mtn_put_revision.proofs.keep.keep.Goals as goal
-
--- the body of a record is that of its parts
-body_of : (entry : LogRecord) (id : Id) (next : ℕ) (places : List ℕ) (at : ℕ) (body : List ℕ) → entry.id ≡ id → entry.next_node ≡ next → list_of entry.parents ≡ places → IsLogAt at body entry → IsLogBodyOf id next places at body
-body_of entry id next places at body is free same text =
-    let whole : entry ≡ record { id = id; next_node = next; parents = entry.parents } = λ i. record { id = is i; next_node = free i; parents = entry.parents } in
-    record { parents = entry.parents; same = same; text = subst (IsLogAt at body) whole text }
 
 pub returns-in-Err-Clash-clause-stays : goal.returns-in-Err-Clash-clause-stays
 returns-in-Err-Clash-clause-stays g c = stays_trans g.K.Keeper.contents g.K.Keeper.leaves g.K.Keeper.faults _ _ _ c.in_ok-next.ensures.stays c.unfit.ensures.stays
@@ -57,15 +47,11 @@ keep_revision-requires-clause-right g c =
     let known = c.args.known.now in
     let w = c.in-Some.written in
     let said = subst (λ (o : Option Written). IfSome o (IsWrittenOn c.args.known.now.places.now (shown c.args.known.now.entries.now) c.args.known.now.depth c.in-Ok.numbers.0 c.count.result)) c.in-Some.is c.in_ok-written.ensures.record in
-    moved (λ (x : Pending). IfSome mid (λ y. IsRebuilt (with_all y (with_revision x (record { id = c.args.id.0; text = c.args.text.now }) c.in_ok-log.log w.body).batch) x.count w.entries c.args.roster w.depth)) p c.next_number.new.draft.pending (sym c.in_ok-next.ensures.pending)
-    (subst (λ es. IfSome mid (λ y. IsRebuilt (with_all y (with_revision p (record { id = c.args.id.0; text = c.args.text.now }) c.in_ok-log.log w.body).batch) p.count es c.args.roster w.depth)) (sym said.1)
-    (new_rebuilt mid p (record { id = c.args.id.0; text = c.args.text.now }) c.in_ok-log.log w.body known.places.now (shown known.entries.now) known.depth w.depth c.in-Ok.numbers.0 c.args.roster c.requires.room c.requires.below c.in-Ok.ensures.spells
+    moved (λ (x : Pending). IfSome mid (λ y. IsRebuilt (with_all y (with_revision x (record { id = c.args.id.0; text = c.args.text.now }) c.in_ok-entry.log w.body).batch) x.count w.entries c.args.roster w.depth)) p c.next_number.new.draft.pending (sym c.in_ok-next.ensures.pending)
+    (subst (λ es. IfSome mid (λ y. IsRebuilt (with_all y (with_revision p (record { id = c.args.id.0; text = c.args.text.now }) c.in_ok-entry.log w.body).batch) p.count es c.args.roster w.depth)) (sym said.1)
+    (new_rebuilt mid p (record { id = c.args.id.0; text = c.args.text.now }) c.in_ok-entry.log w.body known.places.now (shown known.entries.now) known.depth w.depth c.in-Ok.numbers.0 c.args.roster c.requires.room c.requires.below c.in-Ok.ensures.spells
     (subst (λ n. IsRecordOn known.places.now (shown known.entries.now) known.depth c.in-Ok.numbers.0 n w.body w.depth) c.count.ensures said.0)
     (told_back (g.K.Keeper.contents c.args.draft.now.keeper.now) mid (λ y. IsFirstRebuilt (with_all y p.batch) known.places.now (shown known.entries.now) known.depth) c.in_ok-next.ensures.stays.same c.requires.first)))
-
-pub log_body-requires : goal.log_body-requires
-log_body-requires g c =
-    subst (λ (ps : List ℕ). All (λ p. p < c.count.result) ps) (sym c.log_record-entry.ensures.parents) (subst (λ n. All (λ p. p < n) c.args.known.now.places.now) (sym c.count.ensures) c.requires.below)
 
 pub remember_log-requires-clause-below : goal.remember_log-requires-clause-below
 remember_log-requires-clause-below g c =
@@ -75,8 +61,8 @@ remember_log-requires-clause-below g c =
 
 pub remember_log-requires-clause-right : goal.remember_log-requires-clause-right
 remember_log-requires-clause-right g c =
-    logged_told (g.K.Keeper.contents c.keep_revision.new.self.keeper.now) c.next_number.new.draft.pending c.keep_revision.new.self.pending (record { id = c.args.id.0; text = c.args.text.now }) c.in_ok-log.log c.in-Some.written.body
-    c.count.result c.log_record-entry.result c.in_ok-keep_revision.ensures.ok (c.count.ensures ∙ ap (λ (x : Pending). x.count) (sym c.in_ok-next.ensures.pending)) c.in_ok-log.ensures
+    logged_told (g.K.Keeper.contents c.keep_revision.new.self.keeper.now) c.next_number.new.draft.pending c.keep_revision.new.self.pending (record { id = c.args.id.0; text = c.args.text.now }) c.in_ok-entry.log c.in-Some.written.body
+    c.count.result c.in_ok-entry.entry c.in_ok-keep_revision.ensures.ok (c.count.ensures ∙ ap (λ (x : Pending). x.count) (sym c.in_ok-next.ensures.pending)) c.in_ok-entry.ensures.record_of
 
 pub returns-clause-kept : goal.returns-clause-kept
 returns-clause-kept g c =
@@ -88,11 +74,11 @@ returns-clause-kept g c =
     subst (λ h. (f : List ℕ → List ℕ) (s : State) → (d : IsFounded f (g.K.Keeper.contents h.now) p s) → (edges : List Edge) → IsMade d.stands.history edges c.args.id c.args.roster →
     AreParents d.stands.history d.stands.kept edges known.places.now (shown known.entries.now) known.depth → IsNext f s.files d.stands.history (record { id = c.args.id.0; text = c.args.text.now }) (made d.stands.history c.args.id edges) →
     IsTrue true → IsDraft f d.records c.remember_log.new.self.pending (with_text s (record { id = c.args.id.0; text = c.args.text.now }))) (sym (c.remember_log.ensures.keeper ∙ c.in_ok-keep_revision.ensures.keeper)) (λ f s d edges made_is parents accepted kept.
-    kept_draft f told p s d c.args.id c.args.text.now edges c.args.roster known.places.now (shown known.entries.now) known.depth c.in_ok-next.next c.in-Ok.numbers.1 w.depth c.in-Ok.numbers.0 w.body c.in_ok-log.log c.remember_log.new.self.pending
+    kept_draft f told p s d c.args.id c.args.text.now edges c.args.roster known.places.now (shown known.entries.now) known.depth c.in_ok-next.next c.in-Ok.numbers.1 w.depth c.in-Ok.numbers.0 w.body c.in_ok-entry.log c.remember_log.new.self.pending
     c.requires.room (c.in_ok-next.ensures.next f s d) c.in-Ok.ensures.numbers c.in-Ok.ensures.next
     (subst (λ n. IsRecordOn known.places.now (shown known.entries.now) known.depth c.in-Ok.numbers.0 n w.body w.depth) c.count.ensures said.0)
-    (subst (λ n. IsLogBodyOf c.args.id c.in-Ok.numbers.1 known.places.now n c.in_ok-log.log) c.count.ensures (body_of c.log_record-entry.result c.args.id c.in-Ok.numbers.1 known.places.now c.count.result c.in_ok-log.log c.log_record-entry.ensures.id c.log_record-entry.ensures.next c.log_record-entry.ensures.parents c.in_ok-log.ensures))
-    (c.remember_log.ensures.pending ∙ c.in_ok-keep_revision.ensures.ok ∙ ap (λ (q : Pending). with_revision q (record { id = c.args.id.0; text = c.args.text.now }) c.in_ok-log.log w.body) c.in_ok-next.ensures.pending)
+    (subst (λ n. IsLogBodyOf c.args.id c.in-Ok.numbers.1 known.places.now n c.in_ok-entry.log) c.count.ensures c.in_ok-entry.ensures.body)
+    (c.remember_log.ensures.pending ∙ c.in_ok-keep_revision.ensures.ok ∙ ap (λ (q : Pending). with_revision q (record { id = c.args.id.0; text = c.args.text.now }) c.in_ok-entry.log w.body) c.in_ok-next.ensures.pending)
     made_is parents accepted)
 
 pub returns-in_default-clause-none : goal.returns-in_default-clause-none
