@@ -3,7 +3,7 @@ use Rattle.mtn_commands.proofs.ReplyLemmas.{replies_as}
 use Rattle.mtn_commands.proofs.on_draft.on_draft.Goals as goal
 
 pub returns-in-GetFile-clause-replies : goal.returns-in-GetFile-clause-replies
-returns-in-GetFile-clause-replies g c = rw c.in-GetFile.is (replies_as _ _ _ _ _ _ _ _ _ _ c.get_file.result c.told-in-GetFile.result c.told-in-GetFile.ensures c.get_file.ensures.drafts)
+returns-in-GetFile-clause-replies g c = rw c.in-GetFile.is (replies_as _ _ _ _ _ _ _ _ _ _ c.get_file.result c.told.result c.told.ensures c.get_file.ensures.drafts)
 
 pub returns-in-GetRevision-clause-replies : goal.returns-in-GetRevision-clause-replies
 returns-in-GetRevision-clause-replies g c = rw c.in-GetRevision.is (replies_as _ _ _ _ _ _ _ _ _ _ c.get_revision.result c.told-in-GetRevision.result c.told-in-GetRevision.ensures c.get_revision.ensures.drafts)
