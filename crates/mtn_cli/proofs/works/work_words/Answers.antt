@@ -11,6 +11,6 @@ pub returns-in-Err-Usage : goal.returns-in-Err-Usage
 returns-in-Err-Usage g c =
     misused (g.I.Ident.meaning c.args.ident.now) Knows g.K.Keeper.contents g.K.Keeper.leaves g.K.Keeper.faults g.K.Keeper.reads c.args.payload c.args.keeper.now c.args.memory.now (call_of c.args.words.now) (rw c.in-Err-Usage.field-0-is at c.in-Err-Usage.ensures) c.requires
 
-pub returns-in-Err-NoMemory : goal.returns-in-Err-NoMemory
-returns-in-Err-NoMemory g c =
+pub returns : goal.returns
+returns g c =
     wanted (g.I.Ident.meaning c.args.ident.now) Knows g.K.Keeper.contents g.K.Keeper.leaves g.K.Keeper.faults g.K.Keeper.reads c.args.payload c.args.keeper.now c.args.memory.now (call_of c.args.words.now) c.requires
