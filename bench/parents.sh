@@ -1,6 +1,7 @@
 #!/bin/bash
 # Makes a store file of 100,000 revisions in a line, by sqlite3 and the formats of docs/FORMATS.md, and asks for the parents
-# of the last: as a multiple of what opening the store takes, in the same run. The best of five counts.
+# of the last, and for what it has that the tenth before it has not: each as a multiple of what opening the store takes, in the same
+# run. The best of five counts.
 cd "$(dirname "${BASH_SOURCE[0]}")/.." || exit 1
 ./mtn --version >/dev/null || exit 1
 work=$(mktemp -d)
@@ -33,4 +34,7 @@ opening, _ = best('get_file', '0' * 40)
 asked, told = best('parents', child.hex())
 assert told == parent.hex().encode() + b'\n', told
 print(f'parents in a store of 100,000 revisions: {asked:.2f} s, opening it {opening:.2f} s: {asked / opening:.2f} times (at most 1.2)')
+asked, told = best('ancestry_difference', child.hex(), ids[-11].hex())
+assert told == b''.join(id.hex().encode() + b'\n' for id in ids[-10:]), told
+print(f'ancestry_difference of near revisions there: {asked:.2f} s: {asked / opening:.2f} times')
 PYTHON

@@ -1,8 +1,8 @@
 //! Cases over a store: calls of `run` over objects in memory, and what stands below it, on lines of standard input. Each
 //! line that asks gives one line that answers; lines of comment and empty lines are copied, so both files go side by side.
 //!
-//! A *session* begins with `store`; the lines behind it speak of its keeper. Texts are in escapes (`text.rt` of `mtn_case_records`), so that a
-//! payload is one line; records are in hexadecimal digits.
+//! A *session* begins with `store`; the lines behind it speak of its keeper. Texts are in escapes (`text.rt` of `mtn_case_records`),
+//! so that a payload is one line; records are in hexadecimal digits.
 //!
 //! - `store plain|doubtful sha1|toy FAILING..`: a store without records; the keeper's calls of these numbers fail.
 //! - `record TABLE KEY BODY`: puts a record into it, which is a call of the keeper.

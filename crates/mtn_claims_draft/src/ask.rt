@@ -1,21 +1,12 @@
 //! The queries of the graph, and ids as lines.
-ghost use Rattle.std.specs.Prelude.{◌++◌, ◌≡◌, List as Seq, ℕ, Err, IfErr, IfOk, IfSome, OnOk};
+ghost use Rattle.std.specs.Prelude.{◌++◌, ◌≡◌, IfOk, OnOk};
 ghost use Rattle.hex.specs.Hex.{encode_lower};
-ghost use Rattle.mtn_commands.specs.Asking.{FindsAnswer};
 ghost use Rattle.mtn_commands.specs.Drafts.{Drafts};
-ghost use Rattle.mtn_history.specs.Asking.{OnlyAsks};
-ghost use Rattle.mtn_history.specs.Damage.{IsDamage};
-ghost use Rattle.mtn_history.specs.Errors.{IfStoreDamage};
-ghost use Rattle.mtn_history.specs.Marked.{IsCounted};
-ghost use Rattle.mtn_history.specs.Stands.{IsFounded};
-ghost use Rattle.mtn_model.specs.State.{State};
-ghost use Rattle.mtn_ports.specs.Causes.{Rose};
-ghost use Rattle.mtn_ports.specs.Kept.{with_all};
 ghost use Rattle.mtn_step.specs.Step.{Steps, id_lines as lines_of};
 
-use mtn_base::{Bytes, Id, List, NoMemory};
+use mtn_base::{Bytes, Id, NoMemory};
 use mtn_graph_queries::Query;
-use mtn_history::{Draft, HistoryError, StoreError};
+use mtn_history::{Draft, HistoryError};
 use mtn_ports::{Ident, Keeper};
 use mtn_step::Call;
 use std::alloc::Global;
@@ -32,21 +23,6 @@ pub fn id_lines(alloc: Global, ids: &[Id]) -> Result<Bytes, NoMemory>
     ensures { IfOk result (λ text. text ≡ lines_of ids.now) }
 {
     mtn_commands::ask::id_lines(alloc, ids)
-}
-
-/// As `mtn_commands::parents::parents_of`.
-pub fn parents_of<K: Keeper>(
-    alloc: Global,
-    draft: &mut Draft<'_, K>,
-    of: Id,
-) -> Result<List<Id>, HistoryError>
-    ensures asks { OnlyAsks K.contents K.leaves K.faults K.reads 4 draft.old draft.new }
-
-    ensures found { (f : Seq ℕ → Seq ℕ) (s : State) (d : IsFounded f (K.contents draft.new.keeper.now) draft.old.pending s) → FindsAnswer d.stands.history (Query.Parents of) result }
-    ensures damaged { IfSome (K.contents draft.new.keeper.now) (λ c. IsCounted draft.old.pending c → IfErr result (λ e. IfStoreDamage e (IsDamage (with_all c draft.old.pending.batch)))) }
-    ensures failed { result ≡ Err (HistoryError.Store StoreError.Failed) → Rose (K.faults draft.old.keeper.now) (K.faults draft.new.keeper.now) }
-{
-    mtn_commands::parents::parents_of(alloc, draft, of)
 }
 
 /// As `mtn_commands::ask::ask`.

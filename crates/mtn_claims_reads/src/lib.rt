@@ -1,8 +1,11 @@
 //! How many records a revision's text asks for: the promise of `mtn_put_revision`, under its
-//! clause `reads` with the call as its body; `mtn_claims_store` restates the others.
+//! clause `reads` with the call as its body; `mtn_claims_store` restates the others. And the queries of `mtn_near_queries`, which
+//! ask for those near their revisions alone.
 //!
-//! Each edit of `must-fail/` puts a body that asks for more in the place of the call, and is refused.
+//! Each edit of `must-fail/` puts a body that asks for more, or answers something else, in the place of the call, and is refused.
 #![tactic(auto)]
+
+pub mod near;
 
 ghost use Rattle.std.specs.Prelude.{◌≡◌, ◌≤◌, ◌+◌, IfSome, Some, ℕ};
 ghost use Rattle.mtn_history.specs.Stands.{IsDraft, IsFounded};

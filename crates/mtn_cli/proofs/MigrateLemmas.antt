@@ -2,7 +2,7 @@
 use Rattle.std.specs.FinMap.{insert}
 use Rattle.std.specs.Prelude.{IfSome, ⊤, if◌then◌else◌}
 use Rattle.std.specs.List.{AllByRecursion}
-use Rattle.std.proofs.Common.{◌≡◌, ◌≤◌, ◌+◌, ◌⊎◌, ◌&&◌, ◌==◌, inl, inr, ℕ, Bool, true, false, List, [], ◌∷◌, Option, Some, Result, Ok, Err, refl, sym, ap, ◌∙◌, subst, arith}
+use Rattle.std.proofs.Common.{◌≡◌, ◌≤◌, ◌+◌, ◌⊎◌, ◌==◌, inl, inr, ℕ, Bool, true, false, List, [], ◌∷◌, Option, Some, Result, Ok, Err, refl, sym, ap, ◌∙◌, subst, arith}
 use Rattle.mtn_commands.specs.Drafts.{may_conflict, reads_packets, whole_error}
 use Rattle.mtn_frame.specs.Script.{refused}
 use Rattle.mtn_frame.specs.Works.{Works, WorksOver, puts_of}

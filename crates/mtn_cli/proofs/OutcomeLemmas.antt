@@ -1,5 +1,5 @@
 -- Words have one outcome.
-use Rattle.std.proofs.Common.{◌≡◌, ℕ, List, Option, Some, None, refl, sym, ap, ◌∙◌}
+use Rattle.std.proofs.Common.{◌≡◌, ℕ, List, Option, Some, None, sym, ap, ◌∙◌}
 use Rattle.mtn_cli.specs.Run.{IsLawfulStore}
 use Rattle.mtn_cli.specs.Step.{StepIn, StepOf, StepOlder, migrated_or, present}
 use Rattle.mtn_frame.specs.Outcome.{JobOutcome as Ending}

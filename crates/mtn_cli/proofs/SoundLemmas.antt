@@ -17,7 +17,7 @@ use Rattle.mtn_old_stores.specs.Stores.{StandsIn, Store as AnyStore}
 use Rattle.mtn_old_stores.specs.Stores.Store.{Older, Present}
 use Rattle.mtn_history.specs.declared.errors.Damage.{Damage}
 use Rattle.mtn_check_laws.specs.FirstDamage.{IsFirstDamage}
-use Rattle.mtn_step.specs.Step.{done, refusal_line, sound_text}
+use Rattle.mtn_step.specs.Step.{refusal_line, sound_text}
 use Rattle.mtn_step.specs.declared.call.Call.TheVariants.{Check}
 use Rattle.mtn_words.specs.Calls.{call_of}
 use Rattle.mtn_cli.specs.Run.{ChecksAreSound, is_read}

@@ -1,5 +1,5 @@
 -- The commands of a store, by the words that they are spelled with.
-use Rattle.std.proofs.Common.{◌≡◌, ℕ, true, List, Option, Some, None, Result, Ok, Err, refl, sym, subst, arith}
+use Rattle.std.proofs.Common.{◌≡◌, ℕ, true, List, Option, Some, None, Result, Err, refl, sym, subst, arith}
 use Rattle.std.specs.Prelude.{IfSome, is_some}
 use Rattle.mtn_model.specs.Table.{Contents}
 use Rattle.mtn_frame.specs.Works.{Works, misused as misuses}

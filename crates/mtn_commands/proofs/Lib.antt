@@ -8,7 +8,7 @@ pub mod HeadsMerging
 pub mod CertsLemmas
 pub mod MergeLemmas
 pub mod QueryLemmas
-pub mod ParentsLemmas
+pub mod NearLemmas
 pub mod ViewLemmas
 pub mod PacketsLemmas
 pub mod ReadingLemmas

@@ -1,4 +1,3 @@
-pub mod Asking
 pub mod Certifying
 pub mod Drafts
 pub mod Reading

@@ -1,14 +1,14 @@
 // The queries of the graph.
-ghost use Rattle.std.specs.Prelude.{◌≡◌, ◌++◌, IfOk, OnOk};
+ghost use Rattle.std.specs.Prelude.{◌≡◌, ◌++◌, ◌∷◌, [], IfOk, OnOk};
 ghost use Rattle.std.specs.List.{flat_map};
 ghost use Rattle.hex.specs.Hex.{encode_lower};
 ghost use Rattle.mtn_commands.specs.Drafts.{Drafts, query_refusal as refusal};
 ghost use Rattle.mtn_step.specs.Step.{Steps, id_lines as lines_of, line_text};
 
-use crate::parents::parents_of;
 use mtn_base::{Bytes, Cause, Id, List, NoMemory};
 use mtn_graph_queries::{Line, Query, QueryError, answer, lines};
 use mtn_history::{Draft, HistoryError, StoreError};
+use mtn_near_queries::{difference_of, parents_of};
 use mtn_ports::{Ident, Keeper};
 use mtn_step::Call;
 use std::alloc::Global;
@@ -84,6 +84,23 @@ fn ask_parents<I: Ident, K: Keeper>(
     Ok(id_lines(alloc, ids.as_slice())?)
 }
 
+// Answers what a revision has at or above it that another has not.
+fn ask_difference<I: Ident, K: Keeper>(
+    alloc: Global,
+    ident: &I,
+    of: Id,
+    without: Id,
+    payload: &[u8],
+    draft: &mut Draft<'_, K>,
+) -> Result<Bytes, HistoryError>
+    ensures same_reference { draft.new.keeper.ghost_name ≡ draft.old.keeper.ghost_name }
+    ensures drafts { Drafts (I.meaning ident.now) K.contents K.leaves K.faults draft.old.keeper.now draft.new.keeper.now draft.old.pending draft.new.pending
+        (Steps (I.meaning ident.now) (Call.Ask (Query.AncestryDifference of (without ∷ []))) payload.now) result }
+{
+    let ids = difference_of(alloc, draft, of, without)?;
+    Ok(id_lines(alloc, ids.as_slice())?)
+}
+
 // Answers any query, by the whole graph.
 fn ask_graph<I: Ident, K: Keeper>(
     alloc: Global,
@@ -103,7 +120,29 @@ fn ask_graph<I: Ident, K: Keeper>(
     }
 }
 
-/// Answers the ids that a query of the graph asks for. The parents of one revision are found without the rest of the log.
+// The same of any number of others: by the whole graph where they are not one.
+fn ask_without<I: Ident, K: Keeper>(
+    alloc: Global,
+    ident: &I,
+    of: Id,
+    query: &Query,
+    without: &[Id],
+    payload: &[u8],
+    draft: &mut Draft<'_, K>,
+) -> Result<Bytes, HistoryError>
+    requires asked { query.now ≡ Query.AncestryDifference of without.now }
+    ensures same_reference { draft.new.keeper.ghost_name ≡ draft.old.keeper.ghost_name }
+    ensures drafts { Drafts (I.meaning ident.now) K.contents K.leaves K.faults draft.old.keeper.now draft.new.keeper.now draft.old.pending draft.new.pending
+        (Steps (I.meaning ident.now) (Call.Ask query.now) payload.now) result }
+{
+    match without {
+        [other] => ask_difference(alloc, ident, of, *other, payload, draft),
+        _ => ask_graph(alloc, ident, query, payload, draft),
+    }
+}
+
+/// Answers the ids that a query of the graph asks for. The parents of one revision, and what it has that one other has not, are
+/// found without the rest of the log.
 pub fn ask<I: Ident, K: Keeper>(
     alloc: Global,
     ident: &I,
@@ -117,6 +156,9 @@ pub fn ask<I: Ident, K: Keeper>(
 {
     match query {
         Query::Parents { of } => ask_parents(alloc, ident, *of, payload, draft),
+        Query::AncestryDifference { of, without } => {
+            ask_without(alloc, ident, *of, query, without.as_slice(), payload, draft)
+        }
         _ => ask_graph(alloc, ident, query, payload, draft),
     }
 }

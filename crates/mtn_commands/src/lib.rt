@@ -25,7 +25,6 @@ pub mod merge;
 pub mod merge_heads;
 mod on_draft;
 pub mod packets;
-pub mod parents;
 pub mod perform;
 pub mod put_file;
 pub mod put_revision;

@@ -25,7 +25,8 @@ use mtn_ports::{Ident, Keeper};
 use mtn_step::Call;
 use std::alloc::Global;
 
-/// What a command other than `put_file`, `put_revision`, `read`, `generate`, `check` and `migrate` does over a draft, and replies: its line of the step. One arm a command.
+/// What a command other than `put_file`, `put_revision`, `read`, `generate`, `check` and `migrate` does over a draft, and replies: its
+/// line of the step. One arm a command.
 pub fn on_draft<I: Ident, K: Keeper>(
     alloc: Global,
     call: &Call,

@@ -22,8 +22,9 @@ use mtn_step::Call;
 use std::alloc::Global;
 use std::thread::Threads;
 
-/// What a command other than `check` and `migrate` does over a draft with nothing pending, and replies: its line of the step. `rt` is for the
-/// ids of many packets. The payload is handed over: `put_file` keeps it without a copy, and every other command only looks at it.
+/// What a command other than `check` and `migrate` does over a draft with nothing pending, and replies: its line of the step. `rt` is
+/// for the ids of many packets. The payload is handed over: `put_file` keeps it without a copy, and every other command only looks
+/// at it.
 pub fn perform<R: Threads + Sync, I: Ident, K: Keeper>(
     rt: &R,
     alloc: Global,

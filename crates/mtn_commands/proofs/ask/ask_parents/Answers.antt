@@ -2,7 +2,7 @@ use Rattle.std.proofs.Common.{Err, ap, ◌∙◌}
 use Rattle.std.proofs.lemmas.Result.{err_from_is_err_and}
 use Rattle.mtn_answers.specs.declared.query.Query.TheVariants.{Parents}
 use Rattle.mtn_step.specs.Step.{id_lines}
-use Rattle.mtn_commands.proofs.ParentsLemmas.{query_answered, query_failed}
+use Rattle.mtn_commands.proofs.NearLemmas.{query_answered, query_failed}
 use Rattle.mtn_commands.proofs.ask.ask_parents.Goals as goal
 
 pub returns-in_err-ids-clause-drafts : goal.returns-in_err-ids-clause-drafts

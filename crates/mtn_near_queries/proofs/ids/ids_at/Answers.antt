@@ -1,4 +1,3 @@
-use Rattle.std.specs.List.{AllZip}
 use Rattle.std.specs.Prelude.{IfSome}
 use Rattle.std.proofs.Common.{◌<◌, ◌+◌, List, ℕ, length, Err, ap, ◌∙◌, subst, sym, arith}
 use Rattle.std.proofs.lemmas.List.{take_all}
@@ -10,14 +9,15 @@ use Rattle.mtn_history.specs.Errors.{IfDamage}
 use Rattle.mtn_history.specs.Logs.{IsLogOf, UnloggedAt}
 use Rattle.mtn_history.specs.Stands.{IsFounded}
 use Rattle.mtn_history.specs.declared.pending.Pending.{Pending}
-use Rattle.mtn_history_laws.specs.History.{IsPlaceOf}
 use Rattle.mtn_ports.specs.Kept.{with_all}
-use Rattle.mtn_commands.proofs.ParentsLemmas.{as_store_error, id_placed, listed_at}
-use Rattle.mtn_commands.proofs.parents.ids_at.Goals as goal
+use Rattle.mtn_near_queries.specs.Finding.{AreNamedAt}
+use Rattle.mtn_near_queries.proofs.Damages.{as_store_error}
+use Rattle.mtn_near_queries.proofs.ParentsLemmas.{id_placed}
+use Rattle.mtn_near_queries.proofs.ids.ids_at.Goals as goal
 
 pub returns-in_err-log_at-clause-asks : goal.returns-in_err-log_at-clause-asks
 returns-in_err-log_at-clause-asks g c =
-    asks_within g.K.Keeper.contents g.K.Keeper.leaves g.K.Keeper.faults g.K.Keeper.reads (c.loop-at.at-index + 1) (length c.args.places.now)
+    asks_within g.K.Keeper.contents g.K.Keeper.leaves g.K.Keeper.faults g.K.Keeper.reads (c.loop-at.at-index + 1) (length c.args.positions.now)
     c.args.draft.now c.log_at.new.self (omega (arith, c.loop-at-test.true))
     (asks_on g.K.Keeper.contents g.K.Keeper.leaves g.K.Keeper.faults g.K.Keeper.reads c.loop-at.at-index 1 c.args.draft.now
     c.loop-at.draft c.log_at.new.self c.loop-at.invariant.asks c.log_at.ensures.asks)
@@ -37,7 +37,7 @@ returns-in_err-log_at-clause-damaged g c =
 
 pub returns-in_err-push-clause-asks : goal.returns-in_err-push-clause-asks
 returns-in_err-push-clause-asks g c =
-    asks_within g.K.Keeper.contents g.K.Keeper.leaves g.K.Keeper.faults g.K.Keeper.reads (c.loop-at.at-index + 1) (length c.args.places.now)
+    asks_within g.K.Keeper.contents g.K.Keeper.leaves g.K.Keeper.faults g.K.Keeper.reads (c.loop-at.at-index + 1) (length c.args.positions.now)
     c.args.draft.now c.log_at.new.self (omega (arith, c.loop-at-test.true))
     (asks_on g.K.Keeper.contents g.K.Keeper.leaves g.K.Keeper.faults g.K.Keeper.reads c.loop-at.at-index 1 c.args.draft.now
     c.loop-at.draft c.log_at.new.self c.loop-at.invariant.asks c.log_at.ensures.asks)
@@ -56,19 +56,17 @@ loop-at-preserved g c =
           let low : at < q.count = c.requires.below at (c.loop-at.at-index, c.loop-at-test.true, sym c.at-item.is) in
           let logged = subst (λ (p : Pending). (b : IsFounded f now p s) → at < p.count → IsLogOf b.stands.history b.stands.kept at log)
           c.loop-at.invariant.asks.pending (c.in_ok-log_at.ensures.found f s) d low in
-          named_more d.stands.history c.args.places.now c.loop-at.at-index at c.loop-at.ids.items c.push.new.self.items log.id
+          named_more d.stands.history c.args.positions.now c.loop-at.at-index at c.loop-at.ids.items c.push.new.self.items log.id
           c.loop-at-test.true c.at-item.is c.in_ok-push.ensures.items
           (c.loop-at.invariant.found f s e) (id_placed d.stands.history d.stands.kept at log logged);
     }
 
 pub returns-clause-asks : goal.returns-clause-asks
 returns-clause-asks g c =
-    asks_within g.K.Keeper.contents g.K.Keeper.leaves g.K.Keeper.faults g.K.Keeper.reads c.loop-at.at-index (length c.args.places.now)
+    asks_within g.K.Keeper.contents g.K.Keeper.leaves g.K.Keeper.faults g.K.Keeper.reads c.loop-at.at-index (length c.args.positions.now)
     c.args.draft.now c.loop-at.draft (omega (arith, c.loop-at.auto)) c.loop-at.invariant.asks
 
 pub returns-clause-found : goal.returns-clause-found
 returns-clause-found g c f s d =
-    listed_at d.stands.history c.args.places.now c.loop-at.ids.items c.from_vec.result
-    (subst (λ (ps : List ℕ). AllZip (λ at id. IsPlaceOf d.stands.history id at) ps c.loop-at.ids.items)
-    (take_all c.loop-at.at-index c.args.places.now (omega (arith, c.loop-at-test.false))) (c.loop-at.invariant.found f s d))
-    (c.from_vec.ensures ∙ c.put_in_order.ensures)
+    subst (λ (ps : List ℕ). AreNamedAt d.stands.history ps c.loop-at.ids.items)
+    (take_all c.loop-at.at-index c.args.positions.now (omega (arith, c.loop-at-test.false))) (c.loop-at.invariant.found f s d)

@@ -1,0 +1,5 @@
+pub mod Damages
+pub mod Refusing
+pub mod Listing
+pub mod ParentsLemmas
+pub mod Between
