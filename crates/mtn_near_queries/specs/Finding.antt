@@ -27,7 +27,7 @@ AreNamedAt h places ids = AllZip (λ at id. IsPlaceOf h id at) places ids
 abbrev pub AreListedAt : List Revision → List ℕ → List Id → Type 0
 AreListedAt h places ids = IsListOf by_id (λ x. (at : ℕ) × Contains places at × IsPlaceOf h x at) ids
 
--- the ids of the revisions that are left or stand above it, and are not right and do not stand above that one, in log order
+-- the ids of the left revision and its ancestors that are none of the right one's, in log order
 abbrev pub AreBetween : List Revision → ℕ → ℕ → List Id → Type 0
 AreBetween h left right ids = IsListOf (by_place h) (λ x. (at : ℕ) × IsUncommon (parents_at h) left right at × IsPlaceOf h x at) ids
 

@@ -21,8 +21,8 @@ use mtn_history::{Draft, HistoryError, StoreError};
 use mtn_ports::Keeper;
 use std::alloc::Global;
 
-// The positions at or above the left one and not at or above the right one. It asks for the records of the log that the walk
-// between both asks for.
+// The positions of the left revision and its ancestors that are none of the right one's. It asks for the records of the log that the
+// walk between both asks for.
 fn positions_between<K: Keeper>(
     alloc: Global,
     draft: &mut Draft<'_, K>,
@@ -74,10 +74,9 @@ fn ids_between<K: Keeper>(
     Ok(List::from_vec(ids))
 }
 
-/// The revisions that are one or stand above it, and are not the other and do not stand above that one, in log order;
-/// UnknownRevision with the first of the two that the log does not have. It asks for the records of both texts and for those of the
-/// log between both revisions, each at most twice: from the greater position down to the least of those that stand above one alone,
-/// and of their parents.
+/// The ids of `of` and its ancestors without `without` and its ancestors, in log order; UnknownRevision with the first of the two
+/// that the log does not have. It asks for the records of both texts, and at most twice for each record of the log from the greater
+/// of both positions down to the least of those that one of them has alone, and of their parents. The rest of the log is not read.
 pub fn difference_of<K: Keeper>(
     alloc: Global,
     draft: &mut Draft<'_, K>,
