@@ -59,10 +59,7 @@ text_shown r c id body held =
     kept_key (c 3) (is_text_below r c) id
     ∙ ap (λ o. cond (option_map_or (is_text_of r c id) o false) o None) held
 
-pub text_stray : (r : ℕ) (c : Contents) (id body : List ℕ) → body_at c 3 id ≡ Some body → is_position r (take 8 body) ≡ false → body_at (below r c) 3 id ≡ None
-text_stray r c id body held stray = text_shown r c id body held ∙ ap (λ b. cond (b && has_id_at c id (take 8 body)) (Some body) None) stray
-
-body_by : (o : Option (List ℕ)) (named : Bool) (body : List ℕ) → o ≡ cond named (Some body) None → IsBody o named body
+pub body_by : (o : Option (List ℕ)) (named : Bool) (body : List ℕ) → o ≡ cond named (Some body) None → IsBody o named body
 body_by o true body e = e
 body_by o false body e = e
 

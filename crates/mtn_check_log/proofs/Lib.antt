@@ -1,5 +1,6 @@
 pub mod Keys
 pub mod Showing
+pub mod Untold
 pub mod Standing
 pub mod Accepted
 pub mod Carrying

@@ -4,14 +4,14 @@ use Rattle.std.specs.FinMap.{get, insert, empty, get-empty, get-insert}
 use Rattle.std.specs.Cmp.Lexicographic.{slice_cmp, texts_ties}
 use Rattle.std.specs.Ordering.{nat_cmp}
 use Rattle.std.proofs.lemmas.Cmp.{nat_list_cmp_total}
-use Rattle.std.proofs.Common.{◌⊎◌, inl, inr, eqb, ◌≡◌, ◌<◌, ◌≤◌, ◌^◌, ℕ, Bool, true, false, cond, List, [], Option, Some, None, Result, Ok, Err, refl, sym, ap, ◌∙◌, subst, arith}
+use Rattle.std.proofs.Common.{◌⊎◌, inl, inr, eqb, ◌≡◌, ◌<◌, ◌≤◌, ◌^◌, ◌&&◌, ℕ, Bool, true, false, cond, List, [], take, Option, Some, None, Result, Ok, Err, refl, sym, ap, ◌∙◌, subst, arith}
 use Rattle.std.proofs.lemmas.Bool.{ne_eqb}
 use Rattle.mtn_model.specs.Table.{Contents, Table, body_at, no_table}
 use Rattle.mtn_ports.specs.Kept.{AreKeyed, IsBody, Same, Stays}
 use Rattle.mtn_records.specs.Fields.{Begins, BeginsWithNone, number_text, IsNumber}
-use Rattle.mtn_check_log.specs.Below.{below, has_id_at, is_position, told_below}
+use Rattle.mtn_check_log.specs.Below.{below, has_id_at, is_position, is_text_of, told_below}
 use Rattle.mtn_history.specs.Meta.{count_key, meta_of, version, version_key}
-use Rattle.mtn_check_log.proofs.Keys.{none_either, text_missing, text_stray, text_named, kept_key, front_is, front_none, high_position, position_of}
+use Rattle.mtn_check_log.proofs.Keys.{body_by, none_either, text_missing, text_shown, kept_key, front_is, front_none, high_position, position_of}
 
 pub map_told : (told : Option Contents) (P Q : Contents → Type 0) → ((c : Contents) → P c → Q c) → IfSome told P → IfSome told Q
 map_told None P Q f p = tt
@@ -37,22 +37,30 @@ pub told_missing : (told : Option Contents) (r : ℕ) (id out : List ℕ) (found
 told_missing told r id out found is none = map_told told (λ c. IsBody (body_at c 3 id) found out) (λ c. body_at (below r c) 3 id ≡ None)
     (λ c held. text_missing r c id (subst (λ b. IsBody (body_at c 3 id) b out) none held)) is
 
-pub told_unplaced : (told : Option Contents) (r : ℕ) (id out : List ℕ) (found : Bool) → IfSome told (λ c. IsBody (body_at c 3 id) found out) → found ≡ true → r ≤ 2 ^ 64 →
-    BeginsWithNone number_text IsNumber out → IfSome told (λ c. body_at (below r c) 3 id ≡ None)
-told_unplaced told r id out found is there fits none = map_told told (λ c. IsBody (body_at c 3 id) found out) (λ c. body_at (below r c) 3 id ≡ None)
-    (λ c held. text_stray r c id out (subst (λ b. IsBody (body_at c 3 id) b out) there held) (front_none r out fits none)) is
+-- a record's text is shown by its position, and by the id in the log there
+pub unplaced_text : (told : Option Contents) (r : ℕ) (id body : List ℕ) → r ≤ 2 ^ 64 → BeginsWithNone number_text IsNumber body → IfSome told (λ c. false ≡ is_text_of r c id body)
+unplaced_text None r id body fits none = tt
+unplaced_text (Some c) r id body fits none = sym (ap (λ b. b && has_id_at c id (take 8 body)) (front_none r body fits none))
 
-pub told_high : (told : Option Contents) (r q : ℕ) (id out rest : List ℕ) (found : Bool) → IfSome told (λ c. IsBody (body_at c 3 id) found out) → found ≡ true →
-    Begins number_text IsNumber out q rest → r ≤ q → IfSome told (λ c. body_at (below r c) 3 id ≡ None)
-told_high told r q id out rest found is there begins le = map_told told (λ c. IsBody (body_at c 3 id) found out) (λ c. body_at (below r c) 3 id ≡ None)
-    (λ c held. text_stray r c id out (subst (λ b. IsBody (body_at c 3 id) b out) there held) (ap (is_position r) (front_is q out rest begins.whole) ∙ high_position r q le begins.formed)) is
+pub high_text : (told : Option Contents) (r q : ℕ) (id body rest : List ℕ) → Begins number_text IsNumber body q rest → r ≤ q → IfSome told (λ c. false ≡ is_text_of r c id body)
+high_text None r q id body rest begins le = tt
+high_text (Some c) r q id body rest begins le =
+    sym (ap (λ b. b && has_id_at c id (take 8 body)) (ap (is_position r) (front_is q body rest begins.whole) ∙ high_position r q le begins.formed))
 
-pub told_named : (old new : Option Contents) (r q : ℕ) (id out rest : List ℕ) (found named : Bool) → Same old new → IfSome old (λ c. IsBody (body_at c 3 id) found out) → found ≡ true →
-    Begins number_text IsNumber out q rest → q < r → IfSome new (λ c. named ≡ has_id_at c id (number_text q)) → IfSome new (λ c. IsBody (body_at (below r c) 3 id) named out)
-told_named old new r q id out rest found named same is there begins lt named_is =
-    both_told old new (λ c. IsBody (body_at c 3 id) found out) (λ c. named ≡ has_id_at c id (number_text q)) (λ c. IsBody (body_at (below r c) 3 id) named out) same
-    (λ c held name. text_named r c id out (number_text q) named (subst (λ b. IsBody (body_at c 3 id) b out) there held) (front_is q out rest begins.whole) (position_of r q lt begins.formed) name)
-    is named_is
+pub named_text : {E : Type 0} (told : Option Contents) (r q : ℕ) (id body rest : List ℕ) (result : Result Bool E) → Begins number_text IsNumber body q rest → q < r →
+    IfSome told (λ c. IfOk result (λ named. named ≡ has_id_at c id (number_text q))) → IfSome told (λ c. IfOk result (λ shown. shown ≡ is_text_of r c id body))
+named_text None r q id body rest result begins lt name = tt
+named_text (Some c) r q id body rest (Err e) begins lt name = name
+named_text (Some c) r q id body rest (Ok named) begins lt name =
+    name ∙ sym (ap (λ k. is_position r k && has_id_at c id k) (front_is q body rest begins.whole) ∙ ap (λ b. b && has_id_at c id (number_text q)) (position_of r q lt begins.formed))
+
+pub told_text : {E : Type 0} (old new : Option Contents) (r : ℕ) (id out : List ℕ) (found : Bool) (result : Result Bool E) → Same old new → IfSome old (λ c. IsBody (body_at c 3 id) found out) → found ≡ true →
+    IfSome new (λ c. IfOk result (λ shown. shown ≡ is_text_of r c id out)) → IfSome new (λ c. IfOk result (λ shown. IsBody (body_at (below r c) 3 id) shown out))
+told_text old new r id out found (Err e) same is there shown = shown
+told_text old new r id out found (Ok shown) same is there told =
+    both_told old new (λ c. IsBody (body_at c 3 id) found out) (λ c. shown ≡ is_text_of r c id out) (λ c. IsBody (body_at (below r c) 3 id) shown out) same
+    (λ c held by. body_by (body_at (below r c) 3 id) shown out (text_shown r c id out (subst (λ b. IsBody (body_at c 3 id) b out) there held) ∙ ap (λ b. cond b (Some out) None) (sym by)))
+    is told
 
 -- tables 4 and 5
 pub placed_key : (r : ℕ) (c : Contents) (table : ℕ) (key : List ℕ) → (table ≡ 4) ⊎ (table ≡ 5) → body_at (below r c) table key ≡ cond (is_position r key) (body_at c table key) None
@@ -123,11 +131,6 @@ stays_shown contents leaves faults r old new stays = record {
   crash = λ c at e left. let o = is_told (contents new) r c at in stays.crash o.0 o.1 e left;
   later = stays.later;
 }
-
-pub told_named_by : {E : Type 0} (old new : Option Contents) (r q : ℕ) (id out rest : List ℕ) (found : Bool) (result : Result Bool E) → Same old new → IfSome old (λ c. IsBody (body_at c 3 id) found out) → found ≡ true →
-    Begins number_text IsNumber out q rest → q < r → IfSome new (λ c. IfOk result (λ named. named ≡ has_id_at c id (number_text q))) → IfSome new (λ c. IfOk result (λ named. IsBody (body_at (below r c) 3 id) named out))
-told_named_by old new r q id out rest found (Ok named) same is there begins lt name = told_named old new r q id out rest found named same is there begins lt name
-told_named_by old new r q id out rest found (Err e) same is there begins lt name = name
 
 pub meta_version : (r : ℕ) (q : List ℕ) → bytes_eq q version_key ≡ true → get (meta_of version r) q ≡ Some version
 meta_version r q is = meta_get r q ∙ ap (λ b. cond b (Some version) (cond (bytes_eq q count_key) (Some (number_text r)) None)) is

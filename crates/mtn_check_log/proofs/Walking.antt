@@ -7,9 +7,8 @@ use Rattle.mtn_ports.proofs.KeptLemmas.{if_same}
 use Rattle.mtn_history.specs.Errors.{IfDamage}
 use Rattle.mtn_history.specs.Memory.{Knows}
 use Rattle.mtn_history.specs.declared.memory.Memory.{Memory}
-use Rattle.mtn_history.specs.declared.errors.Damage.{Damage}
 use Rattle.mtn_history.specs.declared.errors.StoreError.{StoreError}
-use Rattle.mtn_check_laws.specs.FirstDamage.{IsBegun, IsDamageAt}
+use Rattle.mtn_check_laws.specs.FirstDamage.{IsBegun}
 use Rattle.mtn_check_laws.specs.Fronts.{Front, with_step, no_front, IsFrontAt}
 use Rattle.mtn_check_log.specs.Positions.{IsFirstIn, IsKnownBehind, IsRight, IsWalkedTo, IsWrong}
 use Rattle.mtn_check_log.specs.Below.{below}

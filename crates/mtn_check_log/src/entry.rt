@@ -1,17 +1,18 @@
 // What the log tells of a position.
-ghost use Rattle.std.specs.Prelude.{◌≡◌, ◌++◌, ℕ, List, None, Some, Err, IfErr, IfOk, IfSome, MatchOption};
+ghost use Rattle.std.specs.Prelude.{◌≡◌, ◌++◌, ℕ, List, None, Some, Err, true, false, IfErr, IfOk, OnOk, IfSome, MatchOption};
 ghost use Rattle.mtn_model.specs.Table.{body_at};
 ghost use Rattle.mtn_ports.specs.Causes.{Rose};
 ghost use Rattle.mtn_ports.specs.Kept.{Stays};
 ghost use Rattle.mtn_records.specs.Fields.{number_text};
 ghost use Rattle.mtn_history.specs.Errors.{IfDamage};
-ghost use Rattle.mtn_history.specs.declared.errors.Damage.TheVariants.{Missing};
+ghost use Rattle.mtn_history.specs.declared.errors.Damage.TheVariants.{Bad, Missing};
 ghost use Rattle.mtn_history.specs.Logs.{UnloggedAt};
+ghost use Rattle.mtn_check_log.specs.Below.{is_text_of};
 ghost use Rattle.mtn_check_log.specs.Positions.{IsEntryAt, IsRecordOf, IsUntold};
 
 use crate::damaged::{bad, missing};
 use crate::position::split_position;
-use crate::shown::get_shown;
+use crate::shown::is_shown;
 use mtn_ancestry::Pos;
 use mtn_history::{LOG, StoreError, TEXTS};
 use mtn_ports::Keeper;
@@ -58,6 +59,25 @@ fn held_record<K: Keeper>(alloc: Global, keeper: &mut K, id: &[u8]) -> Result<Ve
     }
 }
 
+// Refuses an entry under whose id an earlier revision's record stands.
+fn refuse_earlier<K: Keeper>(
+    alloc: Global,
+    keeper: &mut K,
+    at: u64,
+    entry: &Entry,
+    body: &[u8],
+) -> Result<(), StoreError>
+    ensures stays { Stays K.contents K.leaves K.faults keeper.old keeper.new }
+    ensures fresh { IfSome (K.contents keeper.new) (λ c. OnOk result (is_text_of at c entry.now.record.id.0 body.now ≡ false)) }
+    ensures damaged { IfSome (K.contents keeper.new) (λ c. IfErr result (λ e. IfDamage e (λ d. (is_text_of at c entry.now.record.id.0 body.now ≡ true) × (d ≡ Bad 4 (number_text at) entry.now.body.items)))) }
+    ensures failed { result ≡ Err StoreError.Failed → Rose (K.faults keeper.old) (K.faults keeper.new) }
+{
+    if is_shown(alloc, keeper, at, entry.record.id.0.as_slice(), body)? {
+        return Err(bad(alloc, LOG, &at.to_be_bytes(), &entry.body));
+    }
+    Ok(())
+}
+
 /// The text's record under the id of an entry, which no earlier revision has.
 pub fn record_of<K: Keeper>(
     alloc: Global,
@@ -71,11 +91,9 @@ pub fn record_of<K: Keeper>(
     ensures failed { result ≡ Err StoreError.Failed → Rose (K.faults keeper.old) (K.faults keeper.new) }
 {
     let id = entry.record.id.0.as_slice();
-    let mut earlier = Vec::new(alloc);
-    if get_shown(alloc, keeper, at, TEXTS, id, &mut earlier)? {
-        return Err(bad(alloc, LOG, &at.to_be_bytes(), &entry.body));
-    }
-    held_record(alloc, keeper, id)
+    let body = held_record(alloc, keeper, id)?;
+    refuse_earlier(alloc, keeper, at, entry, &body)?;
+    Ok(body)
 }
 
 /// The text behind a position in a record.

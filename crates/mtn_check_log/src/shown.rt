@@ -4,7 +4,7 @@ ghost use Rattle.mtn_model.specs.Table.{body_at};
 ghost use Rattle.mtn_records.specs.Fields.{number_text};
 ghost use Rattle.mtn_ports.specs.Causes.{Rose};
 ghost use Rattle.mtn_ports.specs.Kept.{IsBody, Stays};
-ghost use Rattle.mtn_check_log.specs.Below.{below, has_id_at};
+ghost use Rattle.mtn_check_log.specs.Below.{below, has_id_at, is_text_of};
 ghost use Rattle.mtn_history.specs.Meta.{meta_of, version};
 ghost use Rattle.std.specs.FinMap.{get};
 
@@ -57,6 +57,29 @@ pub fn is_logged<K: Keeper>(
     }
 }
 
+/// Whether a text's record that stands under an id is shown: it is that of a revision below, whose record of the log has the id. It
+/// asks for that record of the log at most.
+pub fn is_shown<K: Keeper>(
+    alloc: Global,
+    keeper: &mut K,
+    count: u64,
+    id: &[u8],
+    body: &[u8],
+) -> Result<bool, KeepError>
+    ensures stays { Stays K.contents K.leaves K.faults keeper.old keeper.new }
+    ensures shown { IfSome (K.contents keeper.new) (λ c. IfOk result (λ shown. shown ≡ is_text_of count c id.now body.now)) }
+    ensures failed { IsErrOf result KeepError.Failed → Rose (K.faults keeper.old) (K.faults keeper.new) }
+{
+    let at = match split_position(body) {
+        Some((at, _)) => at,
+        None => return Ok(false),
+    };
+    if at >= count {
+        return Ok(false);
+    }
+    is_logged(alloc, keeper, at, id)
+}
+
 // The text under an id, if it is that of a revision below.
 fn get_text<K: Keeper>(
     alloc: Global,
@@ -72,14 +95,7 @@ fn get_text<K: Keeper>(
     if !keeper.get(TEXTS, id, out)? {
         return Ok(false);
     }
-    let at = match split_position(out) {
-        Some((at, _)) => at,
-        None => return Ok(false),
-    };
-    if at >= count {
-        return Ok(false);
-    }
-    is_logged(alloc, keeper, at, id)
+    is_shown(alloc, keeper, count, id, out)
 }
 
 // The record of table 4 or 5 at a key, if it is a position below.

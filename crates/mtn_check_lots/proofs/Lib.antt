@@ -3,3 +3,4 @@ pub mod Known
 pub mod Longer
 pub mod Reading
 pub mod Taken
+pub mod Fresh

@@ -1,11 +1,12 @@
 // Facts that accepting a text is likely to ask for.
-ghost use Rattle.std.specs.Prelude.{◌≡◌, ◌<◌, length, Err, IfErr, IfOk, IfSome};
+ghost use Rattle.std.specs.Prelude.{◌≡◌, ◌<◌, ◌≤◌, length, Err, IfErr, IfOk, IfSome};
 ghost use Rattle.mtn_model.specs.Table.{Contents, body_at};
 ghost use Rattle.mtn_ports.specs.Causes.{Rose};
 ghost use Rattle.mtn_ports.specs.Kept.{AreKeyed, IsBody, IsNextKey, Stays};
 ghost use Rattle.mtn_history.specs.Errors.{IfDamage};
 ghost use Rattle.mtn_check_log.specs.Below.{below};
 ghost use Rattle.mtn_check_lots.specs.Facts.{AreFacts};
+ghost use Rattle.mtn_check_lots.specs.Runs.{IsLoadedAt};
 
 use crate::{Facts, Loaded};
 use mtn_ancestry::{ParentList, Pos};
@@ -288,7 +289,7 @@ fn fetch_contents<K: Keeper>(
 }
 
 /// Notes what a draft over the records below a run is likely to ask for where it accepts the text that stands at one of its
-/// positions: the next number that the log tells, whether the id is held, the parents' records, and the files of new contents.
+/// positions: that the id is new, the next number that the log tells, the parents' records, and the files of new contents.
 pub fn gather<K: Keeper>(
     alloc: Global,
     keeper: &mut K,
@@ -298,13 +299,15 @@ pub fn gather<K: Keeper>(
     loaded: &Loaded,
 ) -> Result<(), StoreError>
     requires facts { IfSome (K.contents keeper.old) (λ c. AreFacts (below from c) facts.old) }
+    requires loaded { IfSome (K.contents keeper.old) (λ c. IsLoadedAt c at loaded.now) }
+    requires behind { from ≤ at }
     ensures stays { Stays K.contents K.leaves K.faults keeper.old keeper.new }
     ensures facts { IfSome (K.contents keeper.new) (λ c. AreFacts (below from c) facts.new) }
     ensures sound { IfErr result (λ e. IfDamage e (λ _. ⊥)) }
     ensures failed { result ≡ Err StoreError.Failed → Rose (K.faults keeper.old) (K.faults keeper.new) }
 {
+    facts.note_absent(TEXTS, &loaded.entry.record.id.0)?;
     fetch_last(alloc, keeper, from, facts)?;
-    fetch(alloc, keeper, from, facts, TEXTS, &loaded.entry.record.id.0)?;
     fetch_parents(alloc, keeper, from, facts, loaded.entry.record.parents)?;
     fetch_contents(alloc, keeper, from, at, facts, &loaded.record)
 }
