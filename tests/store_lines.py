@@ -132,13 +132,17 @@ def reads():
     left = revision({'': None, 'f': ONE}, (sha(before), [set_attr('f', 'l', '1')]), attributes={'f': [('k', '199'), ('l', '1')]})
     right = revision({'': None, 'f': ONE}, (sha(before), [set_attr('f', 'm', '1')]), attributes={'f': [('k', '199'), ('m', '1')]})
     merge = revision({'': None, 'f': ONE}, *sorted([(sha(left), [set_attr('f', 'm', '1')]), (sha(right), [set_attr('f', 'l', '1')])]), attributes={'f': [('k', '199'), ('l', '1'), ('m', '1')]})
-    asked = ['store plain sha1', *given(line + [(['put_revision'], left), (['put_revision'], right)]), 'reads', *given([(['put_revision'], merge)]), 'reads', asking(['parents', sha(merge)]), 'reads']
+    asked = ['store plain sha1', *given(line + [(['put_revision'], left), (['put_revision'], right)]), 'reads', *given([(['put_revision'], merge)]), 'reads', asking(['parents', sha(merge)]), 'reads',
+             asking(['ancestry_difference', sha(merge), sha(left)]), 'reads']
     answers = told(asked)
-    count = int(answers[-3]) - int(answers[-5])
-    assert answers[-4] == answering(0, sha(merge).encode() + b'\n') and count <= 43, (answers[-5:], count)
-    few = int(answers[-1]) - int(answers[-3])
-    assert answers[-2] == answering(0, ''.join(id + '\n' for id in sorted([sha(left), sha(right)])).encode()) and few <= 6, (answers[-3:], few)
-    lines.remark('So does a merge of two children of the last of 202 in a line: %d here, at most 43; and its parents: %d, at most 6 with those of the opening.' % (count, few))
+    count = int(answers[-5]) - int(answers[-7])
+    assert answers[-6] == answering(0, sha(merge).encode() + b'\n') and count <= 43, (answers[-7:], count)
+    few = int(answers[-3]) - int(answers[-5])
+    assert answers[-4] == answering(0, ''.join(id + '\n' for id in sorted([sha(left), sha(right)])).encode()) and few <= 6, (answers[-5:], few)
+    near = int(answers[-1]) - int(answers[-3])
+    assert answers[-2] == answering(0, (sha(right) + '\n' + sha(merge) + '\n').encode()) and near <= 12, (answers[-3:], near)
+    lines.remark('So does a merge of two children of the last of 202 in a line: %d here, at most 43; its parents: %d, at most 6 with those of the opening; and '
+                 'what it has that one of them has not: %d, at most 12.' % (count, few, near))
     lines.asked, lines.answered = lines.asked + asked, lines.answered + answers
     lines.ends()
     return lines
