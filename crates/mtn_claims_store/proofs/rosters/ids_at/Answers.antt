@@ -1,0 +1,14 @@
+use Rattle.std.proofs.Common.{rules}
+use Rattle.mtn_claims_store.proofs.rosters.ids_at.Goals as goal
+
+pub returns-clause-asks : goal.returns-clause-asks
+returns-clause-asks g c = search rules
+
+pub returns-clause-found : goal.returns-clause-found
+returns-clause-found g c = search rules
+
+pub returns-clause-damaged : goal.returns-clause-damaged
+returns-clause-damaged g c = search rules
+
+pub returns-clause-failed : goal.returns-clause-failed
+returns-clause-failed g c = search rules
