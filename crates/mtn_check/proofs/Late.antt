@@ -5,7 +5,7 @@ use Rattle.mtn_history.specs.declared.errors.Damage.{Damage}
 use Rattle.mtn_check_laws.specs.Records.{AllKeep}
 use Rattle.mtn_check_laws.specs.Fronts.{Front, IsFrontAt, StandsTo}
 use Rattle.mtn_check_laws.specs.FirstDamage.{IsCertOf, IsNameRecord, in_certs, in_names, unplaced}
-use Rattle.mtn_check.specs.Tables.{AllIn, IsBreakIn, KeyRule}
+use Rattle.mtn_check.specs.Tables.{AllIn, IsBreakIn, IsFewOrKept, KeyRule}
 use Rattle.mtn_check.specs.Steps.{ArePlaced, IsCertIn, IsLateDamage, IsRightBeside, IsTextOf, IsUnplaced, NameRule, PlaceRule}
 use Rattle.mtn_check.proofs.Early.{break_in, keep_in}
 use Rattle.mtn_check.proofs.Placing.{all_placed, cert_in, cert_of, log_breaks, roster_breaks, text_breaks}
@@ -15,10 +15,10 @@ abbrev pub Walks : Type 0
 Walks = (f : List ℕ → List ℕ) (c : Contents) (r : ℕ) (front : Front) → IsFrontAt f c r front → StandsTo f c r front
 
 abbrev pub HasTexts : ℕ → Contents → Type 0
-HasTexts n c = AllIn 3 (IsTextOf c n) c
+HasTexts n c = IsFewOrKept 3 n (IsTextOf c n) c
 
 abbrev pub HasLog : ℕ → Contents → Type 0
-HasLog n c = HasTexts n c × AllIn 4 (PlaceRule n) c
+HasLog n c = HasTexts n c × IsFewOrKept 4 n (PlaceRule n) c
 
 abbrev pub HasNames : ℕ → Contents → Type 0
 HasNames n c = ArePlaced n c × AllKeep IsNameRecord c
@@ -44,7 +44,7 @@ module _ (walks : Walks) (n : ℕ) (c : Contents) where
   pub roster_damage : (d : Damage) → HasLog n c → IsBreakIn 5 (PlaceRule n) c d → IsUnplaced n c d
   roster_damage d so_far b f front at = roster_breaks f c n front (walks f c n front at) d so_far.0 so_far.1 b
 
-  pub are_placed : HasLog n c → AllIn 5 (PlaceRule n) c → ArePlaced n c
+  pub are_placed : HasLog n c → IsFewOrKept 5 n (PlaceRule n) c → ArePlaced n c
   are_placed so_far all f front at = all_placed f c n front (walks f c n front at) so_far.0 so_far.1 all
 
   pub place_damage : (d : Damage) → Unit {0} → IsUnplaced n c d → IsLateDamage n c d

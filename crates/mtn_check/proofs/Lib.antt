@@ -1,6 +1,8 @@
 pub mod Told
 pub mod Order
 pub mod Scanning
+pub mod Others
+pub mod Counting
 pub mod Emptying
 pub mod Numbers
 pub mod Early

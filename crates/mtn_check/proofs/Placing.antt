@@ -1,13 +1,15 @@
 -- The records of positions, and those that no position has.
 use Rattle.std.specs.Prelude.{IsSome, is_some, slice_get}
-use Rattle.std.proofs.Common.{◌≡◌, ◌<◌, ⊎_elim, ℕ, true, List, [], ◌++◌, length, drop, Option, Some, None, refl, sym, ap, ◌∙◌, subst, arith}
+use Rattle.std.proofs.Common.{◌≡◌, ◌<◌, ◌≤◌, ◌^◌, inl, inr, ⊎_elim, ℕ, true, List, [], ◌++◌, length, drop, Option, Some, None, refl, sym, ap, ◌∙◌, subst, arith}
 use Rattle.mtn_history_laws.specs.History.{Revision}
 use Rattle.mtn_model.specs.State.{Logged}
 use Rattle.mtn_model.specs.Table.{Contents, body_at}
-use Rattle.mtn_records.specs.Fields.{number_text}
+use Rattle.mtn_records.specs.Apart.{number_apart}
+use Rattle.mtn_records.specs.Fields.{number_text, IsNumber}
 use Rattle.mtn_records.specs.Records.{log_text}
 use Rattle.mtn_records.specs.RecordsApart.{log_apart}
 use Rattle.mtn_records.specs.declared.record.LogRecord.{LogRecord}
+use Rattle.mtn_replay.proofs.Histories.{log_is_short}
 use Rattle.mtn_replay.proofs.Places.{inside, within}
 use Rattle.mtn_replay.specs.Texts.{text_under}
 use Rattle.mtn_history.specs.Logs.{IsLogged}
@@ -18,8 +20,10 @@ use Rattle.std.proofs.lemmas.List.{append-nil}
 use Rattle.mtn_check_laws.specs.Records.{AllKeep, IsFirstBreak}
 use Rattle.mtn_check_laws.specs.Fronts.{Front, StandsTo}
 use Rattle.mtn_check_laws.specs.FirstDamage.{IsCertOf, IsPlacedIn}
-use Rattle.mtn_check.specs.Tables.{AllIn, IsBreakIn}
+use Rattle.mtn_check.specs.Tables.{AllIn, IsBreakIn, IsFewOrKept}
 use Rattle.mtn_check.specs.Steps.{IsCertIn, IsTextOf, PlaceRule}
+use Rattle.mtn_check.proofs.Others.{none_besides}
+use Rattle.mtn_check.proofs.Numbers.{same_number}
 
 one_body : (o : Option (List ℕ)) (a b : List ℕ) → o ≡ Some a → o ≡ Some b → a ≡ b
 one_body o a b x y = cc
@@ -28,6 +32,17 @@ one_logged : (c : Contents) (r : ℕ) (a b : LogRecord) → IsLogged c r a → I
 one_logged c r a b x y =
     let same : x.body ≡ y.body = one_body (body_at c 4 (number_text r)) x.body y.body x.held y.held in
     (log_apart a b [] [] x.text.formed y.text.formed (append-nil (log_text a) ∙ sym x.text.whole ∙ same ∙ y.text.whole ∙ sym (append-nil (log_text b)))).0
+
+-- the id at a position, if it has a revision
+abbrev id_in : Option Logged → List ℕ
+id_in (Some l) = l.id
+id_in None = []
+
+abbrev id_at : Front → ℕ → List ℕ
+id_at front q = id_in (slice_get front.log q)
+
+small : (q n : ℕ) → q < n → n ≤ 2147483648 → q < 2 ^ 64
+small q n lt le = omega (arith, lt, le)
 
 -- the text of a revision of the log
 abbrev pub HasText : Front → List ℕ → Type 0
@@ -83,16 +98,70 @@ module _ (f : List ℕ → List ℕ) (c : Contents) (n : ℕ) (front : Front) (s
   place_told : (key body : List ℕ) → At key → PlaceRule n key body
   place_told key body (r, lt, is) = (r, omega (arith, lt, stands.long, stands.spelled.long), is)
 
-  -- what is asked of a record of these tables
+  -- ---- where a table has no more records than there are positions
+
+  is_number : (q : ℕ) → q < n → IsNumber q
+  is_number q lt = let short = log_is_short f (c 2) front.log front.history stands.spelled in small q n lt (omega (arith, short, stands.long))
+
+  -- what stands at a position, and under its id
+  record TextAt (q : ℕ) : Type 0 where
+    revision : Logged
+    there : slice_get front.log q ≡ Some revision
+    same : id_at front q ≡ revision.id
+    held : body_at c 3 (id_at front q) ≡ Some (number_text q ++ revision.text)
+
+  text_at : (q : ℕ) → q < n → TextAt q
+  text_at q lt =
+      let l = within front.log q (omega (arith, lt, stands.long)) in
+      let same : id_at front q ≡ l.0.id = ap id_in l.1 in
+      record { revision = l.0; there = l.1; same = same; held = ap (body_at c 3) same ∙ stands.texts q l.0 l.1 }
+
+  -- two positions have two ids, since the text under each names its own
+  ids_apart : (q r : ℕ) → q < n → r < n → id_at front q ≡ id_at front r → q ≡ r
+  ids_apart q r lt below e =
+      let one = text_at q lt in
+      let other = text_at r below in
+      let same = one_body (body_at c 3 (id_at front q)) (number_text q ++ one.revision.text) (number_text r ++ other.revision.text) one.held (ap (body_at c 3) e ∙ other.held) in
+      (number_apart q r one.revision.text other.revision.text (is_number q lt) (is_number r below) same).0
+
+  pub all_texts : IsFewOrKept 3 n (IsTextOf c n) c → AllIn 3 (λ key body. HasText front key) c
+  all_texts (inl few) key body at =
+      let own = none_besides 3 n c (id_at front) (λ q lt. let t = text_at q lt in (number_text q ++ t.revision.text, t.held)) ids_apart few key body at in
+      let text = text_at own.0 own.1 in
+      (own.0, text.revision, text.there, sym text.same ∙ own.2)
+  all_texts (inr kept) key body at = text_placed key body (kept key body at)
+
+  all_at : (t : ℕ) → ((q : ℕ) → q < n → (body : List ℕ) × (body_at c t (number_text q) ≡ Some body)) → IsFewOrKept t n (PlaceRule n) c → AllIn t (λ key body. At key) c
+  all_at t held (inl few) key body at =
+      let own = none_besides t n c number_text held (λ q r lt below e. same_number q r (is_number q lt) (is_number r below) e) few key body at in
+      place_in key body (own.0, own.1, sym own.2)
+  all_at t held (inr kept) key body at = place_in key body (kept key body at)
+
+  pub all_logged : IsFewOrKept 4 n (PlaceRule n) c → AllIn 4 (λ key body. At key) c
+  all_logged = all_at 4 (λ q lt.
+      let v = within front.history q (omega (arith, lt, stands.long, stands.spelled.long)) in
+      let k = within front.kept q (omega (arith, lt, stands.long, stands.spelled.long, stands.revisions.long)) in
+      let body = stands.log q v.0 k.0 v.1 k.1 in
+      (body.0, body.1))
+
+  pub all_rosters : IsFewOrKept 5 n (PlaceRule n) c → AllIn 5 (λ key body. At key) c
+  all_rosters = all_at 5 (λ q lt.
+      let v = within front.history q (omega (arith, lt, stands.long, stands.spelled.long)) in
+      let k = within front.kept q (omega (arith, lt, stands.long, stands.spelled.long, stands.revisions.long)) in
+      let body = stands.rosters q v.0 k.0 v.1 k.1 in
+      (body.0, body.1))
+
+  -- ---- what is asked of a record of these tables
+
   placed_by : (t : ℕ) (k b : List ℕ) → (t ≡ 3 → HasText front k) → (t ≡ 4 → At k) → (t ≡ 5 → At k) → IsPlacedIn front t k b
   placed_by t k b x y z = record { text = x; log = y; roster = z }
 
   in_table : (t u : ℕ) (k b : List ℕ) → t ≡ u → body_at c t k ≡ Some b → body_at c u k ≡ Some b
   in_table t u k b is at = subst (λ x. body_at c x k ≡ Some b) is at
 
-  pub all_placed : AllIn 3 (IsTextOf c n) c → AllIn 4 (PlaceRule n) c → AllIn 5 (PlaceRule n) c → AllKeep (IsPlacedIn front) c
+  pub all_placed : IsFewOrKept 3 n (IsTextOf c n) c → IsFewOrKept 4 n (PlaceRule n) c → IsFewOrKept 5 n (PlaceRule n) c → AllKeep (IsPlacedIn front) c
   all_placed texts log rosters t k b at =
-      placed_by t k b (λ is. text_placed k b (texts k b (in_table t 3 k b is at))) (λ is. place_in k b (log k b (in_table t 4 k b is at))) (λ is. place_in k b (rosters k b (in_table t 5 k b is at)))
+      placed_by t k b (λ is. all_texts texts k b (in_table t 3 k b is at)) (λ is. all_logged log k b (in_table t 4 k b is at)) (λ is. all_rosters rosters k b (in_table t 5 k b is at))
 
   pub text_breaks : (d : Damage) → IsBreakIn 3 (IsTextOf c n) c d → IsFirstBreak (IsPlacedIn front) c d
   text_breaks d b = record {
@@ -108,7 +177,7 @@ module _ (f : List ℕ → List ℕ) (c : Contents) (n : ℕ) (front : Front) (s
         (λ is. ⊎_elim (λ lt. absurd (omega (arith, lt, is))) (λ r. absurd (omega (arith, r.0, is))) before);
   }
 
-  pub log_breaks : (d : Damage) → AllIn 3 (IsTextOf c n) c → IsBreakIn 4 (PlaceRule n) c d → IsFirstBreak (IsPlacedIn front) c d
+  pub log_breaks : (d : Damage) → IsFewOrKept 3 n (IsTextOf c n) c → IsBreakIn 4 (PlaceRule n) c d → IsFirstBreak (IsPlacedIn front) c d
   log_breaks d texts b = record {
     table = 4;
     key = b.key;
@@ -117,12 +186,12 @@ module _ (f : List ℕ → List ℕ) (c : Contents) (n : ℕ) (front : Front) (s
     held = b.held;
     broken = λ placed. b.broken (place_told b.key b.body (placed.log refl));
     earlier = λ t k x before at. placed_by t k x
-        (λ is. text_placed k x (texts k x (in_table t 3 k x is at)))
+        (λ is. all_texts texts k x (in_table t 3 k x is at))
         (λ is. ⊎_elim (λ lt. absurd (omega (arith, lt, is))) (λ r. place_in k x (b.earlier k x r.1 (in_table t 4 k x is at))) before)
         (λ is. ⊎_elim (λ lt. absurd (omega (arith, lt, is))) (λ r. absurd (omega (arith, r.0, is))) before);
   }
 
-  pub roster_breaks : (d : Damage) → AllIn 3 (IsTextOf c n) c → AllIn 4 (PlaceRule n) c → IsBreakIn 5 (PlaceRule n) c d → IsFirstBreak (IsPlacedIn front) c d
+  pub roster_breaks : (d : Damage) → IsFewOrKept 3 n (IsTextOf c n) c → IsFewOrKept 4 n (PlaceRule n) c → IsBreakIn 5 (PlaceRule n) c d → IsFirstBreak (IsPlacedIn front) c d
   roster_breaks d texts log b = record {
     table = 5;
     key = b.key;
@@ -131,8 +200,8 @@ module _ (f : List ℕ → List ℕ) (c : Contents) (n : ℕ) (front : Front) (s
     held = b.held;
     broken = λ placed. b.broken (place_told b.key b.body (placed.roster refl));
     earlier = λ t k x before at. placed_by t k x
-        (λ is. text_placed k x (texts k x (in_table t 3 k x is at)))
-        (λ is. place_in k x (log k x (in_table t 4 k x is at)))
+        (λ is. all_texts texts k x (in_table t 3 k x is at))
+        (λ is. all_logged log k x (in_table t 4 k x is at))
         (λ is. ⊎_elim (λ lt. absurd (omega (arith, lt, is))) (λ r. place_in k x (b.earlier k x r.1 (in_table t 5 k x is at))) before);
   }
 

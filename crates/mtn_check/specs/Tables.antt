@@ -1,5 +1,6 @@
 -- The records of one table, by key, and the first that breaks a rule.
-use Rattle.std.specs.Prelude.{◌≡◌, ◌<◌, ◌≤◌, ℕ, List, Option, Some, None}
+use Rattle.std.specs.Prelude.{◌≡◌, ◌<◌, ◌≤◌, ◌⊎◌, ℕ, List, length, Option, Some, None}
+use Rattle.std.specs.List.{Contains}
 use Rattle.mtn_model.specs.Table.{Contents, body_at}
 use Rattle.mtn_ports.specs.Kept.{IsAbove}
 use Rattle.mtn_history.specs.declared.errors.Damage.{Damage}
@@ -57,3 +58,11 @@ pub record IsFirstOf (from to : ℕ) (c : Contents) (d : Damage) : Type 0 where
   pub held : body_at c table key ≡ Some body
   pub tables : AreEmpty from table c
   pub keys : (k : List ℕ) → IsAbove k key → body_at c table k ≡ None
+
+-- a table has no more records than so many: the keys of all are among so many
+abbrev pub HasAtMost : ℕ → ℕ → Contents → Type 0
+HasAtMost table most c = (keys : List (List ℕ)) × (length keys ≤ most) × AllIn table (λ key body. Contains keys key) c
+
+-- it has no more, or each keeps the rule
+abbrev pub IsFewOrKept : ℕ → ℕ → KeyRule → Contents → Type 0
+IsFewOrKept table most rule c = HasAtMost table most c ⊎ AllIn table rule c

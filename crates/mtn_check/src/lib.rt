@@ -10,14 +10,17 @@
 //! A *test* says of a record of one table whether it keeps a rule; the walk of a table by `next_record` answers the first record that
 //! does not (`specs/Tables.antt`). What each step asks and finds stands in `specs/Steps.antt`.
 //!
-//! Cost: each record is asked for once, by the walk of its table; a text asks for the log's record at its position, a certificate
-//! for its revision's text. Each file is hashed once.
+//! Cost: beside the walk along the log each file, key name and certificate is asked for once, by the walk of its table, a certificate
+//! also for its revision's text. Texts, records of the log and rosters are counted there by their keys: a table that has one for
+//! each position and no more has no other. Only where it has more is each of its records asked for too, a text also for the log's
+//! record at its position. Each file is hashed once.
 #![tactic(auto)]
 
 mod begun;
 mod beside;
 mod check;
 mod empty;
+mod few;
 mod form;
 mod meta;
 mod number;

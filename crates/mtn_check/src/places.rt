@@ -6,7 +6,9 @@ ghost use Rattle.mtn_records.specs.declared.record.LogRecord.{LogRecord as Log};
 ghost use Rattle.mtn_ports.specs.Causes.{Rose};
 ghost use Rattle.mtn_ports.specs.Kept.{Stays};
 ghost use Rattle.mtn_check.specs.Steps.{ArePlaced, IsUnplaced};
+ghost use Rattle.mtn_check.specs.Tables.{IsBreakIn, IsFewOrKept};
 
+use crate::few::has_at_most;
 use crate::number::{number_before, number_in};
 use crate::scan::{Test, check_table};
 use mtn_ancestry::Pos;
@@ -90,7 +92,28 @@ impl Test for Places {
     }
 }
 
-/// Whether each text, each record of the log and each roster is that of a position below the count.
+// Whether a table has no more records than there are positions, or else each keeps the rule: the first that does not is damage.
+// Where each position has a record there, a table with no more has no other, so that no body is read.
+fn check_more<T: Test, K: Keeper>(
+    alloc: Global,
+    test: &T,
+    table: u8,
+    count: u64,
+    keeper: &mut K,
+) -> Result<(), StoreError>
+    ensures stays { Stays K.contents K.leaves K.faults keeper.old keeper.new }
+    ensures kept { IfSome (K.contents keeper.new) (λ c. OnOk result (IsFewOrKept table count (T.rule test.now c) c)) }
+    ensures damaged { IfSome (K.contents keeper.new) (λ c. IfErr result (λ e. IfDamage e (IsBreakIn table (T.rule test.now c) c))) }
+    ensures failed { result ≡ Err StoreError.Failed → Rose (K.faults keeper.old) (K.faults keeper.new) }
+{
+    if has_at_most(alloc, table, count, keeper)? {
+        return Ok(());
+    }
+    check_table(alloc, test, table, keeper)
+}
+
+/// Whether each text, each record of the log and each roster is that of a position below the count. The walk along the log has
+/// found those of all positions, so the keys of a table are counted, and only where there are more are its records looked at.
 pub fn check_places<K: Keeper>(alloc: Global, count: u64, keeper: &mut K) -> Result<(), StoreError>
     ensures stays { Stays K.contents K.leaves K.faults keeper.old keeper.new }
     ensures placed { IfSome (K.contents keeper.new) (λ c. OnOk result (ArePlaced count c)) }
@@ -98,7 +121,7 @@ pub fn check_places<K: Keeper>(alloc: Global, count: u64, keeper: &mut K) -> Res
     ensures failed { result ≡ Err StoreError.Failed → Rose (K.faults keeper.old) (K.faults keeper.new) }
 {
     walk_stands();
-    check_table(alloc, &Texts { count }, TEXTS, keeper)?;
-    check_table(alloc, &Places { count }, LOG, keeper)?;
-    check_table(alloc, &Places { count }, ROSTERS, keeper)
+    check_more(alloc, &Texts { count }, TEXTS, count, keeper)?;
+    check_more(alloc, &Places { count }, LOG, count, keeper)?;
+    check_more(alloc, &Places { count }, ROSTERS, count, keeper)
 }
