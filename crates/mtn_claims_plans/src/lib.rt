@@ -1,6 +1,9 @@
 //! Public calls of `mtn_merge` under their own contracts, for the wrong bodies of must-fail/.
 #![tactic(auto)]
 
+pub mod sides;
+pub mod text;
+
 ghost use Rattle.std.specs.Prelude.{◌≡◌, List, ℕ, Err, IfOk, IfErr, IfSome, [], option_copied};
 ghost use Rattle.mtn_history.specs.Damage.{IsDamage};
 ghost use Rattle.mtn_history.specs.Errors.{IfStoreDamage};

@@ -8,7 +8,8 @@
 //! The crate above relies on this: [`plan`], [`plan_with`] and [`look`] answer exactly what the definitions of `mtn_plans` say
 //! over the history that a draft stands on, and leave the draft's state. With a text comes its id, and the tree that it makes:
 //! of each text that is new to the history. No body relies on the history: what a history never has is answered as damage of a
-//! record.
+//! record. The first and the last step of a plan stand alone as well: [`sides_of`] finds the sides and what is decided of them, and
+//! [`revision_text`] spells a tree over its two parents.
 //!
 //! Cost: each side's roster is read once, and the draft remembers it; one walk between the sides; linear in
 //! both trees. The manifest is printed and hashed once, and so is the text. The resulting tree is built once; where a node is
@@ -28,3 +29,5 @@ pub use answer::Planned;
 pub use births::unborn;
 pub use mtn_plans::MergeOutcome;
 pub use planning::{look, plan, plan_with};
+pub use sides::{Compared, Side, sides_of};
+pub use text::{Parent, revision_text};
