@@ -1,9 +1,11 @@
 // Revisions with what is said of them.
-ghost use Rattle.std.specs.Prelude.{◌≡◌, true};
+ghost use Rattle.std.specs.Prelude.{◌≡◌, IfOk, true};
+ghost use Rattle.mtn_commands.specs.Certifying.{least_two as least_of};
 ghost use Rattle.mtn_commands.specs.Drafts.{Drafts, Replies};
+ghost use Rattle.mtn_step.specs.Certifying.{merge_said as said_of};
 ghost use Rattle.mtn_step.specs.Step.{Steps};
 
-use mtn_base::{Bytes, Id};
+use mtn_base::{Bytes, Id, NoMemory};
 use mtn_frame::Reply;
 use mtn_history::{Draft, HistoryError};
 use mtn_ports::{Ident, Keeper};
@@ -23,6 +25,28 @@ pub fn commit<I: Ident, K: Keeper>(
         (Steps (I.meaning ident.now) (Call.Commit said.now) payload.now) result }
 {
     mtn_commands::put_revision::commit(alloc, ident, said, payload, draft)
+}
+
+/// `mtn_commands::merge_heads::merge_said`.
+pub fn merge_said(
+    alloc: Global,
+    key: Id,
+    author: &Bytes,
+    branch: &Bytes,
+    date: &Bytes,
+    left: Id,
+    right: Id,
+) -> Result<Said, NoMemory>
+    ensures { IfOk result (λ said. said ≡ said_of key author.now branch.now date.now left right) }
+{
+    mtn_commands::merge_heads::merge_said(alloc, key, author, branch, date, left, right)
+}
+
+/// `mtn_commands::merge_heads::least_two`.
+pub fn least_two(ids: &[Id]) -> Result<(Id, Id), HistoryError>
+    ensures { result ≡ least_of ids.now }
+{
+    mtn_commands::merge_heads::least_two(ids)
 }
 
 /// `mtn_commands::merge_heads::merge_heads`.

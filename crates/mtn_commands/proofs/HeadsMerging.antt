@@ -1,6 +1,6 @@
 -- A merge of the two least heads of a branch, by what its calls say.
 use Rattle.std.specs.Prelude.{IfSome}
-use Rattle.std.proofs.Common.{◌≡◌, ◌<◌, ◌≤◌, ℕ, Bool, true, List, [], ◌∷◌, length, slice_index_or, Option, Some, Result, Ok, Err, refl, sym, subst, arith}
+use Rattle.std.proofs.Common.{◌≡◌, ◌<◌, ◌≤◌, ℕ, Bool, true, List, [], ◌∷◌, length, slice_index_or, Option, Some, Result, Ok, Err, refl, sym, ap, ◌∙◌, subst, arith}
 use Rattle.mtn_base.specs.declared.id.Id.{Id}
 use Rattle.mtn_base.specs.declared.refusal.Cause.TheVariants.{NoBranch, OneHead}
 use Rattle.mtn_frame.specs.declared.works.Reply.{Reply}
@@ -25,7 +25,7 @@ use Rattle.mtn_step.specs.Certifying.{AreHeads, merge_said}
 use Rattle.mtn_step.specs.Step.{Steps, refused}
 use Rattle.mtn_step.specs.declared.call.Call.TheVariants.{MergeHeads}
 use Rattle.mtn_step.specs.declared.call.Said.{Said}
-use Rattle.mtn_commands.specs.Certifying.{AreHeadsOver, Merging}
+use Rattle.mtn_commands.specs.Certifying.{AreHeadsOver, Merging, least_two}
 use Rattle.mtn_commands.specs.Drafts.{Replies, drafted}
 use Rattle.mtn_commands.proofs.ReasonLemmas.{wider_reason}
 use Rattle.mtn_commands.proofs.ViewLemmas.{never, reason_of}
@@ -49,26 +49,28 @@ module _ (f : List ℕ → List ℕ) (branch author date : List ℕ) (key : Id) 
   pub wants : (after : Pending) (result : Result Reply HistoryError) → result ≡ Err (Store NoMemory) → Replies f contents leaves faults old mid before after true Outcomes result
   wants after result is = subst (Replies f contents leaves faults old mid before after true Outcomes) (sym is) record { stays = stays; done = λ c s now draft. tt; reason = λ counts. tt; quiet = tt }
 
-  -- no member, and one head
-  pub no_branch : (after : Pending) (ids : List Id) → ids ≡ [] → AreHeadsOver f (contents mid) before branch ids → Replies f contents leaves faults old mid before after true Outcomes (Err (Refused NoBranch))
-  no_branch after ids is heads = record {
+  -- fewer than two
+  no_branch : (after : Pending) → AreHeadsOver f (contents mid) before branch [] → Replies f contents leaves faults old mid before after true Outcomes (Err (Refused NoBranch))
+  no_branch after heads = record {
     stays = stays;
-    done = λ c s now draft.
-        let d = founded f (contents mid) c before s now draft in
-        (d.stands.history, d.stands.spelled, ([], subst (AreHeads s d.stands.history branch) is (heads c s now draft d.stands.history d.stands.spelled), refl));
+    done = λ c s now draft. let d = founded f (contents mid) c before s now draft in (d.stands.history, d.stands.spelled, ([], heads c s now draft d.stands.history d.stands.spelled, refl));
     reason = λ counts. tt;
     quiet = tt;
   }
 
-  pub one_head : (after : Pending) (ids : List Id) (id : Id) → ids ≡ id ∷ [] → AreHeadsOver f (contents mid) before branch ids → Replies f contents leaves faults old mid before after true Outcomes (Err (Refused (OneHead id)))
-  one_head after ids id is heads = record {
+  one_head : (after : Pending) (id : Id) → AreHeadsOver f (contents mid) before branch (id ∷ []) → Replies f contents leaves faults old mid before after true Outcomes (Err (Refused (OneHead id)))
+  one_head after id heads = record {
     stays = stays;
-    done = λ c s now draft.
-        let d = founded f (contents mid) c before s now draft in
-        (d.stands.history, d.stands.spelled, (id ∷ [], subst (AreHeads s d.stands.history branch) is (heads c s now draft d.stands.history d.stands.spelled), refl));
+    done = λ c s now draft. let d = founded f (contents mid) c before s now draft in (d.stands.history, d.stands.spelled, (id ∷ [], heads c s now draft d.stands.history d.stands.spelled, refl));
     reason = λ counts. tt;
     quiet = tt;
   }
+
+  pub fewer : (after : Pending) (ids : List Id) (e : HistoryError) (result : Result Reply HistoryError) → result ≡ Err e → Err e ≡ least_two ids → AreHeadsOver f (contents mid) before branch ids →
+      Replies f contents leaves faults old mid before after true Outcomes result
+  fewer after [] e result is told heads = let same : e ≡ Refused NoBranch = cc in subst (Replies f contents leaves faults old mid before after true Outcomes) (sym (is ∙ ap Err same)) (no_branch after heads)
+  fewer after (id ∷ []) e result is told heads = let same : e ≡ Refused (OneHead id) = cc in subst (Replies f contents leaves faults old mid before after true Outcomes) (sym (is ∙ ap Err same)) (one_head after id heads)
+  fewer after (left ∷ right ∷ rest) e result is told heads = absurd (let apart : Err e ≡ Ok (left, right) = told in cc)
 
   module _ (new : K) (p after : Pending) (ids : List Id) (left right : Id) (rest : List Id) (said : Said) (is : ids ≡ left ∷ right ∷ rest) (heads : AreHeadsOver f (contents mid) before branch ids)
       (says : said ≡ merge_said key author branch date left right) (same : p ≡ before) (put : Stays contents leaves faults mid new) where
@@ -118,6 +120,12 @@ pub two_of : (xs : List Id) → 2 ≤ length xs → (rest : List Id) × (xs ≡ 
 two_of [] le = absurd (omega (arith, le))
 two_of (x ∷ []) le = absurd (omega (arith, le))
 two_of (x ∷ y ∷ xs) le = (xs, refl)
+
+-- the two that are chosen are the first of them
+pub chosen : (xs : List Id) (left right : Id) → Ok (left, right) ≡ least_two xs → (rest : List Id) × (xs ≡ left ∷ right ∷ rest)
+chosen [] left right told = absurd (let apart : Ok (left, right) ≡ Err (Refused NoBranch) = told in cc)
+chosen (x ∷ []) left right told = absurd (let apart : Ok (left, right) ≡ Err (Refused (OneHead x)) = told in cc)
+chosen (x ∷ y ∷ rest) left right told = (rest, let same : (left, right) ≡ (x, y) = cc in sym (ap (λ (p : Id × Id). p.0 ∷ p.1 ∷ rest) same))
 
 -- the heads of a branch by another name of it
 pub of_branch : (f : List ℕ → List ℕ) (told : Option Contents) (p : Pending) (said branch : List ℕ) (ids : List Id) → said ≡ branch → AreHeadsOver f told p said ids → AreHeadsOver f told p branch ids

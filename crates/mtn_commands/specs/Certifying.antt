@@ -1,7 +1,7 @@
 -- What the functions behind the commands of certificates ensure.
-use Rattle.std.specs.Prelude.{◌≡◌, ℕ, Bool, List, Option, Some, None, Result, Ok, Err}
+use Rattle.std.specs.Prelude.{◌≡◌, ℕ, Bool, List, [], ◌∷◌, Option, Some, None, Result, Ok, Err}
 use Rattle.mtn_base.specs.declared.id.Id.{Id}
-use Rattle.mtn_base.specs.declared.refusal.Cause.TheVariants.{BadField, TextTooLong}
+use Rattle.mtn_base.specs.declared.refusal.Cause.TheVariants.{BadField, NoBranch, OneHead, TextTooLong}
 use Rattle.mtn_certs.specs.declared.cert.CertError.{CertError}
 use Rattle.mtn_certs.specs.declared.cert.CertError.TheVariants as fault
 use Rattle.mtn_history.specs.Errors.{IfDamage}
@@ -44,3 +44,9 @@ Merging f a b resolves said payload s o = OfHistory f s (λ h. Planned (Merges f
 -- the heads of a branch, over the history of a state
 abbrev pub AreHeadsOver : (List ℕ → List ℕ) → Option Contents → Pending → List ℕ → List Id → Type 0
 AreHeadsOver f told p branch ids = (c : Contents) (s : State) → told ≡ Some c → IsDraft f c p s → (h : List Revision) → IsHistory f s.files s.log h → AreHeads s h branch ids
+
+-- the two least of the heads of a branch, which stand by ascending ids; or why there are no two
+abbrev pub least_two : List Id → Result (Id × Id) HistoryError
+least_two [] = Err (Refused NoBranch)
+least_two (id ∷ []) = Err (Refused (OneHead id))
+least_two (left ∷ right ∷ rest) = Ok (left, right)

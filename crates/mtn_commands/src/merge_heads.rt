@@ -1,5 +1,6 @@
 // The command `merge_heads`.
 ghost use Rattle.std.specs.Prelude.{◌≡◌, IfOk, true};
+ghost use Rattle.mtn_commands.specs.Certifying.{least_two as least_of};
 ghost use Rattle.mtn_commands.specs.Drafts.{Replies};
 ghost use Rattle.mtn_step.specs.Certifying.{merge_log as log_of, merge_said as said_of};
 ghost use Rattle.mtn_step.specs.Step.{Steps};
@@ -27,8 +28,8 @@ fn merge_log(alloc: Global, left: Id, right: Id) -> Result<Bytes, NoMemory>
     Ok(Bytes::from_vec(text))
 }
 
-// What is said of a merge of two heads.
-fn merge_said(
+/// What is said of a merge of two heads.
+pub fn merge_said(
     alloc: Global,
     key: Id,
     author: &Bytes,
@@ -46,6 +47,17 @@ fn merge_said(
         date: date.copy(alloc)?,
         key,
     })
+}
+
+/// The two least of the heads of a branch, which stand by ascending ids; NoBranch where there is none, OneHead where there is one.
+pub fn least_two(ids: &[Id]) -> Result<(Id, Id), HistoryError>
+    ensures { result ≡ least_of ids.now }
+{
+    match ids {
+        [] => Err(HistoryError::Refused(Cause::NoBranch)),
+        [id] => Err(HistoryError::Refused(Cause::OneHead { id: *id })),
+        [left, right, ..] => Ok((*left, *right)),
+    }
 }
 
 /// Accepts the merge of the two least heads of a branch with what is said of it, and answers its id, or answers the conflicts;
@@ -66,21 +78,16 @@ pub fn merge_heads<I: Ident, K: Keeper>(
         true (Steps (I.meaning ident.now) (Call.MergeHeads branch.now author.now date.now key resolves) payload.now) result }
 {
     let ids = heads_of(alloc, draft, branch.as_slice())?;
-    match ids.as_slice() {
-        [] => Err(HistoryError::Refused(Cause::NoBranch)),
-        [id] => Err(HistoryError::Refused(Cause::OneHead { id: *id })),
-        [left, right, ..] => {
-            let said = merge_said(alloc, key, author, branch, date, *left, *right)?;
-            merge_two(
-                alloc,
-                ident,
-                *left,
-                *right,
-                resolves,
-                payload,
-                Some(&said),
-                draft,
-            )
-        }
-    }
+    let (left, right) = least_two(ids.as_slice())?;
+    let said = merge_said(alloc, key, author, branch, date, left, right)?;
+    merge_two(
+        alloc,
+        ident,
+        left,
+        right,
+        resolves,
+        payload,
+        Some(&said),
+        draft,
+    )
 }
