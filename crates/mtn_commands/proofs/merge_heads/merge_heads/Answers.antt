@@ -16,9 +16,9 @@ pub returns-in_err-left-clause-replies : goal.returns-in_err-left-clause-replies
 returns-in_err-left-clause-replies g c =
     let f = g.I.Ident.meaning c.args.ident.now in
     let told = g.K.Keeper.contents c.heads_of.new.draft.keeper.now in
-    let p = err_from_is_err_and c.from_residual.result c.from_residual.ensures.1 in
+    let p = err_from_is_err_and c.from_residual-in_err-left.result c.from_residual-in_err-left.ensures.1 in
     fewer f c.args.branch.now c.args.author.now c.args.date.now c.args.key c.args.resolves c.args.payload.now g.K.Keeper.contents g.K.Keeper.leaves g.K.Keeper.faults
-    c.args.draft.now.keeper.now c.heads_of.new.draft.keeper.now c.args.draft.now.pending c.in_ok-ids.ensures.stays c.heads_of.new.draft.pending c.in_ok-ids.ids.items c.in_err-left.field-0.0 c.from_residual.result (p.1 ∙ ap Err p.2)
+    c.args.draft.now.keeper.now c.heads_of.new.draft.keeper.now c.args.draft.now.pending c.in_ok-ids.ensures.stays c.heads_of.new.draft.pending c.in_ok-ids.ids.items c.in_err-left.field-0.0 c.from_residual-in_err-left.result (p.1 ∙ ap Err p.2)
     (c.in_err-left.ensures ∙ ap least_two c.as_slice-2.ensures.value)
     (of_branch f told c.args.draft.now.pending _ c.args.branch.now c.in_ok-ids.ids.items c.as_slice.ensures (c.in_ok-ids.ensures.found f))
 
