@@ -1,5 +1,5 @@
 use Rattle.std.proofs.Common.{rules}
 use Rattle.mtn_claims_reads.proofs.asks.Goals as goal
 
-pub returns-clause-reads : goal.returns-clause-reads
-returns-clause-reads g c = search rules
+pub returns : goal.returns
+returns g c = search rules
