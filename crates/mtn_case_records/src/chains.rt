@@ -42,6 +42,28 @@ fn attr_of(alloc: Global, key: &[u8]) -> Option<NumberedAttr> {
     })
 }
 
+// An entry without marks and attributes.
+fn bare(
+    alloc: Global,
+    number: u64,
+    path: &[u8],
+    parent: u64,
+    name: Bytes,
+) -> Option<NumberedEntry> {
+    let node = name_of(alloc, path)?;
+    let slot_marks = none(alloc)?;
+    Some(NumberedEntry {
+        number,
+        birth_at: Pos(0),
+        node,
+        parent,
+        name,
+        slot_marks,
+        body: body_of(alloc, path)?,
+        attrs: List::new(alloc),
+    })
+}
+
 // The entry of a text, without marks.
 fn entry_of(alloc: Global, text: &[u8]) -> Option<NumberedEntry> {
     let mut parts = text.split(|byte| *byte == b';');
@@ -49,20 +71,11 @@ fn entry_of(alloc: Global, text: &[u8]) -> Option<NumberedEntry> {
     let path = parts.next()?;
     let parent = number_of(parts.next()?)?;
     let name = Bytes::from_slice(alloc, parts.next()?).ok()?;
-    let mut attrs = List::new(alloc);
+    let mut entry = bare(alloc, number, path, parent, name)?;
     for key in parts {
-        attrs.push(attr_of(alloc, key)?).ok()?;
+        entry.attrs.push(attr_of(alloc, key)?).ok()?;
     }
-    Some(NumberedEntry {
-        number,
-        birth_at: Pos(0),
-        node: name_of(alloc, path)?,
-        parent,
-        name,
-        slot_marks: none(alloc)?,
-        body: body_of(alloc, path)?,
-        attrs,
-    })
+    Some(entry)
 }
 
 // The entries of a text; none of an empty one.
@@ -96,6 +109,15 @@ fn record_of(alloc: Global, text: &[u8]) -> Option<RosterRecord> {
     })
 }
 
+// Appends numbers, with a blank before each.
+fn put_each(alloc: Global, numbers: &[u64], out: &mut Vec<u8>) -> Option<()> {
+    for number in numbers {
+        out.push(b' ').ok()?;
+        put_number(alloc, *number, out)?;
+    }
+    Some(())
+}
+
 // Appends the numbers of entries.
 fn put_numbers(alloc: Global, entries: &[NumberedEntry], out: &mut Vec<u8>) -> Option<()> {
     for entry in entries {
@@ -105,15 +127,20 @@ fn put_numbers(alloc: Global, entries: &[NumberedEntry], out: &mut Vec<u8>) -> O
     Some(())
 }
 
-// `rebuild RECORD..`: the numbers at the end of the chain, or Bad.
-fn rebuilt(alloc: Global, rest: &[u8], out: &mut Vec<u8>) -> Option<()> {
+// The chain of some records.
+fn chain_of(alloc: Global, text: &[u8]) -> Option<Vec<RosterRecord>> {
     let mut chain = Vec::new(alloc);
-    if !rest.is_empty() {
-        for text in rest.split(|byte| *byte == b' ') {
-            chain.push(record_of(alloc, text)?).ok()?;
+    if !text.is_empty() {
+        for part in text.split(|byte| *byte == b' ') {
+            chain.push(record_of(alloc, part)?).ok()?;
         }
     }
-    match rebuild(alloc, chain) {
+    Some(chain)
+}
+
+// `rebuild RECORD..`: the numbers at the end of the chain, or Bad.
+fn rebuilt(alloc: Global, rest: &[u8], out: &mut Vec<u8>) -> Option<()> {
+    match rebuild(alloc, chain_of(alloc, rest)?) {
         Ok((end, _)) => {
             out.extend_from_slice(b"numbers").ok()?;
             put_numbers(alloc, end.entries.as_slice(), out)
@@ -123,21 +150,38 @@ fn rebuilt(alloc: Global, rest: &[u8], out: &mut Vec<u8>) -> Option<()> {
     }
 }
 
+// Appends the numbers that a delta takes away, and those of the entries that it changes.
+fn put_delta(
+    alloc: Global,
+    gone: &[u64],
+    changed: &[NumberedEntry],
+    out: &mut Vec<u8>,
+) -> Option<()> {
+    out.extend_from_slice(b"gone").ok()?;
+    put_each(alloc, gone, out)?;
+    out.extend_from_slice(b" changed").ok()?;
+    put_numbers(alloc, changed, out)
+}
+
+fn put_record(alloc: Global, record: &RosterRecord, out: &mut Vec<u8>) -> Option<()> {
+    match record {
+        RosterRecord::Delta { gone, changed, .. } => {
+            put_delta(alloc, gone.as_slice(), changed.entries.as_slice(), out)
+        }
+        RosterRecord::Whole(_) => None,
+    }
+}
+
+fn delta_of(alloc: Global, base: &Numbered, new: &Numbered) -> Option<RosterRecord> {
+    delta(alloc, base, Pos(0), 1, new).ok()
+}
+
 // `delta BASE NEW`: the numbers that are gone, and those of the entries that changed.
 fn difference(alloc: Global, rest: &[u8], out: &mut Vec<u8>) -> Option<()> {
     let (base, new) = first_word(rest);
-    let (base, new) = (numbered_of(alloc, base)?, numbered_of(alloc, new)?);
-    let record = delta(alloc, &base, Pos(0), 1, &new).ok()?;
-    let RosterRecord::Delta { gone, changed, .. } = &record else {
-        return None;
-    };
-    out.extend_from_slice(b"gone").ok()?;
-    for number in gone.as_slice() {
-        out.push(b' ').ok()?;
-        put_number(alloc, *number, out)?;
-    }
-    out.extend_from_slice(b" changed").ok()?;
-    put_numbers(alloc, changed.entries.as_slice(), out)
+    let base = numbered_of(alloc, base)?;
+    let new = numbered_of(alloc, new)?;
+    put_record(alloc, &delta_of(alloc, &base, &new)?, out)
 }
 
 // A file below the root, of a name of one byte.
@@ -182,31 +226,60 @@ fn lists_of(alloc: Global, text: &[u8]) -> Option<Vec<Numbered>> {
     Some(lists)
 }
 
+// Appends the numbers of a tree, and the next one.
+fn put_tree(alloc: Global, numbered: &Numbered, next: u64, out: &mut Vec<u8>) -> Option<()> {
+    out.extend_from_slice(b"numbers").ok()?;
+    put_numbers(alloc, numbered.entries.as_slice(), out)?;
+    out.extend_from_slice(b" next ").ok()?;
+    put_number(alloc, next, out)
+}
+
+// Numbers a tree of at most 1000 nodes.
+fn number_tree(
+    alloc: Global,
+    tree: &MarkedRoster,
+    known: &[&Numbered],
+    next: u64,
+    out: &mut Vec<u8>,
+) -> Option<()> {
+    if 1000 < next || 1000 < tree.roster().len() {
+        return None;
+    }
+    let stops = tree.roster().stops(alloc).ok()?;
+    match number(alloc, tree, &stops, known, next) {
+        Ok((numbered, next)) => put_tree(alloc, &numbered, next, out),
+        Err(NumberError::Clash) => out.extend_from_slice(b"Clash").ok(),
+        Err(NumberError::NoMemory) => None,
+    }
+}
+
+fn lent<'a>(alloc: Global, lists: &'a [Numbered]) -> Option<Vec<&'a Numbered>> {
+    let mut known = Vec::new(alloc);
+    for list in lists {
+        known.push(list).ok()?;
+    }
+    Some(known)
+}
+
+// Numbers a tree over lists of known entries.
+fn number_over(
+    alloc: Global,
+    tree: &MarkedRoster,
+    lists: &[Numbered],
+    next: u64,
+    out: &mut Vec<u8>,
+) -> Option<()> {
+    let known = lent(alloc, lists)?;
+    number_tree(alloc, tree, &known, next, out)
+}
+
 // `number NEXT NAMES KNOWN..`: the numbers of the root with files of these names, and the next one; or Clash.
 fn numbers(alloc: Global, rest: &[u8], out: &mut Vec<u8>) -> Option<()> {
     let (next, rest) = first_word(rest);
     let (names, known) = first_word(rest);
     let next = number_of(next)?;
-    let tree = tree_of(alloc, names)?;
     let lists = lists_of(alloc, known)?;
-    let mut known = Vec::new(alloc);
-    for list in &lists {
-        known.push(list).ok()?;
-    }
-    if 1000 < next || 1000 < tree.roster().len() {
-        return None;
-    }
-    let stops = tree.roster().stops(alloc).ok()?;
-    match number(alloc, &tree, &stops, &known, next) {
-        Ok((numbered, free)) => {
-            out.extend_from_slice(b"numbers").ok()?;
-            put_numbers(alloc, numbered.entries.as_slice(), out)?;
-            out.extend_from_slice(b" next ").ok()?;
-            put_number(alloc, free, out)
-        }
-        Err(NumberError::Clash) => out.extend_from_slice(b"Clash").ok(),
-        Err(NumberError::NoMemory) => None,
-    }
+    number_over(alloc, &tree_of(alloc, names)?, &lists, next, out)
 }
 
 /// What a word answers.
