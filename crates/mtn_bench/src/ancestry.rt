@@ -34,15 +34,20 @@ fn add(graph: &mut Graph, parents: ParentList) -> Result<(), NoMemory> {
     Ok(())
 }
 
+// Appends a fork of two revisions and their merge.
+fn add_diamond(graph: &mut Graph) -> Result<(), NoMemory> {
+    let last = graph.len().saturating_sub(1);
+    add(graph, ParentList::One(Pos(last)))?;
+    add(graph, ParentList::One(Pos(last)))?;
+    let fork = (last.saturating_add(1), last.saturating_add(2));
+    add(graph, ParentList::Two(Pos(fork.0), Pos(fork.1)))
+}
+
 fn diamonds(alloc: Global, count: u64) -> Result<Graph, NoMemory> {
     let mut graph = Graph::new(alloc);
     add(&mut graph, ParentList::Zero)?;
     for _ in 0..count {
-        let last = graph.len().saturating_sub(1);
-        add(&mut graph, ParentList::One(Pos(last)))?;
-        add(&mut graph, ParentList::One(Pos(last)))?;
-        let fork = (last.saturating_add(1), last.saturating_add(2));
-        add(&mut graph, ParentList::Two(Pos(fork.0), Pos(fork.1)))?;
+        add_diamond(&mut graph)?;
     }
     Ok(graph)
 }
@@ -59,14 +64,18 @@ fn are_within(graph: &Graph, of: &[Pos]) -> bool
     true
 }
 
+fn common_of(alloc: Global, graph: &Graph, of: &[Pos]) -> Option<usize> {
+    if of.is_empty() || !are_within(graph, of) {
+        return None;
+    }
+    Some(graph.common(alloc, of).ok()?.as_slice().len())
+}
+
 // How many ancestors the newest four revisions have in common.
 fn common_of_newest(alloc: Global, graph: &Graph) -> Option<usize> {
     let last = graph.len().checked_sub(4)?;
     let tips = [Pos(last + 3), Pos(last + 2), Pos(last + 1), Pos(last)];
-    if !are_within(graph, &tips) {
-        return None;
-    }
-    Some(graph.common(alloc, &tips).ok()?.as_slice().len())
+    common_of(alloc, graph, &tips)
 }
 
 // How many ancestors the newest revision has.
@@ -78,24 +87,59 @@ fn ancestors_of_newest(alloc: Global, graph: &Graph) -> Option<usize> {
     Some(graph.ancestors(alloc, &newest).ok()?.as_slice().len())
 }
 
+/// Whether the root is an ancestor of the newest revision. A step.
+fn is_root_older(rt: &HostRuntime, watch: &mut Watch, graph: &Graph) -> Option<bool> {
+    let newest = graph.len().checked_sub(1)?;
+    watch.begin(rt)?;
+    let is_older = graph.is_ancestor(rt.alloc(), Pos(0), Pos(newest)).ok()?;
+    watch.lap(rt)?;
+    Some(is_older)
+}
+
+/// How many revisions each side of the last fork has alone. A step.
+fn uncommon_of_fork(
+    rt: &HostRuntime,
+    watch: &mut Watch,
+    graph: &mut Graph,
+) -> Option<(usize, usize)> {
+    let fork = graph.len().checked_sub(3)?;
+    watch.begin(rt)?;
+    let sets = uncommon(rt.alloc(), graph, Pos(fork), Pos(fork + 1)).ok()?;
+    let counts = (sets.0.as_slice().len(), sets.1.as_slice().len());
+    watch.lap(rt)?;
+    Some(counts)
+}
+
+fn line_of(
+    alloc: Global,
+    is_old: bool,
+    ancestors: usize,
+    fork: (usize, usize),
+    common: usize,
+) -> Option<Vec<u8>> {
+    let (left, right) = fork;
+    let line = format!(in alloc; "{is_old} {ancestors} {left} {right} {common}\n").ok()?;
+    Some(line.into_bytes())
+}
+
+/// What the steps behind the making of a graph tell.
+fn told(rt: &HostRuntime, watch: &mut Watch, graph: &mut Graph) -> Option<Vec<u8>> {
+    let is_old = is_root_older(rt, watch, graph)?;
+    let ancestors = ancestors_of_newest(rt.alloc(), graph)?;
+    watch.lap(rt)?;
+    let fork = uncommon_of_fork(rt, watch, graph)?;
+    watch.begin(rt)?;
+    let common = common_of_newest(rt.alloc(), graph)?;
+    watch.lap(rt)?;
+    line_of(rt.alloc(), is_old, ancestors, fork, common)
+}
+
 /// Makes a graph of a root and as many diamonds as the text says, each a fork of two revisions and their merge.
 /// Steps: making it; whether the root is an ancestor of the newest; the ancestors of the newest; what the last fork
 /// has not in common; what the newest four have in common.
 pub fn ancestry(rt: &HostRuntime, watch: &mut Watch, text: &[u8]) -> Option<Vec<u8>> {
-    let alloc = rt.alloc();
     watch.begin(rt)?;
-    let mut graph = diamonds(alloc, number_of(text)).ok()?;
+    let mut graph = diamonds(rt.alloc(), number_of(text)).ok()?;
     watch.lap(rt)?;
-    let fork = graph.len().checked_sub(3)?;
-    let is_old = graph.is_ancestor(alloc, Pos(0), Pos(fork + 2)).ok()?;
-    watch.lap(rt)?;
-    let ancestors = ancestors_of_newest(alloc, &graph)?;
-    watch.lap(rt)?;
-    let sets = uncommon(alloc, &mut graph, Pos(fork), Pos(fork + 1)).ok()?;
-    let (left, right) = (sets.0.as_slice().len(), sets.1.as_slice().len());
-    watch.lap(rt)?;
-    let common = common_of_newest(alloc, &graph)?;
-    watch.lap(rt)?;
-    let line = format!(in alloc; "{is_old} {ancestors} {left} {right} {common}\n").ok()?;
-    Some(line.into_bytes())
+    told(rt, watch, &mut graph)
 }

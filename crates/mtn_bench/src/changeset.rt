@@ -1,10 +1,11 @@
 // Changesets (bench/changeset.sh).
-use crate::tree::{BIRTH, entries_of};
+use crate::sections::line_of;
+use crate::tree::{BIRTH, built, entries_of};
 use crate::watch::Watch;
 use mtn_apply::{apply, none_is_born};
 use mtn_base::Id;
 use mtn_changes::read_changes;
-use mtn_roster::Roster;
+use mtn_roster::{Entry, Roster};
 use std::alloc::Global;
 
 // The revision that the changes make.
@@ -30,16 +31,25 @@ fn applied(
     Some(tree)
 }
 
+/// How many nodes the tree has that some changes make of that of some entries. Both steps.
+fn nodes_applied(
+    rt: &HostRuntime,
+    watch: &mut Watch,
+    entries: Vec<Entry>,
+    text: &[u8],
+) -> Option<u64> {
+    let old = built(rt, watch, entries)?;
+    let tree = applied(rt, watch, rt.alloc(), &old, text)?;
+    Some(tree.len())
+}
+
 /// Applies the changes behind a `=` to the tree before it; writes how many nodes the new tree has.
 /// Steps: building the old tree, applying the changes.
 pub fn changeset(rt: &HostRuntime, watch: &mut Watch, text: &[u8]) -> Option<Vec<u8>> {
-    let alloc = rt.alloc();
     let mut parts = text.split(|byte| *byte == b'=');
-    let entries = entries_of(alloc, parts.next()?, BIRTH)?;
-    watch.begin(rt)?;
-    let old = Roster::build(alloc, entries).ok()?;
-    watch.lap(rt)?;
-    let tree = applied(rt, watch, alloc, &old, parts.next()?)?;
-    let line = format!(in alloc; "{}\n", tree.len()).ok()?;
-    Some(line.into_bytes())
+    let entries = entries_of(rt.alloc(), parts.next()?, BIRTH)?;
+    line_of(
+        rt.alloc(),
+        nodes_applied(rt, watch, entries, parts.next()?)?,
+    )
 }

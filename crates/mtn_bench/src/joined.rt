@@ -1,9 +1,10 @@
 // Joining the trees of two edges (bench/join.sh).
-use crate::tree::{BIRTH, entries_of};
+use crate::sections::line_of;
+use crate::tree::{BIRTH, built, entries_of};
 use crate::watch::Watch;
 use mtn_base::Id;
 use mtn_join::{common_are_known, join};
-use mtn_roster::Roster;
+use mtn_roster::{Entry, Roster};
 use std::alloc::Global;
 use std::collections::BTreeSet;
 
@@ -20,19 +21,29 @@ fn join_known(alloc: Global, left: Roster, right: Roster) -> Option<Roster> {
     join(alloc, left, right, NEW, &lefts, &rights).ok()
 }
 
+/// How many nodes the joining of two trees has. A step.
+fn nodes_joined(rt: &HostRuntime, watch: &mut Watch, left: Roster, right: Roster) -> Option<u64> {
+    watch.begin(rt)?;
+    let both = join_known(rt.alloc(), left, right)?;
+    watch.lap(rt)?;
+    Some(both.len())
+}
+
+fn join_built(
+    rt: &HostRuntime,
+    watch: &mut Watch,
+    first: Vec<Entry>,
+    second: Vec<Entry>,
+) -> Option<u64> {
+    let left = built(rt, watch, first)?;
+    let right = built(rt, watch, second)?;
+    nodes_joined(rt, watch, left, right)
+}
+
 /// Builds a tree twice and joins the two; writes how many nodes the joined tree has.
 /// Steps: building one, building the other, joining them with the test of births.
 pub fn joined(rt: &HostRuntime, watch: &mut Watch, text: &[u8]) -> Option<Vec<u8>> {
-    let alloc = rt.alloc();
-    let first = entries_of(alloc, text, BIRTH)?;
-    let second = entries_of(alloc, text, BIRTH)?;
-    watch.begin(rt)?;
-    let left = Roster::build(alloc, first).ok()?;
-    watch.lap(rt)?;
-    let right = Roster::build(alloc, second).ok()?;
-    watch.lap(rt)?;
-    let both = join_known(alloc, left, right)?;
-    watch.lap(rt)?;
-    let line = format!(in alloc; "{}\n", both.len()).ok()?;
-    Some(line.into_bytes())
+    let first = entries_of(rt.alloc(), text, BIRTH)?;
+    let second = entries_of(rt.alloc(), text, BIRTH)?;
+    line_of(rt.alloc(), join_built(rt, watch, first, second)?)
 }

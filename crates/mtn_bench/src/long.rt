@@ -1,5 +1,5 @@
 // The largest rosters: 100,015 nodes with paths of up to 4,095 bytes (bench/roster.sh, for the peak of memory).
-use crate::sections::number_of;
+use crate::sections::{line_of, number_of};
 use crate::tree::{BIRTH, FILE, entry_at};
 use crate::watch::Watch;
 use mtn_base::{Comp, MAX_COMP, Path};
@@ -17,6 +17,16 @@ fn long_comp(alloc: Global, number: u32) -> Option<Comp> {
     Comp::read(alloc, &text).ok()
 }
 
+fn path_below(alloc: Global, above: &Path, number: u32) -> Option<Path> {
+    let mut path = above.copy(alloc).ok()?;
+    path.push(long_comp(alloc, number)?).ok()?;
+    Some(path)
+}
+
+fn push_at(alloc: Global, path: Path, body: Body, to: &mut Vec<Entry>) -> Option<()> {
+    to.push(entry_at(alloc, path, BIRTH, body)?).ok()
+}
+
 /// A node below a path; gives its path.
 fn push_long(
     alloc: Global,
@@ -25,10 +35,8 @@ fn push_long(
     body: Body,
     to: &mut Vec<Entry>,
 ) -> Option<Path> {
-    let mut path = above.copy(alloc).ok()?;
-    path.push(long_comp(alloc, number)?).ok()?;
-    let own = path.copy(alloc).ok()?;
-    to.push(entry_at(alloc, own, BIRTH, body)?).ok()?;
+    let path = path_below(alloc, above, number)?;
+    push_at(alloc, path.copy(alloc).ok()?, body, to)?;
     Some(path)
 }
 
@@ -43,38 +51,55 @@ fn push_dir(alloc: Global, above: &Path, number: u32, to: &mut Vec<Entry>) -> Op
 
 /// The root with a chain of 14 directories; gives the path of the last.
 fn push_chain(alloc: Global, to: &mut Vec<Entry>) -> Option<Path> {
+    push_at(alloc, Path::root(alloc), Body::Dir, to)?;
     let mut path = Path::root(alloc);
-    to.push(entry_at(alloc, Path::root(alloc), BIRTH, Body::Dir)?)
-        .ok()?;
     for number in 0..14 {
         path = push_long(alloc, &path, number, Body::Dir, to)?;
     }
     Some(path)
 }
 
+fn push_dirs(alloc: Global, to: &mut Vec<Entry>) -> Option<()> {
+    let path = push_chain(alloc, to)?;
+    for number in 0..5000 {
+        push_dir(alloc, &path, number, to)?;
+    }
+    Some(())
+}
+
 /// A roster of 5,000 directories with 19 files each, 15 components deep.
 fn long_roster(alloc: Global) -> Option<Roster> {
     let mut entries = Vec::new(alloc);
-    let path = push_chain(alloc, &mut entries)?;
-    for number in 0..5000 {
-        push_dir(alloc, &path, number, &mut entries)?;
-    }
+    push_dirs(alloc, &mut entries)?;
     Roster::build(alloc, entries).ok()
+}
+
+fn long_rosters(alloc: Global, count: u64) -> Option<Vec<Roster>> {
+    let mut rosters = Vec::new(alloc);
+    for _ in 0..count {
+        rosters.push(long_roster(alloc)?).ok()?;
+    }
+    Some(rosters)
+}
+
+fn manifest_of(alloc: Global, roster: &Roster) -> Option<Vec<u8>> {
+    let mut manifest = Vec::new(alloc);
+    mtn_manifest::write(roster, &mut manifest).ok()?;
+    Some(manifest)
+}
+
+/// Makes a roster and its manifest; gives the bytes of that. Ends the step.
+fn last(rt: &HostRuntime, watch: &mut Watch) -> Option<u64> {
+    let roster = long_roster(rt.alloc())?;
+    let manifest = manifest_of(rt.alloc(), &roster)?;
+    watch.lap(rt)?;
+    Some(manifest.len() as u64)
 }
 
 /// Makes so many of the largest rosters, and the manifest of one more; writes how many bytes that has.
 /// Steps: all.
 pub fn long(rt: &HostRuntime, watch: &mut Watch, text: &[u8]) -> Option<Vec<u8>> {
-    let alloc = rt.alloc();
-    let mut others = Vec::new(alloc);
     watch.begin(rt)?;
-    for _ in 0..number_of(text) {
-        others.push(long_roster(alloc)?).ok()?;
-    }
-    let roster = long_roster(alloc)?;
-    let mut manifest = Vec::new(alloc);
-    mtn_manifest::write(&roster, &mut manifest).ok()?;
-    watch.lap(rt)?;
-    let line = format!(in alloc; "{}\n", manifest.len()).ok()?;
-    Some(line.into_bytes())
+    let _others = long_rosters(rt.alloc(), number_of(text))?;
+    line_of(rt.alloc(), last(rt, watch)?)
 }

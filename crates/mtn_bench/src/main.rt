@@ -18,7 +18,7 @@ mod stanzas;
 mod tree;
 mod watch;
 
-use sections::next_section;
+use sections::{Section, next_section};
 use std::env;
 use std::io::{self, Read, Write};
 use std::process::ExitCode;
@@ -56,6 +56,18 @@ fn answer(rt: &HostRuntime, watch: &mut Watch, word: &str, text: &[u8]) -> Optio
     }
 }
 
+// What the word of a section answers.
+fn put_answer(
+    rt: &HostRuntime,
+    watch: &mut Watch,
+    section: &Section,
+    out: &mut Vec<u8>,
+) -> Option<()> {
+    let word = str::from_utf8(section.word).ok()?;
+    let told = answer(rt, watch, word, section.given)?;
+    out.extend_from_slice(&told).ok()
+}
+
 // What the words of all sections answer.
 fn answers(rt: &HostRuntime, watch: &mut Watch, input: &[u8]) -> Option<Vec<u8>> {
     let mut out = Vec::new(rt.alloc());
@@ -65,21 +77,24 @@ fn answers(rt: &HostRuntime, watch: &mut Watch, input: &[u8]) -> Option<Vec<u8>>
             break;
         }
         let next = next_section(rest)?;
-        let word = str::from_utf8(next.word).ok()?;
-        let told = answer(rt, watch, word, next.given)?;
-        out.extend_from_slice(&told).ok()?;
+        put_answer(rt, watch, &next, &mut out)?;
         rest = next.rest;
     }
     Some(out)
 }
 
-// What is written for the words of the command line.
+// What is done for the words of the command line.
+fn done(rt: &HostRuntime, watch: &mut Watch, word: Option<&str>, text: &[u8]) -> Option<Vec<u8>> {
+    match word {
+        Some(word) => answer(rt, watch, word, text),
+        None => answers(rt, watch, text),
+    }
+}
+
+// What is written for it.
 fn told(rt: &HostRuntime, word: Option<&str>, times: bool, text: &[u8]) -> Option<Vec<u8>> {
     let mut watch = Watch::start(rt)?;
-    let out = match word {
-        Some(word) => answer(rt, &mut watch, word, text)?,
-        None => answers(rt, &mut watch, text)?,
-    };
+    let out = done(rt, &mut watch, word, text)?;
     if times {
         watch.line(rt.alloc())
     } else {
@@ -87,19 +102,37 @@ fn told(rt: &HostRuntime, word: Option<&str>, times: bool, text: &[u8]) -> Optio
     }
 }
 
-fn main(rt: HostRuntime) -> io::Result<ExitCode> {
+fn write_told(
+    rt: &HostRuntime,
+    word: Option<&str>,
+    times: bool,
+    text: &[u8],
+) -> io::Result<ExitCode> {
+    match told(rt, word, times, text) {
+        Some(out) => {
+            rt.stdout().write_all(&out)?;
+            Ok(ExitCode::SUCCESS)
+        }
+        None => Ok(ExitCode::FAILURE),
+    }
+}
+
+fn read_all(rt: &HostRuntime) -> io::Result<Vec<u8>> {
     let mut text = Vec::new(rt.alloc());
     rt.stdin().read_to_end(&mut text)?;
-    let mut words = env::args(&rt)?;
+    Ok(text)
+}
+
+// The word of the command line, and whether another stands behind it.
+fn words(rt: &HostRuntime) -> io::Result<(Option<String>, bool)> {
+    let mut words = env::args(rt)?;
     let _program = words.next();
     let word = words.next();
-    let word = match &word {
-        Some(text) => Some(text.as_str()),
-        None => None,
-    };
-    let Some(out) = told(&rt, word, words.next().is_some(), &text) else {
-        return Ok(ExitCode::FAILURE);
-    };
-    rt.stdout().write_all(&out)?;
-    Ok(ExitCode::SUCCESS)
+    Ok((word, words.next().is_some()))
+}
+
+fn main(rt: HostRuntime) -> io::Result<ExitCode> {
+    let text = read_all(&rt)?;
+    let (word, times) = words(&rt)?;
+    write_told(&rt, word.as_deref(), times, &text)
 }

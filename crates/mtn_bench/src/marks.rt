@@ -1,10 +1,10 @@
 // Marking (bench/marks.sh).
-use crate::tree::{BIRTH, entries_of};
+use crate::tree::{BIRTH, built, entries_of};
 use crate::watch::Watch;
 use mtn_ancestry::Pos;
 use mtn_base::Id;
 use mtn_marking::{MarkMap, MarkedRoster, mark_one, mark_root};
-use mtn_roster::{Body, Entry, Roster};
+use mtn_roster::{Body, Entry};
 use std::alloc::Global;
 
 /// The same entries, with another content of the last one.
@@ -35,9 +35,7 @@ fn set_at(marks: &MarkMap, at: Pos) -> u64 {
 
 /// The marked root of these entries.
 fn root_of(rt: &HostRuntime, watch: &mut Watch, entries: Vec<Entry>) -> Option<MarkedRoster> {
-    watch.begin(rt)?;
-    let roster = Roster::build(rt.alloc(), entries).ok()?;
-    watch.lap(rt)?;
+    let roster = built(rt, watch, entries)?;
     let marks = mark_root(rt.alloc(), &roster, Pos(0)).ok()?;
     watch.lap(rt)?;
     Some(MarkedRoster::new(roster, marks))
@@ -50,23 +48,34 @@ fn child_of(
     parent: &MarkedRoster,
     entries: Vec<Entry>,
 ) -> Option<MarkMap> {
-    watch.begin(rt)?;
-    let roster = Roster::build(rt.alloc(), entries).ok()?;
-    watch.lap(rt)?;
+    let roster = built(rt, watch, entries)?;
     let marks = mark_one(rt.alloc(), parent, &roster, Pos(1)).ok()?;
     watch.lap(rt)?;
     Some(marks)
+}
+
+/// The marks of the child, once its parent is marked. All steps.
+fn marks_of(
+    rt: &HostRuntime,
+    watch: &mut Watch,
+    entries: Vec<Entry>,
+    changed: Vec<Entry>,
+) -> Option<MarkMap> {
+    let root = root_of(rt, watch, entries)?;
+    child_of(rt, watch, &root, changed)
+}
+
+fn line_of(alloc: Global, marks: &MarkMap) -> Option<Vec<u8>> {
+    let line = format!(in alloc; "{} {}\n", marks.len(), set_at(marks, Pos(1))).ok()?;
+    Some(line.into_bytes())
 }
 
 /// Marks a tree as a root, and then the same tree with another content of its last file as the root's child; writes how
 /// many nodes have a marking and how many of them a mark of the child.
 /// Steps: building the root, marking it, building the child, marking it.
 pub fn marks(rt: &HostRuntime, watch: &mut Watch, text: &[u8]) -> Option<Vec<u8>> {
-    let alloc = rt.alloc();
-    let entries = entries_of(alloc, text, BIRTH)?;
-    let changed = changed_of(alloc, text)?;
-    let root = root_of(rt, watch, entries)?;
-    let marks = child_of(rt, watch, &root, changed)?;
-    let line = format!(in alloc; "{} {}\n", marks.len(), set_at(&marks, Pos(1))).ok()?;
-    Some(line.into_bytes())
+    let entries = entries_of(rt.alloc(), text, BIRTH)?;
+    let changed = changed_of(rt.alloc(), text)?;
+    let marks = marks_of(rt, watch, entries, changed)?;
+    line_of(rt.alloc(), &marks)
 }

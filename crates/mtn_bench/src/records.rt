@@ -100,36 +100,63 @@ fn numbered(alloc: Global, nodes: &[Node], links: u8) -> Option<Numbered> {
     Some(numbered)
 }
 
-fn chain_of(alloc: Global, nodes: &[Node]) -> Option<Vec<RosterRecord>> {
-    let mut base = numbered(alloc, nodes, 0)?;
+/// Appends a link to a chain with this end, which it changes.
+fn push_link(
+    alloc: Global,
+    nodes: &[Node],
+    depth: u8,
+    end: &mut Numbered,
+    chain: &mut Vec<RosterRecord>,
+) -> Option<()> {
+    let new = numbered(alloc, nodes, depth)?;
+    let at = Pos(u64::from(depth.saturating_sub(1)));
+    chain.push(delta(alloc, end, at, depth, &new).ok()?).ok()?;
+    *end = new;
+    Some(())
+}
+
+fn whole_of(alloc: Global, record: Numbered) -> Option<Vec<RosterRecord>> {
     let mut chain = Vec::new(alloc);
-    chain
-        .push(RosterRecord::Whole(numbered(alloc, nodes, 0)?))
-        .ok()?;
+    chain.push(RosterRecord::Whole(record)).ok()?;
+    Some(chain)
+}
+
+fn chain_of(alloc: Global, nodes: &[Node]) -> Option<Vec<RosterRecord>> {
+    let mut end = numbered(alloc, nodes, 0)?;
+    let mut chain = whole_of(alloc, numbered(alloc, nodes, 0)?)?;
     for depth in 1..=LINKS {
-        let new = numbered(alloc, nodes, depth)?;
-        let at = Pos(u64::from(depth - 1));
-        chain.push(delta(alloc, &base, at, depth, &new).ok()?).ok()?;
-        base = new;
+        push_link(alloc, nodes, depth, &mut end, &mut chain)?;
     }
     Some(chain)
 }
 
+fn time_rebuilding(rt: &HostRuntime, watch: &mut Watch, record: Numbered) -> Option<()> {
+    let whole = whole_of(rt.alloc(), record)?;
+    watch.begin(rt)?;
+    let _end = rebuild(rt.alloc(), whole).ok()?;
+    watch.lap(rt)
+}
+
+/// Reads a whole record and rebuilds it.
+fn time_reading(rt: &HostRuntime, watch: &mut Watch, record: &[u8]) -> Option<()> {
+    watch.begin(rt)?;
+    let (numbered, _) = Numbered::read(rt.alloc(), record).ok()?;
+    watch.lap(rt)?;
+    time_rebuilding(rt, watch, numbered)
+}
+
 /// Writes a whole record, reads it and rebuilds it.
 fn time_whole(rt: &HostRuntime, watch: &mut Watch, record: &[u8]) -> Option<()> {
-    let alloc = rt.alloc();
-    let (numbered, _) = Numbered::read(alloc, record).ok()?;
-    let mut out = Vec::new(alloc);
+    let (numbered, _) = Numbered::read(rt.alloc(), record).ok()?;
+    let mut out = Vec::new(rt.alloc());
     watch.begin(rt)?;
     numbered.write(&mut out).ok()?;
     watch.lap(rt)?;
-    let (numbered, _) = Numbered::read(alloc, &out).ok()?;
-    watch.lap(rt)?;
-    let mut whole = Vec::new(alloc);
-    whole.push(RosterRecord::Whole(numbered)).ok()?;
-    watch.begin(rt)?;
-    let _end = rebuild(alloc, whole).ok()?;
-    watch.lap(rt)
+    time_reading(rt, watch, &out)
+}
+
+fn time_first(rt: &HostRuntime, watch: &mut Watch, nodes: &[Node]) -> Option<()> {
+    time_whole(rt, watch, &text_of(rt.alloc(), nodes, 0)?)
 }
 
 /// How many entries a link marked.
@@ -143,19 +170,28 @@ fn marked(end: &Numbered) -> u64 {
     count
 }
 
+/// How many nodes the end of a chain has, and how many of them a mark of a link.
+fn line_of(alloc: Global, end: &Numbered) -> Option<Vec<u8>> {
+    let count = end.entries.as_slice().len();
+    let line = format!(in alloc; "{count} {}\n", marked(end)).ok()?;
+    Some(line.into_bytes())
+}
+
+/// Rebuilds a chain.
+fn time_chain(rt: &HostRuntime, watch: &mut Watch, chain: Vec<RosterRecord>) -> Option<Vec<u8>> {
+    watch.begin(rt)?;
+    let (end, _tree) = rebuild(rt.alloc(), chain).ok()?;
+    watch.lap(rt)?;
+    line_of(rt.alloc(), &end)
+}
+
 /// Makes the record of the nodes of a text, a line for each: the number of the line of its parent, a blank and its path,
 /// where a directory ends with a slash. Then makes a chain of sixteen, in which each link gives some slots a new mark, and
 /// rebuilds it; writes how many nodes its end has and how many of them a mark of a link.
 /// Steps: writing the whole record, reading it, rebuilding it, rebuilding the chain.
 pub fn records(rt: &HostRuntime, watch: &mut Watch, text: &[u8]) -> Option<Vec<u8>> {
-    let alloc = rt.alloc();
-    let nodes = nodes_of(alloc, text)?;
-    let chain = chain_of(alloc, &nodes)?;
-    time_whole(rt, watch, &text_of(alloc, &nodes, 0)?)?;
-    watch.begin(rt)?;
-    let (end, _tree) = rebuild(alloc, chain).ok()?;
-    watch.lap(rt)?;
-    let count = end.entries.as_slice().len();
-    let line = format!(in alloc; "{count} {}\n", marked(&end)).ok()?;
-    Some(line.into_bytes())
+    let nodes = nodes_of(rt.alloc(), text)?;
+    let chain = chain_of(rt.alloc(), &nodes)?;
+    time_first(rt, watch, &nodes)?;
+    time_chain(rt, watch, chain)
 }

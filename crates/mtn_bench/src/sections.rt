@@ -1,4 +1,5 @@
 // Sections: a line of a word, a blank and the number of the bytes of what is given to it, and then those bytes.
+use std::alloc::Global;
 
 /// A section and what is behind it.
 #[derive(Clone, Copy)]
@@ -6,6 +7,12 @@ pub struct Section<'a> {
     pub word: &'a [u8],
     pub given: &'a [u8],
     pub rest: &'a [u8],
+}
+
+/// The line of a number.
+pub fn line_of(alloc: Global, number: u64) -> Option<Vec<u8>> {
+    let line = format!(in alloc; "{number}\n").ok()?;
+    Some(line.into_bytes())
 }
 
 /// The number that some digits spell.
