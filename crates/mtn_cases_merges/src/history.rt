@@ -1,4 +1,5 @@
 // Small histories: revisions, their trees and their marks.
+use crate::words::words_of;
 use mtn_ancestry::{Graph, ParentList, Pos, PosSet, uncommon};
 use mtn_base::Id;
 use mtn_case_trees::{entries_of, id_of};
@@ -24,38 +25,67 @@ fn sets_of(alloc: Global, graph: &mut Graph, left: Pos, right: Pos) -> Option<(P
     }
 }
 
-/// Appends a revision to a graph that has its parents and not its id.
-fn push(graph: &mut Graph, id: Id, parents: ParentList) -> Option<()> {
+fn push_two(graph: &mut Graph, id: Id, p: Pos, q: Pos) -> Option<()> {
     let len = graph.len();
+    if p.0 >= len || q.0 >= len || graph.find(id).is_some() {
+        return None;
+    }
+    graph.push(id, ParentList::Two(p, q)).ok()?;
+    Some(())
+}
+
+fn push_one(graph: &mut Graph, id: Id, p: Pos) -> Option<()> {
+    let len = graph.len();
+    if p.0 >= len || graph.find(id).is_some() {
+        return None;
+    }
+    graph.push(id, ParentList::One(p)).ok()?;
+    Some(())
+}
+
+fn push_root(graph: &mut Graph, id: Id) -> Option<()> {
     if graph.find(id).is_some() {
         return None;
     }
-    match parents {
-        ParentList::Two(p, q) if p.0 < len && q.0 < len => {
-            graph.push(id, ParentList::Two(p, q)).ok()?;
-        }
-        ParentList::One(p) if p.0 < len => {
-            graph.push(id, ParentList::One(p)).ok()?;
-        }
-        ParentList::Zero => {
-            graph.push(id, ParentList::Zero).ok()?;
-        }
-        _ => return None,
-    }
+    graph.push(id, ParentList::Zero).ok()?;
     Some(())
+}
+
+/// Appends a revision to a graph that has its parents and not its id.
+fn push(graph: &mut Graph, id: Id, parents: ParentList) -> Option<()> {
+    match parents {
+        ParentList::Two(p, q) => push_two(graph, id, p, q),
+        ParentList::One(p) => push_one(graph, id, p),
+        ParentList::Zero => push_root(graph, id),
+    }
+}
+
+/// The position of the revision of a digit.
+fn find(graph: &Graph, word: &[u8]) -> Option<Pos> {
+    graph.find(id_of(word)?)
+}
+
+fn both_of(graph: &Graph, first: &[u8], second: &[u8]) -> Option<ParentList> {
+    let first = find(graph, first)?;
+    Some(ParentList::Two(first, find(graph, second)?))
 }
 
 /// The parents that words tell.
 fn parents_of(graph: &Graph, words: &[&[u8]]) -> Option<ParentList> {
     match words {
         [] => Some(ParentList::Zero),
-        [parent] => Some(ParentList::One(graph.find(id_of(parent)?)?)),
-        [first, second] => Some(ParentList::Two(
-            graph.find(id_of(first)?)?,
-            graph.find(id_of(second)?)?,
-        )),
+        [parent] => Some(ParentList::One(find(graph, parent)?)),
+        [first, second] => both_of(graph, first, second),
         _ => None,
     }
+}
+
+/// The tree of the revision of a digit.
+fn tree_of(alloc: Global, case: &[u8], name: &[u8]) -> Option<Roster> {
+    let mut prefix = name.to_vec(alloc).ok()?;
+    prefix.push(b' ').ok()?;
+    let entries = entries_of(alloc, case, &prefix)?;
+    Roster::build(alloc, entries).ok()
 }
 
 impl History {
@@ -73,38 +103,77 @@ impl History {
         Some(history)
     }
 
+    fn marks_by(
+        &self,
+        alloc: Global,
+        tree: &Roster,
+        p: Pos,
+        q: Pos,
+        sets: &(PosSet, PosSet),
+    ) -> Option<MarkMap> {
+        let at = Pos(self.trees.len() as u64);
+        let left = self.trees.get(p.0 as usize)?;
+        let right = self.trees.get(q.0 as usize)?;
+        mark_two(alloc, left, right, tree, at, &sets.0, &sets.1).ok()
+    }
+
+    /// The marks of a tree over those of two revisions.
+    fn marks_over(&mut self, alloc: Global, tree: &Roster, p: Pos, q: Pos) -> Option<MarkMap> {
+        let sets = sets_of(alloc, &mut self.graph, p, q)?;
+        self.marks_by(alloc, tree, p, q, &sets)
+    }
+
+    fn marks_on(&self, alloc: Global, tree: &Roster, p: Pos) -> Option<MarkMap> {
+        let at = Pos(self.trees.len() as u64);
+        mark_one(alloc, self.trees.get(p.0 as usize)?, tree, at).ok()
+    }
+
     /// The marks of a tree over those of its parents.
     fn marks_of(&mut self, alloc: Global, tree: &Roster, parents: ParentList) -> Option<MarkMap> {
-        let at = Pos(self.trees.len() as u64);
         match parents {
-            ParentList::Zero => mark_root(alloc, tree, at).ok(),
-            ParentList::One(p) => { mark_one(alloc, self.trees.get(p.0 as usize)?, tree, at).ok() }
-            ParentList::Two(p, q) => {
-                let sets = sets_of(alloc, &mut self.graph, p, q)?;
-                let left = self.trees.get(p.0 as usize)?;
-                let right = self.trees.get(q.0 as usize)?;
-                mark_two(alloc, left, right, tree, at, &sets.0, &sets.1).ok()
-            }
+            ParentList::Zero => mark_root(alloc, tree, Pos(self.trees.len() as u64)).ok(),
+            ParentList::One(p) => self.marks_on(alloc, tree, p),
+            ParentList::Two(p, q) => self.marks_over(alloc, tree, p, q),
         }
+    }
+
+    fn marked(&mut self, alloc: Global, tree: Roster, parents: ParentList) -> Option<MarkedRoster> {
+        let marks = self.marks_of(alloc, &tree, parents)?;
+        if MarkedRoster::fits(&tree, &marks) {
+            Some(MarkedRoster::new(tree, marks))
+        } else {
+            None
+        }
+    }
+
+    /// Appends a revision with the tree that the case has for it.
+    fn add(&mut self, alloc: Global, case: &[u8], name: &[u8], parents: ParentList) -> Option<()> {
+        let tree = self.marked(alloc, tree_of(alloc, case, name)?, parents)?;
+        push(&mut self.graph, id_of(name)?, parents)?;
+        self.trees.push(tree).ok()
+    }
+
+    fn add_words(&mut self, alloc: Global, case: &[u8], words: &[&[u8]]) -> Option<()> {
+        let (name, rest) = words.split_first()?;
+        let parents = parents_of(&self.graph, rest)?;
+        self.add(alloc, case, name, parents)
     }
 
     /// Appends the revision of a line.
     fn add_line(&mut self, alloc: Global, case: &[u8], line: &[u8]) -> Option<()> {
-        let mut words = Vec::new(alloc);
-        for word in line.split(|byte| *byte == b' ') {
-            words.push(word).ok()?;
-        }
-        let (name, rest) = words.split_first()?;
-        let mut prefix = name.to_vec(alloc).ok()?;
-        prefix.push(b' ').ok()?;
-        let tree = Roster::build(alloc, entries_of(alloc, case, &prefix)?).ok()?;
-        let parents = parents_of(&self.graph, rest)?;
-        let marks = self.marks_of(alloc, &tree, parents)?;
-        if !MarkedRoster::fits(&tree, &marks) {
-            return None;
-        }
-        push(&mut self.graph, id_of(name)?, parents)?;
-        self.trees.push(MarkedRoster::new(tree, marks)).ok()
+        self.add_words(alloc, case, &words_of(alloc, line)?)
+    }
+
+    fn decided_by(
+        &self,
+        alloc: Global,
+        left: Pos,
+        right: Pos,
+        sets: &(PosSet, PosSet),
+    ) -> Option<Decisions> {
+        let one = self.trees.get(left.0 as usize)?;
+        let other = self.trees.get(right.0 as usize)?;
+        decide(alloc, one, other, &sets.0, &sets.1).ok()
     }
 
     /// What a merge of two revisions decides.
@@ -112,8 +181,6 @@ impl History {
         let left = self.graph.find(left)?;
         let right = self.graph.find(right)?;
         let sets = sets_of(alloc, &mut self.graph, left, right)?;
-        let one = self.trees.get(left.0 as usize)?;
-        let other = self.trees.get(right.0 as usize)?;
-        decide(alloc, one, other, &sets.0, &sets.1).ok()
+        self.decided_by(alloc, left, right, &sets)
     }
 }

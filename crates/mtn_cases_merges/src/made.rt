@@ -23,32 +23,41 @@ fn settled(alloc: Global, attrs: Vec<Attr>) -> Option<Vec<AttrDecision>> {
     Some(decided)
 }
 
-/// The decision for all that an entry has.
-fn decided(alloc: Global, entry: Entry, reborn: bool) -> Option<Decision> {
-    let content = match entry.body {
+fn content_of(body: Body) -> ContentChoice {
+    match body {
         Body::Dir => ContentChoice::Absent,
         Body::File { content } => ContentChoice::Fixed(content),
-    };
+    }
+}
+
+/// The decision for all that an entry has.
+fn decided(alloc: Global, entry: Entry, reborn: bool) -> Option<Decision> {
+    let attrs = settled(alloc, entry.attrs.into_vec())?;
     Some(Decision {
         name: entry.name,
         is_dir: entry.body.is_dir(),
         slot: SlotChoice::Fixed(entry.slot),
-        content,
-        attrs: List::from_vec(settled(alloc, entry.attrs.into_vec())?),
+        content: content_of(entry.body),
+        attrs: List::from_vec(attrs),
         reborn,
     })
+}
+
+/// Appends the decision of a line, if it has one.
+fn add_line(alloc: Global, nodes: &mut Vec<Decision>, line: &[u8]) -> Option<()> {
+    let reborn = line.starts_with(b"reborn ");
+    if reborn || line.starts_with(b"node ") {
+        let entry = entry_of(alloc, line)?;
+        nodes.push(decided(alloc, entry, reborn)?).ok()?;
+    }
+    Some(())
 }
 
 /// The decisions of the lines of a case.
 fn nodes_of(alloc: Global, case: &[u8]) -> Option<Vec<Decision>> {
     let mut nodes = Vec::new(alloc);
     for line in case.split(|byte| *byte == b'\n') {
-        let reborn = line.starts_with(b"reborn ");
-        if reborn || line.starts_with(b"node ") {
-            nodes
-                .push(decided(alloc, entry_of(alloc, line)?, reborn)?)
-                .ok()?;
-        }
+        add_line(alloc, &mut nodes, line)?;
     }
     Some(nodes)
 }

@@ -23,18 +23,16 @@ mod listed;
 mod made;
 mod question;
 mod result;
+mod words;
 
 use question::question;
 use std::alloc::Global;
 use std::io::{self, Read, Write};
+use words::words_of;
 
-/// Answers a line, if it asks.
-fn answer(alloc: Global, case: &[u8], line: &[u8], out: &mut Vec<u8>) -> Option<()> {
-    let mut words = Vec::new(alloc);
-    for word in line.split(|byte| *byte == b' ') {
-        words.push(word).ok()?;
-    }
-    match words.as_slice() {
+/// Answers the words of a line, if they ask.
+fn of_words(alloc: Global, case: &[u8], words: &[&[u8]], out: &mut Vec<u8>) -> Option<()> {
+    match words {
         [b"choices"] => choices::choices(alloc, out),
         [b"lives"] => choices::living(alloc, out),
         [word, left, right, rest @ ..] => question(alloc, case, word, [*left, *right], rest, out),
@@ -42,15 +40,41 @@ fn answer(alloc: Global, case: &[u8], line: &[u8], out: &mut Vec<u8>) -> Option<
     }
 }
 
+/// Answers a line, if it asks.
+fn answer(alloc: Global, case: &[u8], line: &[u8], out: &mut Vec<u8>) -> Option<()> {
+    of_words(alloc, case, &words_of(alloc, line)?, out)
+}
+
+fn put_title(title: &[u8], out: &mut Vec<u8>) -> io::Result<()> {
+    out.push(b'#')?;
+    out.extend_from_slice(title)?;
+    out.push(b'\n')?;
+    Ok(())
+}
+
+fn put_answer(alloc: Global, case: &[u8], line: &[u8], out: &mut Vec<u8>) -> io::Result<()> {
+    if answer(alloc, case, line, out).is_none() {
+        out.extend_from_slice(b"no answer\n")?;
+    }
+    Ok(())
+}
+
 /// Prints a case's title and its answers.
 fn answers(alloc: Global, case: &[u8], out: &mut Vec<u8>) -> io::Result<()> {
-    out.push(b'#')?;
     for (number, line) in case.split(|byte| *byte == b'\n').enumerate() {
         if number == 0 {
-            out.extend_from_slice(line)?;
-            out.push(b'\n')?;
-        } else if answer(alloc, case, line, out).is_none() {
-            out.extend_from_slice(b"no answer\n")?;
+            put_title(line, out)?;
+        } else {
+            put_answer(alloc, case, line, out)?;
+        }
+    }
+    Ok(())
+}
+
+fn answer_all(alloc: Global, text: &[u8], out: &mut Vec<u8>) -> io::Result<()> {
+    for case in text.split(|byte| *byte == b'#') {
+        if !case.is_empty() {
+            answers(alloc, case, out)?;
         }
     }
     Ok(())
@@ -61,11 +85,7 @@ fn main(rt: HostRuntime) -> io::Result<()> {
     let mut text = Vec::new(alloc);
     rt.stdin().read_to_end(&mut text)?;
     let mut out = Vec::new(alloc);
-    for case in text.split(|byte| *byte == b'#') {
-        if !case.is_empty() {
-            answers(alloc, case, &mut out)?;
-        }
-    }
+    answer_all(alloc, &text, &mut out)?;
     rt.stdout().write_all(&out)?;
     Ok(())
 }

@@ -5,7 +5,7 @@ use crate::listed::{put_lists, put_text};
 use crate::made::made_by_hand;
 use crate::result::put_result;
 use mtn_case_trees::id_of;
-use mtn_conflicts::conflicts;
+use mtn_conflicts::{Conflicts, conflicts};
 use mtn_decide::Decisions;
 use std::alloc::Global;
 
@@ -15,31 +15,72 @@ fn has_line(case: &[u8], word: &[u8]) -> bool {
         .any(|line| line.starts_with(word))
 }
 
+fn merged(alloc: Global, case: &[u8], sides: [&[u8]; 2]) -> Option<Decisions> {
+    let left = id_of(sides[0])?;
+    let right = id_of(sides[1])?;
+    History::read(alloc, case)?.decided(alloc, left, right)
+}
+
 /// The decisions of a case: those that it makes by hand, or those of a merge of two of its revisions.
 fn decisions_of(alloc: Global, case: &[u8], sides: [&[u8]; 2]) -> Option<Decisions> {
     if has_line(case, b"node ") {
-        return made_by_hand(alloc, case);
+        made_by_hand(alloc, case)
+    } else {
+        merged(alloc, case, sides)
     }
-    let mut history = History::read(alloc, case)?;
-    history.decided(alloc, id_of(sides[0])?, id_of(sides[1])?)
 }
 
-/// Answers what is asked of the conflicts.
-fn of_conflicts(
+fn put_none(found: &Conflicts, out: &mut Vec<u8>) -> Option<()> {
+    let said: &[u8] = if found.none() { b"none\n" } else { b"some\n" };
+    out.extend_from_slice(said).ok()
+}
+
+fn put_written(found: &Conflicts, sides: [&[u8]; 2], out: &mut Vec<u8>) -> Option<()> {
+    let left = id_of(sides[0])?;
+    put_text(left, id_of(sides[1])?, found, out)
+}
+
+fn put_found(found: &Conflicts, word: &[u8], sides: [&[u8]; 2], out: &mut Vec<u8>) -> Option<()> {
+    match word {
+        b"conflicts" => put_lists(found, out),
+        b"write" => put_written(found, sides, out),
+        _ => put_none(found, out),
+    }
+}
+
+fn conflicts_of(alloc: Global, case: &[u8], sides: [&[u8]; 2]) -> Option<Conflicts> {
+    conflicts(alloc, &decisions_of(alloc, case, sides)?).ok()
+}
+
+fn put_decided(alloc: Global, case: &[u8], sides: [&[u8]; 2], out: &mut Vec<u8>) -> Option<()> {
+    put_decisions(&decisions_of(alloc, case, sides)?, out)
+}
+
+fn put_merged(
     alloc: Global,
-    word: &[u8],
+    case: &[u8],
     sides: [&[u8]; 2],
-    decisions: &Decisions,
+    id: &[u8],
     out: &mut Vec<u8>,
 ) -> Option<()> {
-    let found = conflicts(alloc, decisions).ok()?;
+    let id = id_of(id)?;
+    put_result(alloc, &decisions_of(alloc, case, sides)?, id, out)
+}
+
+/// Answers a line of a word and two ids, if it asks.
+fn of_two(
+    alloc: Global,
+    case: &[u8],
+    word: &[u8],
+    sides: [&[u8]; 2],
+    out: &mut Vec<u8>,
+) -> Option<()> {
     match word {
-        b"conflicts" => put_lists(&found, out),
-        b"write" => put_text(id_of(sides[0])?, id_of(sides[1])?, &found, out),
-        _ => {
-            let said: &[u8] = if found.none() { b"none\n" } else { b"some\n" };
-            out.extend_from_slice(said).ok()
+        b"decide" => put_decided(alloc, case, sides, out),
+        b"conflicts" | b"none" | b"write" => {
+            put_found(&conflicts_of(alloc, case, sides)?, word, sides, out)
         }
+        _ => Some(()),
     }
 }
 
@@ -52,14 +93,9 @@ pub fn question(
     rest: &[&[u8]],
     out: &mut Vec<u8>,
 ) -> Option<()> {
-    match (word, rest) {
-        (b"decide", []) => put_decisions(&decisions_of(alloc, case, sides)?, out),
-        (b"conflicts" | b"none" | b"write", []) => {
-            of_conflicts(alloc, word, sides, &decisions_of(alloc, case, sides)?, out)
-        }
-        (b"result", [id]) => {
-            put_result(alloc, &decisions_of(alloc, case, sides)?, id_of(id)?, out)
-        }
+    match rest {
+        [] => of_two(alloc, case, word, sides, out),
+        [id] if word == b"result".as_slice() => put_merged(alloc, case, sides, id, out),
         _ => Some(()),
     }
 }

@@ -1,6 +1,7 @@
 // The tree of a merge without conflicts.
 ghost use Rattle.std.specs.Prelude.{◌≡◌, ◌↔◌, IsTrue, IsFalse, option_copied};
 ghost use Rattle.mtn_decide.specs.Decisions.{decision_of};
+ghost use Rattle.mtn_conflicts.specs.Lists.{AreClear};
 ghost use Rattle.mtn_conflicts.specs.Result.{NoneBornIn, ParentsAreDirs};
 ghost use Rattle.mtn_cases_merges.specs.Parents.{HangsOnFile};
 
@@ -65,23 +66,35 @@ fn parents_are_dirs(nodes: &[Decision]) -> bool
     true
 }
 
+/// Whether decisions have no conflicts; not where memory is refused.
+fn are_clear(alloc: Global, decisions: &Decisions) -> bool
+    ensures { IsTrue result → AreClear decisions.now }
+{
+    match conflicts(alloc, decisions) {
+        Ok(found) => found.none(),
+        Err(_) => false,
+    }
+}
+
 /// The tree, where there is one.
 fn tree_of(alloc: Global, decisions: &Decisions, id: Id) -> Option<Roster> {
-    let found = conflicts(alloc, decisions).ok()?;
     let nodes = decisions.nodes();
-    if found.none() && parents_are_dirs(nodes) && none_born_in(nodes, id) {
+    if are_clear(alloc, decisions) && parents_are_dirs(nodes) && none_born_in(nodes, id) {
         result(alloc, decisions, id).ok()
     } else {
         None
     }
 }
 
-/// Prints the entries of the tree as the revision of an id.
-pub fn put_result(alloc: Global, decisions: &Decisions, id: Id, out: &mut Vec<u8>) -> Option<()> {
-    let tree = tree_of(alloc, decisions, id)?;
+fn put_tree(tree: &Roster, out: &mut Vec<u8>) -> Option<()> {
     for place in 0..tree.len() as usize {
         put_entry(tree.at_place(place)?, out).ok()?;
         out.push(b'\n').ok()?;
     }
     Some(())
+}
+
+/// Prints the entries of the tree as the revision of an id.
+pub fn put_result(alloc: Global, decisions: &Decisions, id: Id, out: &mut Vec<u8>) -> Option<()> {
+    put_tree(&tree_of(alloc, decisions, id)?, out)
 }
