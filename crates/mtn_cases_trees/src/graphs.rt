@@ -1,31 +1,45 @@
 // Questions about a graph.
 ghost use Rattle.std.specs.Prelude.{◌<◌, All, IsTrue, length};
 
-use crate::words::{place_of, positions_of, put_number, put_positions};
-use mtn_ancestry::{Graph, ParentList, Pos, uncommon};
+use crate::words::{place_of, position_of, positions_of, put_number, put_positions};
+use mtn_ancestry::{Graph, ParentList, Pos, PosSet, uncommon};
 use mtn_base::Id;
-use mtn_case_trees::{id_of, number_of, put_id};
+use mtn_case_trees::{id_of, put_id};
 use std::alloc::Global;
 
-/// Appends a revision to a graph that has its parents and not its id.
-pub fn push(graph: &mut Graph, id: Id, parents: ParentList) -> Option<()> {
+fn push_two(graph: &mut Graph, id: Id, p: Pos, q: Pos) -> Option<()> {
     let len = graph.len();
+    if p.0 >= len || q.0 >= len || graph.find(id).is_some() {
+        return None;
+    }
+    graph.push(id, ParentList::Two(p, q)).ok()?;
+    Some(())
+}
+
+fn push_one(graph: &mut Graph, id: Id, p: Pos) -> Option<()> {
+    let len = graph.len();
+    if p.0 >= len || graph.find(id).is_some() {
+        return None;
+    }
+    graph.push(id, ParentList::One(p)).ok()?;
+    Some(())
+}
+
+fn push_root(graph: &mut Graph, id: Id) -> Option<()> {
     if graph.find(id).is_some() {
         return None;
     }
-    match parents {
-        ParentList::Two(p, q) if p.0 < len && q.0 < len => {
-            graph.push(id, ParentList::Two(p, q)).ok()?;
-        }
-        ParentList::One(p) if p.0 < len => {
-            graph.push(id, ParentList::One(p)).ok()?;
-        }
-        ParentList::Zero => {
-            graph.push(id, ParentList::Zero).ok()?;
-        }
-        _ => return None,
-    }
+    graph.push(id, ParentList::Zero).ok()?;
     Some(())
+}
+
+/// Appends a revision to a graph that has its parents and not its id.
+pub fn push(graph: &mut Graph, id: Id, parents: ParentList) -> Option<()> {
+    match parents {
+        ParentList::Two(p, q) => push_two(graph, id, p, q),
+        ParentList::One(p) => push_one(graph, id, p),
+        ParentList::Zero => push_root(graph, id),
+    }
 }
 
 fn parents_at(words: &[Pos]) -> Option<ParentList> {
@@ -37,15 +51,20 @@ fn parents_at(words: &[Pos]) -> Option<ParentList> {
     }
 }
 
-fn add_line(alloc: Global, graph: &mut Graph, line: &[u8]) -> Option<()> {
+fn parents_of(alloc: Global, line: &[u8]) -> Option<Vec<Pos>> {
     let mut parents = Vec::new(alloc);
     for word in line.split(|byte| *byte == b' ') {
         if !word.is_empty() {
-            parents.push(Pos(u64::from(number_of(word)?))).ok()?;
+            parents.push(position_of(word)?).ok()?;
         }
     }
+    Some(parents)
+}
+
+fn add_line(alloc: Global, graph: &mut Graph, line: &[u8]) -> Option<()> {
+    let parents = parents_at(&parents_of(alloc, line)?)?;
     let id = Id([graph.len().min(255) as u8; 20]);
-    push(graph, id, parents_at(&parents)?)
+    push(graph, id, parents)
 }
 
 /// The graph of the lines of a case. The id of each revision is that of its position's digit.
@@ -70,6 +89,27 @@ fn are_within(graph: &Graph, of: &[Pos]) -> bool
 // The words of questions, those of several positions first.
 const WORDS: &str = "ancestors descendents common erase toposort is_ancestor uncommon find id";
 
+/// The set that a question of several positions asks for.
+fn set_of(alloc: Global, graph: &Graph, word: usize, of: &[Pos]) -> Option<PosSet> {
+    if !are_within(graph, of) {
+        return None;
+    }
+    match word {
+        0 => graph.ancestors(alloc, of).ok(),
+        1 => graph.descendents(alloc, of).ok(),
+        2 if !of.is_empty() => graph.common(alloc, of).ok(),
+        3 => graph.erase_ancestors(alloc, of).ok(),
+        _ => None,
+    }
+}
+
+fn put_sorted(alloc: Global, graph: &Graph, of: &[Pos], out: &mut Vec<u8>) -> Option<()> {
+    if !are_within(graph, of) {
+        return None;
+    }
+    put_positions(&graph.toposort(alloc, of).ok()?, out).ok()
+}
+
 /// Answers a question of several positions.
 fn put_several(
     alloc: Global,
@@ -78,32 +118,28 @@ fn put_several(
     of: &[Pos],
     out: &mut Vec<u8>,
 ) -> Option<()> {
-    if !are_within(graph, of) {
-        return None;
+    match word {
+        4 => put_sorted(alloc, graph, of, out),
+        _ => put_positions(set_of(alloc, graph, word, of)?.as_slice(), out).ok(),
     }
-    let found = match word {
-        0 => graph.ancestors(alloc, of),
-        1 => graph.descendents(alloc, of),
-        2 if !of.is_empty() => graph.common(alloc, of),
-        3 => graph.erase_ancestors(alloc, of),
-        4 => return put_positions(&graph.toposort(alloc, of).ok()?, out).ok(),
-        _ => return None,
-    };
-    put_positions(found.ok()?.as_slice(), out).ok()
 }
 
-fn put_uncommon(
+/// The ancestors that each of two revisions has alone.
+pub fn sets_of(
     alloc: Global,
     graph: &mut Graph,
     left: Pos,
     right: Pos,
-    out: &mut Vec<u8>,
-) -> Option<()> {
+) -> Option<(PosSet, PosSet)> {
     let len = graph.len();
-    if left.0 >= len || right.0 >= len {
-        return None;
+    if left.0 < len && right.0 < len {
+        uncommon(alloc, graph, left, right).ok()
+    } else {
+        None
     }
-    let sets = uncommon(alloc, graph, left, right).ok()?;
+}
+
+fn put_sets(sets: &(PosSet, PosSet), out: &mut Vec<u8>) -> Option<()> {
     put_positions(sets.0.as_slice(), out).ok()?;
     out.extend_from_slice(b" |").ok()?;
     put_positions(sets.1.as_slice(), out).ok()
@@ -136,7 +172,7 @@ fn put_position(graph: &Graph, digit: &[u8], out: &mut Vec<u8>) -> Option<()> {
 }
 
 fn put_id_at(graph: &Graph, digit: &[u8], out: &mut Vec<u8>) -> Option<()> {
-    match graph.id(Pos(u64::from(number_of(digit)?))) {
+    match graph.id(position_of(digit)?) {
         Some(id) => put_id(id, out).ok(),
         None => out.extend_from_slice(b"nothing").ok(),
     }
@@ -153,7 +189,7 @@ fn put_pair(
 ) -> Option<()> {
     match word {
         5 => put_is_ancestor(alloc, graph, first, second, out),
-        _ => put_uncommon(alloc, graph, first, second, out),
+        _ => put_sets(&sets_of(alloc, graph, first, second)?, out),
     }
 }
 
@@ -171,15 +207,24 @@ fn put_of(
     }
 }
 
+fn put_answer(
+    alloc: Global,
+    graph: &mut Graph,
+    word: &[u8],
+    rest: &[&[u8]],
+    out: &mut Vec<u8>,
+) -> Option<()> {
+    match place_of(word, WORDS) {
+        7 => put_position(graph, rest.first()?, out),
+        8 => put_id_at(graph, rest.first()?, out),
+        word => put_of(alloc, graph, word, &positions_of(alloc, rest)?, out),
+    }
+}
+
 /// Answers a question about the graph of a case: `find DIGIT`, `id POSITION`, `is_ancestor OLDER NEWER`, `uncommon LEFT RIGHT`,
 /// and of several positions `ancestors`, `descendents`, `common`, `erase` and `toposort`.
 pub fn answer(alloc: Global, case: &[u8], args: &[&[u8]], out: &mut Vec<u8>) -> Option<()> {
-    let mut graph = graph_of(alloc, case)?;
     let (word, rest) = args.split_first()?;
-    match place_of(word, WORDS) {
-        7 => put_position(&graph, rest.first()?, out)?,
-        8 => put_id_at(&graph, rest.first()?, out)?,
-        word => put_of(alloc, &mut graph, word, &positions_of(alloc, rest)?, out)?,
-    }
+    put_answer(alloc, &mut graph_of(alloc, case)?, word, rest, out)?;
     out.push(b'\n').ok()
 }

@@ -1,7 +1,7 @@
 // Small histories: revisions, their trees and their marks.
-use crate::graphs::push;
+use crate::graphs::{push, sets_of};
 use crate::words::words_of;
-use mtn_ancestry::{Graph, ParentList, Pos, PosSet, uncommon};
+use mtn_ancestry::{Graph, ParentList, Pos, PosSet};
 use mtn_case_trees::{entries_of, id_of};
 use mtn_marking::{MarkMap, MarkedRoster, mark_one, mark_root, mark_two};
 use mtn_roster::Roster;
@@ -14,32 +14,32 @@ pub struct History {
     pub trees: Vec<MarkedRoster>,
 }
 
-/// The ancestors that each of two revisions has alone.
-pub fn sets_of(
-    alloc: Global,
-    graph: &mut Graph,
-    left: Pos,
-    right: Pos,
-) -> Option<(PosSet, PosSet)> {
-    let len = graph.len();
-    if left.0 < len && right.0 < len {
-        uncommon(alloc, graph, left, right).ok()
-    } else {
-        None
-    }
+/// The position of the revision of a digit.
+pub fn find(graph: &Graph, word: &[u8]) -> Option<Pos> {
+    graph.find(id_of(word)?)
+}
+
+fn both_of(graph: &Graph, first: &[u8], second: &[u8]) -> Option<ParentList> {
+    let first = find(graph, first)?;
+    Some(ParentList::Two(first, find(graph, second)?))
 }
 
 /// The parents that words tell.
 fn parents_of(graph: &Graph, words: &[&[u8]]) -> Option<ParentList> {
     match words {
         [] => Some(ParentList::Zero),
-        [parent] => Some(ParentList::One(graph.find(id_of(parent)?)?)),
-        [first, second] => Some(ParentList::Two(
-            graph.find(id_of(first)?)?,
-            graph.find(id_of(second)?)?,
-        )),
+        [parent] => Some(ParentList::One(find(graph, parent)?)),
+        [first, second] => both_of(graph, first, second),
         _ => None,
     }
+}
+
+/// The tree of the revision of a digit.
+fn tree_of(alloc: Global, case: &[u8], name: &[u8]) -> Option<Roster> {
+    let mut prefix = name.to_vec(alloc).ok()?;
+    prefix.push(b' ').ok()?;
+    let entries = entries_of(alloc, case, &prefix)?;
+    Roster::build(alloc, entries).ok()
 }
 
 impl History {
@@ -59,7 +59,7 @@ impl History {
 
     /// The tree of a revision, with its marks.
     pub fn tree(&self, id: &[u8]) -> Option<&MarkedRoster> {
-        let at = self.graph.find(id_of(id)?)?;
+        let at = find(&self.graph, id)?;
         self.trees.get(at.0 as usize)
     }
 
@@ -68,34 +68,64 @@ impl History {
         Pos(self.trees.len() as u64)
     }
 
+    fn marks_by(
+        &self,
+        alloc: Global,
+        tree: &Roster,
+        p: Pos,
+        q: Pos,
+        sets: &(PosSet, PosSet),
+    ) -> Option<MarkMap> {
+        let at = self.end();
+        let left = self.trees.get(p.0 as usize)?;
+        let right = self.trees.get(q.0 as usize)?;
+        mark_two(alloc, left, right, tree, at, &sets.0, &sets.1).ok()
+    }
+
+    /// The marks of a tree over those of two revisions.
+    fn marks_over(&mut self, alloc: Global, tree: &Roster, p: Pos, q: Pos) -> Option<MarkMap> {
+        let sets = sets_of(alloc, &mut self.graph, p, q)?;
+        self.marks_by(alloc, tree, p, q, &sets)
+    }
+
+    fn marks_on(&self, alloc: Global, tree: &Roster, p: Pos) -> Option<MarkMap> {
+        let at = self.end();
+        mark_one(alloc, self.trees.get(p.0 as usize)?, tree, at).ok()
+    }
+
     /// The marks of a tree over those of its parents.
     fn marks_of(&mut self, alloc: Global, tree: &Roster, parents: ParentList) -> Option<MarkMap> {
-        let at = self.end();
         match parents {
-            ParentList::Zero => mark_root(alloc, tree, at).ok(),
-            ParentList::One(p) => { mark_one(alloc, self.trees.get(p.0 as usize)?, tree, at).ok() }
-            ParentList::Two(p, q) => {
-                let sets = sets_of(alloc, &mut self.graph, p, q)?;
-                let left = self.trees.get(p.0 as usize)?;
-                let right = self.trees.get(q.0 as usize)?;
-                mark_two(alloc, left, right, tree, at, &sets.0, &sets.1).ok()
-            }
+            ParentList::Zero => mark_root(alloc, tree, self.end()).ok(),
+            ParentList::One(p) => self.marks_on(alloc, tree, p),
+            ParentList::Two(p, q) => self.marks_over(alloc, tree, p, q),
         }
+    }
+
+    fn marked(&mut self, alloc: Global, tree: Roster, parents: ParentList) -> Option<MarkedRoster> {
+        let marks = self.marks_of(alloc, &tree, parents)?;
+        if MarkedRoster::fits(&tree, &marks) {
+            Some(MarkedRoster::new(tree, marks))
+        } else {
+            None
+        }
+    }
+
+    /// Appends a revision with the tree that the case has for it.
+    fn add(&mut self, alloc: Global, case: &[u8], name: &[u8], parents: ParentList) -> Option<()> {
+        let tree = self.marked(alloc, tree_of(alloc, case, name)?, parents)?;
+        push(&mut self.graph, id_of(name)?, parents)?;
+        self.trees.push(tree).ok()
+    }
+
+    fn add_words(&mut self, alloc: Global, case: &[u8], words: &[&[u8]]) -> Option<()> {
+        let (name, rest) = words.split_first()?;
+        let parents = parents_of(&self.graph, rest)?;
+        self.add(alloc, case, name, parents)
     }
 
     /// Appends the revision of a line.
     fn add_line(&mut self, alloc: Global, case: &[u8], line: &[u8]) -> Option<()> {
-        let words = words_of(alloc, line)?;
-        let (name, rest) = words.split_first()?;
-        let mut prefix = name.to_vec(alloc).ok()?;
-        prefix.push(b' ').ok()?;
-        let tree = Roster::build(alloc, entries_of(alloc, case, &prefix)?).ok()?;
-        let parents = parents_of(&self.graph, rest)?;
-        let marks = self.marks_of(alloc, &tree, parents)?;
-        if !MarkedRoster::fits(&tree, &marks) {
-            return None;
-        }
-        push(&mut self.graph, id_of(name)?, parents)?;
-        self.trees.push(MarkedRoster::new(tree, marks)).ok()
+        self.add_words(alloc, case, &words_of(alloc, line)?)
     }
 }

@@ -34,36 +34,50 @@ fn tree_of(alloc: Global, case: &[u8], word: &[u8]) -> Option<Roster> {
     Roster::build(alloc, entries_of(alloc, case, word)?).ok()
 }
 
-fn put_edges(
+fn put_between(
     alloc: Global,
     left: Roster,
     right: Roster,
     new: Id,
-    words: [&[u8]; 2],
+    only: [&BTreeSet<Id>; 2],
     out: &mut Vec<u8>,
 ) -> Option<()> {
-    let only_left = set_of(alloc, words[0])?;
-    let only_right = set_of(alloc, words[1])?;
-    if common_are_known(&left, &right, new, &only_left, &only_right) {
-        put_outcome(join(alloc, left, right, new, &only_left, &only_right), out)
+    if common_are_known(&left, &right, new, only[0], only[1]) {
+        put_outcome(join(alloc, left, right, new, only[0], only[1]), out)
     } else {
         out.extend_from_slice(b"births that joining does not take\n")
             .ok()
     }
 }
 
+fn put_edges(
+    alloc: Global,
+    case: &[u8],
+    new: Id,
+    only: [&BTreeSet<Id>; 2],
+    out: &mut Vec<u8>,
+) -> Option<()> {
+    let left = tree_of(alloc, case, b"left ")?;
+    let right = tree_of(alloc, case, b"right ")?;
+    put_between(alloc, left, right, new, only, out)
+}
+
+fn put_words(
+    alloc: Global,
+    case: &[u8],
+    new: Id,
+    words: [&[u8]; 2],
+    out: &mut Vec<u8>,
+) -> Option<()> {
+    let only_left = set_of(alloc, words[0])?;
+    let only_right = set_of(alloc, words[1])?;
+    put_edges(alloc, case, new, [&only_left, &only_right], out)
+}
+
 /// Prints the tree that joins those of the case, or the path at which they cannot be joined.
 pub fn put_joined(alloc: Global, case: &[u8], args: &[&[u8]], out: &mut Vec<u8>) -> Option<()> {
-    let [id, left, right] = args else {
-        return None;
-    };
-    let new = id_of(id)?;
-    put_edges(
-        alloc,
-        tree_of(alloc, case, b"left ")?,
-        tree_of(alloc, case, b"right ")?,
-        new,
-        [*left, *right],
-        out,
-    )
+    match args {
+        [id, left, right] => put_words(alloc, case, id_of(id)?, [*left, *right], out),
+        _ => None,
+    }
 }

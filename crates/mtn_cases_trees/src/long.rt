@@ -2,7 +2,8 @@
 ghost use Rattle.std.specs.Prelude.{◌≡◌, ◌≤◌, ⊤};
 
 use crate::words::{put_number, put_positions};
-use mtn_ancestry::{ParentList, Parents, Pos, WalkError, uncommon};
+use mtn_ancestry::{ParentList, Parents, Pos, PosSet, WalkError, uncommon};
+use mtn_base::NoMemory;
 use mtn_case_trees::number_of;
 use std::alloc::Global;
 
@@ -46,6 +47,32 @@ impl Parents for Line {
     ghost caused_before = { λ _ _ _ _ _ c. c };
 }
 
+fn put_counts(asked: u64, sets: &(PosSet, PosSet), out: &mut Vec<u8>) -> Result<(), NoMemory> {
+    out.extend_from_slice(b"asked ")?;
+    put_number(asked, out)?;
+    out.extend_from_slice(b" alone ")?;
+    put_number(sets.0.as_slice().len() as u64, out)?;
+    out.push(b' ')?;
+    put_number(sets.1.as_slice().len() as u64, out)
+}
+
+fn put_failed(number: u64, out: &mut Vec<u8>) -> Result<(), NoMemory> {
+    out.extend_from_slice(b"failed")?;
+    put_positions(&[Pos(number)], out)
+}
+
+fn put_walked(
+    asked: u64,
+    walked: Result<(PosSet, PosSet), WalkError<u64>>,
+    out: &mut Vec<u8>,
+) -> Option<()> {
+    match walked {
+        Ok(sets) => put_counts(asked, &sets, out).ok(),
+        Err(WalkError::Asked(number)) => put_failed(number, out).ok(),
+        Err(WalkError::NoMemory) => None,
+    }
+}
+
 /// Prints how often the line was asked for the parents of a revision, and how many revisions each child has alone; or the
 /// question that failed.
 pub fn answer(alloc: Global, at: &[u8], out: &mut Vec<u8>) -> Option<()> {
@@ -53,20 +80,7 @@ pub fn answer(alloc: Global, at: &[u8], out: &mut Vec<u8>) -> Option<()> {
         asked: 0,
         fails_at: u64::from(number_of(at)?),
     };
-    match uncommon(alloc, &mut line, Pos(1000), Pos(1001)) {
-        Ok(sets) => {
-            out.extend_from_slice(b"asked ").ok()?;
-            put_number(line.asked, out).ok()?;
-            out.extend_from_slice(b" alone ").ok()?;
-            put_number(sets.0.as_slice().len() as u64, out).ok()?;
-            out.push(b' ').ok()?;
-            put_number(sets.1.as_slice().len() as u64, out).ok()?;
-        }
-        Err(WalkError::Asked(number)) => {
-            out.extend_from_slice(b"failed").ok()?;
-            put_positions(&[Pos(number)], out).ok()?;
-        }
-        Err(WalkError::NoMemory) => return None,
-    }
+    let walked = uncommon(alloc, &mut line, Pos(1000), Pos(1001));
+    put_walked(line.asked, walked, out)?;
     out.push(b'\n').ok()
 }

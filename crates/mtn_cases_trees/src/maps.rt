@@ -1,33 +1,44 @@
 // A map of markings.
-use crate::words::put_number;
+use crate::words::{position_of, put_number};
 use mtn_ancestry::{Pos, PosSet};
 use mtn_base::List;
-use mtn_case_trees::{name_of, number_of, put_name};
+use mtn_case_trees::{name_of, put_name};
 use mtn_marking::{MarkMap, Marking};
 use std::alloc::Global;
 
-fn put_line(alloc: Global, map: &mut MarkMap, line: &[u8]) -> Option<()> {
-    let mut words = line.split(|byte| *byte == b' ');
-    let name = name_of(alloc, words.next()?)?;
-    let birth = Pos(u64::from(number_of(words.next()?)?));
+fn marking_of(alloc: Global, birth: Pos) -> Option<Marking> {
     let slot = PosSet::new(alloc, Vec::new(alloc)).ok()?;
-    let marking = Marking {
+    Some(Marking {
         birth,
         slot,
         content: None,
         attrs: List::new(alloc),
-    };
-    map.put(name, marking).ok()
+    })
 }
 
-/// Prints the map that the lines of a case put together.
-pub fn put_map(alloc: Global, case: &[u8], out: &mut Vec<u8>) -> Option<()> {
+fn put_marking(alloc: Global, map: &mut MarkMap, name: &[u8], birth: &[u8]) -> Option<()> {
+    let birth = position_of(birth)?;
+    let name = name_of(alloc, name)?;
+    map.put(name, marking_of(alloc, birth)?).ok()
+}
+
+fn put_line(alloc: Global, map: &mut MarkMap, line: &[u8]) -> Option<()> {
+    let mut words = line.split(|byte| *byte == b' ');
+    let name = words.next()?;
+    put_marking(alloc, map, name, words.next()?)
+}
+
+fn map_of(alloc: Global, case: &[u8]) -> Option<MarkMap> {
     let mut map = MarkMap::new(alloc);
     for line in case.split(|byte| *byte == b'\n') {
         if let Some(rest) = line.strip_prefix(b"put ") {
             put_line(alloc, &mut map, rest)?;
         }
     }
+    Some(map)
+}
+
+fn put_births(map: &MarkMap, out: &mut Vec<u8>) -> Option<()> {
     for place in 0..map.len() {
         let node = map.at_place(place as usize)?;
         put_name(&node.name, out).ok()?;
@@ -36,4 +47,9 @@ pub fn put_map(alloc: Global, case: &[u8], out: &mut Vec<u8>) -> Option<()> {
         out.push(b'\n').ok()?;
     }
     Some(())
+}
+
+/// Prints the map that the lines of a case put together.
+pub fn put_map(alloc: Global, case: &[u8], out: &mut Vec<u8>) -> Option<()> {
+    put_births(&map_of(alloc, case)?, out)
 }

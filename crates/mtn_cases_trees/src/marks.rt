@@ -1,15 +1,31 @@
 // Marks, rosters, and what a revision's text makes.
-use crate::history::{History, sets_of};
+use crate::graphs::sets_of;
+use crate::history::{History, find};
 use crate::words::{put_number, put_positions, put_tree};
 use mtn_ancestry::{Graph, Pos, PosSet};
 use mtn_base::{Id, NoMemory, Refusal};
 use mtn_case_trees::{id_of, put_name};
 use mtn_changes::read_revision;
-use mtn_make_roster::{Basis, MakeError, Uncommon, make, mark};
-use mtn_marking::{MarkMap, MarkedRoster, Marking};
+use mtn_make_roster::{Basis, MakeError, Uncommon, WalkedTree, make, mark};
+use mtn_marking::{AttrMarks, MarkMap, MarkedRoster, Marking};
+use mtn_roster::Roster;
 use mtn_roster_text::{IdTable, marked_positions, write};
 use std::alloc::Global;
 use std::collections::BTreeSet;
+
+fn put_attrs(attrs: &[AttrMarks], out: &mut Vec<u8>) -> Result<(), NoMemory> {
+    for attr in attrs {
+        out.push(b' ')?;
+        out.extend_from_slice(attr.key.as_slice())?;
+        put_positions(attr.marks.as_slice(), out)?;
+    }
+    Ok(())
+}
+
+fn put_content(content: &PosSet, out: &mut Vec<u8>) -> Result<(), NoMemory> {
+    out.extend_from_slice(b" content")?;
+    put_positions(content.as_slice(), out)
+}
 
 fn put_marking(marking: &Marking, out: &mut Vec<u8>) -> Result<(), NoMemory> {
     out.extend_from_slice(b" born ")?;
@@ -17,15 +33,9 @@ fn put_marking(marking: &Marking, out: &mut Vec<u8>) -> Result<(), NoMemory> {
     out.extend_from_slice(b" slot")?;
     put_positions(marking.slot.as_slice(), out)?;
     if let Some(content) = &marking.content {
-        out.extend_from_slice(b" content")?;
-        put_positions(content.as_slice(), out)?;
+        put_content(content, out)?;
     }
-    for attr in marking.attrs.as_slice() {
-        out.push(b' ')?;
-        out.extend_from_slice(attr.key.as_slice())?;
-        put_positions(attr.marks.as_slice(), out)?;
-    }
-    Ok(())
+    put_attrs(marking.attrs.as_slice(), out)
 }
 
 fn put_map(map: &MarkMap, out: &mut Vec<u8>) -> Result<(), NoMemory> {
@@ -54,23 +64,93 @@ fn ids_of(alloc: Global, graph: &Graph, places: &[Pos]) -> Option<Vec<Id>> {
     Some(ids)
 }
 
+/// The ids of the positions that a roster marks.
+fn table_of(alloc: Global, graph: &Graph, marked: &MarkedRoster) -> Option<IdTable> {
+    let places = marked_positions(alloc, marked).ok()?;
+    let ids = ids_of(alloc, graph, &places)?;
+    IdTable::new(alloc, &places, &ids).ok()
+}
+
+fn put_roster(
+    alloc: Global,
+    graph: &Graph,
+    marked: &MarkedRoster,
+    out: &mut Vec<u8>,
+) -> Option<()> {
+    write(marked, &table_of(alloc, graph, marked)?, out).ok()
+}
+
 /// Prints the roster of a revision.
 pub fn put_roster_of(alloc: Global, case: &[u8], id: &[u8], out: &mut Vec<u8>) -> Option<()> {
     let history = History::read(alloc, case)?;
-    let marked = history.tree(id)?;
-    let places = marked_positions(alloc, marked).ok()?;
-    let ids = ids_of(alloc, &history.graph, &places)?;
-    let table = IdTable::new(alloc, &places, &ids).ok()?;
-    write(marked, &table, out).ok()
+    put_roster(alloc, &history.graph, history.tree(id)?, out)
+}
+
+fn id_set(alloc: Global, graph: &Graph, places: &[Pos]) -> Option<BTreeSet<Id>> {
+    let mut ids = BTreeSet::new(alloc);
+    for at in places {
+        ids.insert(graph.id(*at)?).ok()?;
+    }
+    Some(ids)
 }
 
 /// Positions that a parent has alone, and their ids.
 fn uncommon_of(alloc: Global, graph: &Graph, positions: PosSet) -> Option<Uncommon> {
-    let mut ids = BTreeSet::new(alloc);
-    for at in positions.as_slice() {
-        ids.insert(graph.id(*at)?).ok()?;
-    }
+    let ids = id_set(alloc, graph, positions.as_slice())?;
     Some(Uncommon { positions, ids })
+}
+
+fn both_uncommon(
+    alloc: Global,
+    graph: &Graph,
+    left: PosSet,
+    right: PosSet,
+) -> Option<(Uncommon, Uncommon)> {
+    let left = uncommon_of(alloc, graph, left)?;
+    Some((left, uncommon_of(alloc, graph, right)?))
+}
+
+/// What each of two revisions has alone.
+fn only_of(
+    alloc: Global,
+    graph: &mut Graph,
+    first: &[u8],
+    second: &[u8],
+) -> Option<(Uncommon, Uncommon)> {
+    let first = find(graph, first)?;
+    let second = find(graph, second)?;
+    let (left, right) = sets_of(alloc, graph, first, second)?;
+    both_uncommon(alloc, graph, left, right)
+}
+
+fn put_walked(
+    alloc: Global,
+    tree: Roster,
+    basis: &Basis,
+    at: Pos,
+    out: &mut Vec<u8>,
+) -> Option<()> {
+    put_tree(&tree, out).ok()?;
+    let marked = mark(alloc, tree, basis, at).ok()?;
+    put_map(marked.marks(), out).ok()
+}
+
+fn put_error(error: MakeError, out: &mut Vec<u8>) -> Option<()> {
+    match error {
+        MakeError::Refused(cause) => Refusal { packet: 0, cause }.print(out).ok(),
+        MakeError::Damaged => out.extend_from_slice(b"damaged\n").ok(),
+        MakeError::NoMemory => None,
+    }
+}
+
+fn made_of(
+    alloc: Global,
+    basis: &Basis,
+    id: Id,
+    text: &[u8],
+) -> Option<Result<WalkedTree, MakeError>> {
+    let revision = read_revision(alloc, text).ok()?;
+    Some(make(alloc, revision.edges.as_slice(), basis, id))
 }
 
 /// Prints the tree that a text makes over a basis, and its marks; or why there is none.
@@ -82,19 +162,31 @@ fn put_over(
     text: &[u8],
     out: &mut Vec<u8>,
 ) -> Option<()> {
-    let revision = read_revision(alloc, text).ok()?;
-    match make(alloc, revision.edges.as_slice(), basis, id) {
-        Ok(made) => {
-            put_tree(&made.tree, out).ok()?;
-            put_map(mark(alloc, made.tree, basis, at).ok()?.marks(), out).ok()
-        }
-        Err(MakeError::Refused(cause)) => Refusal { packet: 0, cause }.print(out).ok(),
-        Err(MakeError::Damaged) => out.extend_from_slice(b"damaged\n").ok(),
-        Err(MakeError::NoMemory) => None,
+    match made_of(alloc, basis, id, text)? {
+        Ok(made) => put_walked(alloc, made.tree, basis, at, out),
+        Err(error) => put_error(error, out),
     }
 }
 
-/// The same over two revisions of the case.
+/// The same over two revisions, of which it is told what each has alone.
+fn put_over_known(
+    alloc: Global,
+    history: &History,
+    sides: [&[u8]; 2],
+    only: &(Uncommon, Uncommon),
+    id: Id,
+    text: &[u8],
+    out: &mut Vec<u8>,
+) -> Option<()> {
+    let basis = Basis::Two {
+        left: history.tree(sides[0])?,
+        right: history.tree(sides[1])?,
+        only_left: &only.0,
+        only_right: &only.1,
+    };
+    put_over(alloc, &basis, id, history.end(), text, out)
+}
+
 fn put_over_two(
     alloc: Global,
     history: &mut History,
@@ -103,18 +195,36 @@ fn put_over_two(
     text: &[u8],
     out: &mut Vec<u8>,
 ) -> Option<()> {
-    let first = history.graph.find(id_of(sides[0])?)?;
-    let second = history.graph.find(id_of(sides[1])?)?;
-    let sets = sets_of(alloc, &mut history.graph, first, second)?;
-    let only_left = uncommon_of(alloc, &history.graph, sets.0)?;
-    let only_right = uncommon_of(alloc, &history.graph, sets.1)?;
-    let basis = Basis::Two {
-        left: history.tree(sides[0])?,
-        right: history.tree(sides[1])?,
-        only_left: &only_left,
-        only_right: &only_right,
-    };
+    let only = only_of(alloc, &mut history.graph, sides[0], sides[1])?;
+    put_over_known(alloc, history, sides, &only, id, text, out)
+}
+
+fn put_over_one(
+    alloc: Global,
+    history: &History,
+    parent: &[u8],
+    id: Id,
+    text: &[u8],
+    out: &mut Vec<u8>,
+) -> Option<()> {
+    let basis = Basis::One(history.tree(parent)?);
     put_over(alloc, &basis, id, history.end(), text, out)
+}
+
+fn put_over_parents(
+    alloc: Global,
+    history: &mut History,
+    parents: &[&[u8]],
+    id: Id,
+    text: &[u8],
+    out: &mut Vec<u8>,
+) -> Option<()> {
+    match parents {
+        [] => put_over(alloc, &Basis::Root, id, history.end(), text, out),
+        [parent] => put_over_one(alloc, history, parent, id, text, out),
+        [left, right] => put_over_two(alloc, history, [*left, *right], id, text, out),
+        _ => None,
+    }
 }
 
 /// Prints what a text makes over revisions of the case.
@@ -125,21 +235,14 @@ pub fn put_made(
     text: &[u8],
     out: &mut Vec<u8>,
 ) -> Option<()> {
-    let mut history = History::read(alloc, case)?;
     let (id, parents) = args.split_first()?;
     let new = id_of(id)?;
-    let end = history.end();
-    match parents {
-        [] => put_over(alloc, &Basis::Root, new, end, text, out),
-        [parent] => put_over(
-            alloc,
-            &Basis::One(history.tree(parent)?),
-            new,
-            end,
-            text,
-            out,
-        ),
-        [left, right] => put_over_two(alloc, &mut history, [*left, *right], new, text, out),
-        _ => None,
-    }
+    put_over_parents(
+        alloc,
+        &mut History::read(alloc, case)?,
+        parents,
+        new,
+        text,
+        out,
+    )
 }

@@ -1,6 +1,6 @@
 // Questions about a tree.
 use crate::words::place_of;
-use mtn_base::{NodeName, Path};
+use mtn_base::{NoMemory, NodeName, Path};
 use mtn_case_trees::{entries_of, name_of, put_entry, put_name};
 use mtn_roster::{BuildError, Entry, Roster};
 use std::alloc::Global;
@@ -21,12 +21,14 @@ fn put_found(found: Option<&Entry>, out: &mut Vec<u8>) -> Option<()> {
     out.push(b'\n').ok()
 }
 
+fn put_whole(path: &Path, out: &mut Vec<u8>) -> Result<(), NoMemory> {
+    out.push(b'/')?;
+    path.write(out)
+}
+
 fn put_path(path: Option<Path>, out: &mut Vec<u8>) -> Option<()> {
     match path {
-        Some(path) => {
-            out.push(b'/').ok()?;
-            path.write(out).ok()?;
-        }
+        Some(path) => put_whole(&path, out).ok()?,
         None => out.extend_from_slice(b"nothing").ok()?,
     }
     out.push(b'\n').ok()

@@ -23,11 +23,16 @@ pub fn place_of(word: &[u8], words: &str) -> usize {
         .count()
 }
 
+/// The position that a word spells.
+pub fn position_of(word: &[u8]) -> Option<Pos> {
+    Some(Pos(u64::from(number_of(word)?)))
+}
+
 /// The positions that words spell.
 pub fn positions_of(alloc: Global, words: &[&[u8]]) -> Option<Vec<Pos>> {
     let mut all = Vec::new(alloc);
     for word in words {
-        all.push(Pos(u64::from(number_of(word)?))).ok()?;
+        all.push(position_of(word)?).ok()?;
     }
     Some(all)
 }
