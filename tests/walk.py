@@ -37,7 +37,7 @@ def walk(document):
         told = dict(os.environ, PATH=folder + ':' + os.environ['PATH'])
         for kind, block in blocks(os.path.join(TOP, document)):
             if kind == 'rust':
-                with open(os.path.join(TOP, 'crates', 'mtn_example', 'src', 'main.rt')) as source:
+                with open(os.path.join(TOP, 'crates', 'mtn_tests', 'src', 'running.rt')) as source:
                     verdict(block in source.read(), f'{document}: its Rust stands in the example')
             for line, printed in steps(block):
                 ran = subprocess.run(['bash', '-c', line], cwd=folder, env=told, stdout=subprocess.PIPE, stderr=subprocess.STDOUT)

@@ -110,7 +110,7 @@ fn uncommon_of_fork(
     Some(counts)
 }
 
-fn line_of(
+fn answers_line(
     alloc: Global,
     is_old: bool,
     ancestors: usize,
@@ -123,7 +123,7 @@ fn line_of(
 }
 
 /// What the steps behind the making of a graph tell.
-fn told(rt: &HostRuntime, watch: &mut Watch, graph: &mut Graph) -> Option<Vec<u8>> {
+fn answers_of(rt: &HostRuntime, watch: &mut Watch, graph: &mut Graph) -> Option<Vec<u8>> {
     let is_old = is_root_older(rt, watch, graph)?;
     let ancestors = ancestors_of_newest(rt.alloc(), graph)?;
     watch.lap(rt)?;
@@ -131,7 +131,7 @@ fn told(rt: &HostRuntime, watch: &mut Watch, graph: &mut Graph) -> Option<Vec<u8
     watch.begin(rt)?;
     let common = common_of_newest(rt.alloc(), graph)?;
     watch.lap(rt)?;
-    line_of(rt.alloc(), is_old, ancestors, fork, common)
+    answers_line(rt.alloc(), is_old, ancestors, fork, common)
 }
 
 /// Makes a graph of a root and as many diamonds as the text says, each a fork of two revisions and their merge.
@@ -141,5 +141,5 @@ pub fn ancestry(rt: &HostRuntime, watch: &mut Watch, text: &[u8]) -> Option<Vec<
     watch.begin(rt)?;
     let mut graph = diamonds(rt.alloc(), number_of(text)).ok()?;
     watch.lap(rt)?;
-    told(rt, watch, &mut graph)
+    answers_of(rt, watch, &mut graph)
 }

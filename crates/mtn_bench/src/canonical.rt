@@ -1,5 +1,5 @@
 // The canonical changeset (bench/between.sh).
-use crate::sections::line_of;
+use crate::sections::number_line;
 use crate::tree::built;
 use crate::watch::Watch;
 use mtn_between::between as changes_between;
@@ -24,5 +24,5 @@ fn changed(rt: &HostRuntime, watch: &mut Watch, entries: Vec<Entry>, new: &Roste
 pub fn between(rt: &HostRuntime, watch: &mut Watch, text: &[u8]) -> Option<Vec<u8>> {
     let entries = entries_of(rt.alloc(), text, b"old ")?;
     let new = tree_of(rt.alloc(), text, b"new ")?;
-    line_of(rt.alloc(), changed(rt, watch, entries, &new)?)
+    number_line(rt.alloc(), changed(rt, watch, entries, &new)?)
 }

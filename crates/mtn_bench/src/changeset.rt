@@ -1,5 +1,5 @@
 // Changesets (bench/changeset.sh).
-use crate::sections::line_of;
+use crate::sections::number_line;
 use crate::tree::{BIRTH, built, entries_of};
 use crate::watch::Watch;
 use mtn_apply::{apply, none_is_born};
@@ -48,7 +48,7 @@ fn nodes_applied(
 pub fn changeset(rt: &HostRuntime, watch: &mut Watch, text: &[u8]) -> Option<Vec<u8>> {
     let mut parts = text.split(|byte| *byte == b'=');
     let entries = entries_of(rt.alloc(), parts.next()?, BIRTH)?;
-    line_of(
+    number_line(
         rt.alloc(),
         nodes_applied(rt, watch, entries, parts.next()?)?,
     )

@@ -1,5 +1,5 @@
 // Joining the trees of two edges (bench/join.sh).
-use crate::sections::line_of;
+use crate::sections::number_line;
 use crate::tree::{BIRTH, built, entries_of};
 use crate::watch::Watch;
 use mtn_base::Id;
@@ -45,5 +45,5 @@ fn join_built(
 pub fn joined(rt: &HostRuntime, watch: &mut Watch, text: &[u8]) -> Option<Vec<u8>> {
     let first = entries_of(rt.alloc(), text, BIRTH)?;
     let second = entries_of(rt.alloc(), text, BIRTH)?;
-    line_of(rt.alloc(), join_built(rt, watch, first, second)?)
+    number_line(rt.alloc(), join_built(rt, watch, first, second)?)
 }

@@ -1,5 +1,5 @@
 // The largest rosters: 100,015 nodes with paths of up to 4,095 bytes (bench/roster.sh, for the peak of memory).
-use crate::sections::{line_of, number_of};
+use crate::sections::{number_line, number_of};
 use crate::tree::{BIRTH, FILE, entry_at};
 use crate::watch::Watch;
 use mtn_base::{Comp, MAX_COMP, Path};
@@ -101,5 +101,5 @@ fn last(rt: &HostRuntime, watch: &mut Watch) -> Option<u64> {
 pub fn long(rt: &HostRuntime, watch: &mut Watch, text: &[u8]) -> Option<Vec<u8>> {
     watch.begin(rt)?;
     let _others = long_rosters(rt.alloc(), number_of(text))?;
-    line_of(rt.alloc(), last(rt, watch)?)
+    number_line(rt.alloc(), last(rt, watch)?)
 }

@@ -83,18 +83,23 @@ fn answers(rt: &HostRuntime, watch: &mut Watch, input: &[u8]) -> Option<Vec<u8>>
     Some(out)
 }
 
-// What is done for the words of the command line.
-fn done(rt: &HostRuntime, watch: &mut Watch, word: Option<&str>, text: &[u8]) -> Option<Vec<u8>> {
+// Answers the word of the command line, or without one those of all sections.
+fn answer_word(
+    rt: &HostRuntime,
+    watch: &mut Watch,
+    word: Option<&str>,
+    text: &[u8],
+) -> Option<Vec<u8>> {
     match word {
         Some(word) => answer(rt, watch, word, text),
         None => answers(rt, watch, text),
     }
 }
 
-// What is written for it.
-fn told(rt: &HostRuntime, word: Option<&str>, times: bool, text: &[u8]) -> Option<Vec<u8>> {
+// What is written: the answer, or how long its steps took.
+fn output_of(rt: &HostRuntime, word: Option<&str>, times: bool, text: &[u8]) -> Option<Vec<u8>> {
     let mut watch = Watch::start(rt)?;
-    let out = done(rt, &mut watch, word, text)?;
+    let out = answer_word(rt, &mut watch, word, text)?;
     if times {
         watch.line(rt.alloc())
     } else {
@@ -102,13 +107,13 @@ fn told(rt: &HostRuntime, word: Option<&str>, times: bool, text: &[u8]) -> Optio
     }
 }
 
-fn write_told(
+fn write_output(
     rt: &HostRuntime,
     word: Option<&str>,
     times: bool,
     text: &[u8],
 ) -> io::Result<ExitCode> {
-    match told(rt, word, times, text) {
+    match output_of(rt, word, times, text) {
         Some(out) => {
             rt.stdout().write_all(&out)?;
             Ok(ExitCode::SUCCESS)
@@ -134,5 +139,5 @@ fn words(rt: &HostRuntime) -> io::Result<(Option<String>, bool)> {
 fn main(rt: HostRuntime) -> io::Result<ExitCode> {
     let text = read_all(&rt)?;
     let (word, times) = words(&rt)?;
-    write_told(&rt, word.as_deref(), times, &text)
+    write_output(&rt, word.as_deref(), times, &text)
 }

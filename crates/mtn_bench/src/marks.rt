@@ -65,7 +65,7 @@ fn marks_of(
     child_of(rt, watch, &root, changed)
 }
 
-fn line_of(alloc: Global, marks: &MarkMap) -> Option<Vec<u8>> {
+fn marks_line(alloc: Global, marks: &MarkMap) -> Option<Vec<u8>> {
     let line = format!(in alloc; "{} {}\n", marks.len(), set_at(marks, Pos(1))).ok()?;
     Some(line.into_bytes())
 }
@@ -77,5 +77,5 @@ pub fn marks(rt: &HostRuntime, watch: &mut Watch, text: &[u8]) -> Option<Vec<u8>
     let entries = entries_of(rt.alloc(), text, BIRTH)?;
     let changed = changed_of(rt.alloc(), text)?;
     let marks = marks_of(rt, watch, entries, changed)?;
-    line_of(rt.alloc(), &marks)
+    marks_line(rt.alloc(), &marks)
 }

@@ -73,7 +73,7 @@ fn listed(rt: &HostRuntime, watch: &mut Watch, decisions: &Decisions) -> Option<
 }
 
 /// How many nodes live, how many files are pending, how many directories are in loops and how many contents clash.
-fn line_of(alloc: Global, decisions: &Decisions, found: &Conflicts) -> Option<Vec<u8>> {
+fn merge_line(alloc: Global, decisions: &Decisions, found: &Conflicts) -> Option<Vec<u8>> {
     let (nodes, pending) = (decisions.nodes().len(), decisions.pending().len());
     let loops = found.directory_loop.as_slice().len();
     let contents = found.content.as_slice().len();
@@ -90,7 +90,7 @@ fn decisions_of(rt: &HostRuntime, watch: &mut Watch, sides: &Sides) -> Option<De
 fn merged(rt: &HostRuntime, watch: &mut Watch, sides: &Sides) -> Option<Vec<u8>> {
     let decisions = decisions_of(rt, watch, sides)?;
     let found = listed(rt, watch, &decisions)?;
-    line_of(rt.alloc(), &decisions, &found)
+    merge_line(rt.alloc(), &decisions, &found)
 }
 
 /// Merges the trees `left` and `right` of a text, two children of its tree `base`; writes how many nodes live, how many files

@@ -171,7 +171,7 @@ fn marked(end: &Numbered) -> u64 {
 }
 
 /// How many nodes the end of a chain has, and how many of them a mark of a link.
-fn line_of(alloc: Global, end: &Numbered) -> Option<Vec<u8>> {
+fn chain_line(alloc: Global, end: &Numbered) -> Option<Vec<u8>> {
     let count = end.entries.as_slice().len();
     let line = format!(in alloc; "{count} {}\n", marked(end)).ok()?;
     Some(line.into_bytes())
@@ -182,7 +182,7 @@ fn time_chain(rt: &HostRuntime, watch: &mut Watch, chain: Vec<RosterRecord>) -> 
     watch.begin(rt)?;
     let (end, _tree) = rebuild(rt.alloc(), chain).ok()?;
     watch.lap(rt)?;
-    line_of(rt.alloc(), &end)
+    chain_line(rt.alloc(), &end)
 }
 
 /// Makes the record of the nodes of a text, a line for each: the number of the line of its parent, a blank and its path,

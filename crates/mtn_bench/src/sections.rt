@@ -10,7 +10,7 @@ pub struct Section<'a> {
 }
 
 /// The line of a number.
-pub fn line_of(alloc: Global, number: u64) -> Option<Vec<u8>> {
+pub fn number_line(alloc: Global, number: u64) -> Option<Vec<u8>> {
     let line = format!(in alloc; "{number}\n").ok()?;
     Some(line.into_bytes())
 }

@@ -1,7 +1,16 @@
-// Entries of lines.
+// Entries and words of lines.
 use mtn_base::{Bytes, Comp, Id, List, NodeName, Path};
 use mtn_roster::{Attr, Body, Entry, Slot};
 use std::alloc::Global;
+
+/// The words of a line, with a blank between two.
+pub fn words_of<'a>(alloc: Global, line: &'a [u8]) -> Option<Vec<&'a [u8]>> {
+    let mut words = Vec::new(alloc);
+    for word in line.split(|byte| *byte == b' ') {
+        words.push(word).ok()?;
+    }
+    Some(words)
+}
 
 /// The number of a digit.
 pub fn number_of(word: &[u8]) -> Option<u8> {

@@ -18,17 +18,16 @@
 
 mod choices;
 mod decided;
-mod history;
 mod listed;
 mod made;
+mod merge;
 mod question;
 mod result;
-mod words;
 
+use mtn_case_trees::words_of;
 use question::question;
 use std::alloc::Global;
 use std::io::{self, Read, Write};
-use words::words_of;
 
 /// Answers the words of a line, if they ask.
 fn of_words(alloc: Global, case: &[u8], words: &[&[u8]], out: &mut Vec<u8>) -> Option<()> {

@@ -1,10 +1,10 @@
 // Questions about the decisions of a case.
 use crate::decided::put_decisions;
-use crate::history::History;
 use crate::listed::{put_lists, put_text};
 use crate::made::made_by_hand;
+use crate::merge::decided;
 use crate::result::put_result;
-use mtn_case_trees::id_of;
+use mtn_case_trees::{History, id_of};
 use mtn_conflicts::{Conflicts, conflicts};
 use mtn_decide::Decisions;
 use std::alloc::Global;
@@ -18,7 +18,7 @@ fn has_line(case: &[u8], word: &[u8]) -> bool {
 fn merged(alloc: Global, case: &[u8], sides: [&[u8]; 2]) -> Option<Decisions> {
     let left = id_of(sides[0])?;
     let right = id_of(sides[1])?;
-    History::read(alloc, case)?.decided(alloc, left, right)
+    decided(alloc, &mut History::read(alloc, case)?, left, right)
 }
 
 /// The decisions of a case: those that it makes by hand, or those of a merge of two of its revisions.
@@ -67,8 +67,8 @@ fn put_merged(
     put_result(alloc, &decisions_of(alloc, case, sides)?, id, out)
 }
 
-/// Answers a line of a word and two ids, if it asks.
-fn of_two(
+/// Answers a question of two ids, if the word is one.
+fn put_answer(
     alloc: Global,
     case: &[u8],
     word: &[u8],
@@ -94,7 +94,7 @@ pub fn question(
     out: &mut Vec<u8>,
 ) -> Option<()> {
     match rest {
-        [] => of_two(alloc, case, word, sides, out),
+        [] => put_answer(alloc, case, word, sides, out),
         [id] if word == b"result".as_slice() => put_merged(alloc, case, sides, id, out),
         _ => Some(()),
     }

@@ -2,45 +2,10 @@
 ghost use Rattle.std.specs.Prelude.{◌<◌, All, IsTrue, length};
 
 use crate::words::{place_of, position_of, positions_of, put_number, put_positions};
-use mtn_ancestry::{Graph, ParentList, Pos, PosSet, uncommon};
+use mtn_ancestry::{Graph, ParentList, Pos, PosSet};
 use mtn_base::Id;
-use mtn_case_trees::{id_of, put_id};
+use mtn_case_trees::{both_alone, id_of, push, put_id};
 use std::alloc::Global;
-
-fn push_two(graph: &mut Graph, id: Id, p: Pos, q: Pos) -> Option<()> {
-    let len = graph.len();
-    if p.0 >= len || q.0 >= len || graph.find(id).is_some() {
-        return None;
-    }
-    graph.push(id, ParentList::Two(p, q)).ok()?;
-    Some(())
-}
-
-fn push_one(graph: &mut Graph, id: Id, p: Pos) -> Option<()> {
-    let len = graph.len();
-    if p.0 >= len || graph.find(id).is_some() {
-        return None;
-    }
-    graph.push(id, ParentList::One(p)).ok()?;
-    Some(())
-}
-
-fn push_root(graph: &mut Graph, id: Id) -> Option<()> {
-    if graph.find(id).is_some() {
-        return None;
-    }
-    graph.push(id, ParentList::Zero).ok()?;
-    Some(())
-}
-
-/// Appends a revision to a graph that has its parents and not its id.
-pub fn push(graph: &mut Graph, id: Id, parents: ParentList) -> Option<()> {
-    match parents {
-        ParentList::Two(p, q) => push_two(graph, id, p, q),
-        ParentList::One(p) => push_one(graph, id, p),
-        ParentList::Zero => push_root(graph, id),
-    }
-}
 
 fn parents_at(words: &[Pos]) -> Option<ParentList> {
     match words {
@@ -124,21 +89,6 @@ fn put_several(
     }
 }
 
-/// The ancestors that each of two revisions has alone.
-pub fn sets_of(
-    alloc: Global,
-    graph: &mut Graph,
-    left: Pos,
-    right: Pos,
-) -> Option<(PosSet, PosSet)> {
-    let len = graph.len();
-    if left.0 < len && right.0 < len {
-        uncommon(alloc, graph, left, right).ok()
-    } else {
-        None
-    }
-}
-
 fn put_sets(sets: &(PosSet, PosSet), out: &mut Vec<u8>) -> Option<()> {
     put_positions(sets.0.as_slice(), out).ok()?;
     out.extend_from_slice(b" |").ok()?;
@@ -189,7 +139,7 @@ fn put_pair(
 ) -> Option<()> {
     match word {
         5 => put_is_ancestor(alloc, graph, first, second, out),
-        _ => put_sets(&sets_of(alloc, graph, first, second)?, out),
+        _ => put_sets(&both_alone(alloc, graph, first, second)?, out),
     }
 }
 

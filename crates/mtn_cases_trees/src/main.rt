@@ -18,7 +18,6 @@
 
 mod changes;
 mod graphs;
-mod history;
 mod joins;
 mod long;
 mod maps;
@@ -26,9 +25,10 @@ mod marks;
 mod trees;
 mod words;
 
+use mtn_case_trees::words_of;
 use std::alloc::Global;
 use std::io::{self, Read, Write};
-use words::{place_of, words_of};
+use words::place_of;
 
 // The words that begin a line that asks.
 const WORDS: &str = "tree graph line apply join map marks roster make";

@@ -1,10 +1,8 @@
 // Marks, rosters, and what a revision's text makes.
-use crate::graphs::sets_of;
-use crate::history::{History, find};
 use crate::words::{put_number, put_positions, put_tree};
 use mtn_ancestry::{Graph, Pos, PosSet};
 use mtn_base::{Id, NoMemory, Refusal};
-use mtn_case_trees::{id_of, put_name};
+use mtn_case_trees::{History, both_alone, find, id_of, put_name};
 use mtn_changes::read_revision;
 use mtn_make_roster::{Basis, MakeError, Uncommon, WalkedTree, make, mark};
 use mtn_marking::{AttrMarks, MarkMap, MarkedRoster, Marking};
@@ -119,7 +117,7 @@ fn only_of(
 ) -> Option<(Uncommon, Uncommon)> {
     let first = find(graph, first)?;
     let second = find(graph, second)?;
-    let (left, right) = sets_of(alloc, graph, first, second)?;
+    let (left, right) = both_alone(alloc, graph, first, second)?;
     both_uncommon(alloc, graph, left, right)
 }
 

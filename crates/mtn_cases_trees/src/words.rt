@@ -5,15 +5,6 @@ use mtn_case_trees::{number_of, put_entry};
 use mtn_roster::Roster;
 use std::alloc::Global;
 
-/// The words of a line.
-pub fn words_of<'a>(alloc: Global, line: &'a [u8]) -> Option<Vec<&'a [u8]>> {
-    let mut words = Vec::new(alloc);
-    for word in line.split(|byte| *byte == b' ') {
-        words.push(word).ok()?;
-    }
-    Some(words)
-}
-
 /// The place of a word among words with a blank between two; their number where it is none of them.
 pub fn place_of(word: &[u8], words: &str) -> usize {
     words

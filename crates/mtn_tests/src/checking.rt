@@ -4,10 +4,10 @@ ghost use Rattle.mtn_ports.specs.Ids.{sha1_makes_ids};
 ghost use Rattle.sha1.specs.Sha1.{sha1};
 
 use crate::gate::{Meeting, MeetingGate};
-use mtn_base::{Bytes, Id, NoMemory, Text};
-use mtn_cli::run;
+use crate::running::{answer, new_store};
+use mtn_base::{Id, NoMemory, Text};
 use mtn_pieces::Gate;
-use mtn_ports::{Batch, Ident, MemKeeper, MemSink, MemSource, Sha1One};
+use mtn_ports::{Ident, Sha1One};
 use std::alloc::Global;
 use std::sync::atomic::Ordering;
 use std::test::Fail;
@@ -42,37 +42,18 @@ impl Ident for Meets<'_> {
     }
 }
 
-// The status of a command without a payload.
-fn ends<R: Threads + Sync, I: Ident>(
-    rt: &R,
-    alloc: Global,
-    ident: &I,
-    words: &[Bytes],
-    keeper: &mut MemKeeper,
-) -> Option<u8> {
-    let mut source = MemSource::new(Vec::new(alloc), Vec::new(alloc));
-    let mut sink = MemSink::new(alloc, 1000, Vec::new(alloc)).ok()?;
-    let status = run(rt, alloc, words, ident, &mut source, &mut sink, keeper);
-    Some(status.number())
-}
-
 // The status of a check of four runs of revisions.
 fn checked<R: Threads + Sync>(rt: &R, alloc: Global, meeting: &Meeting) -> Option<u8> {
-    let mut keeper = MemKeeper::new(Batch::new(alloc), Vec::new(alloc)).ok()?;
-    let mut words = Vec::new(alloc);
-    words
-        .push(Bytes::from_slice(alloc, b"generate").ok()?)
-        .ok()?;
-    words.push(Bytes::from_slice(alloc, b"128").ok()?).ok()?;
-    if ends(rt, alloc, &Sha1One, &words, &mut keeper)? != 0 {
+    let mut store = new_store(alloc)?;
+    let (generated, _) = answer(rt, alloc, &Sha1One, &[b"generate", b"128"], b"", &mut store)?;
+    if generated != 0 {
         return None;
     }
-    words.clear();
-    words.push(Bytes::from_slice(alloc, b"check").ok()?).ok()?;
     let ident = Meets {
         gate: MeetingGate { meeting },
     };
-    ends(rt, alloc, &ident, &words, &mut keeper)
+    let (status, _) = answer(rt, alloc, &ident, &[b"check"], b"", &mut store)?;
+    Some(status)
 }
 
 #[test]

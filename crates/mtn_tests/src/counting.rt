@@ -2,9 +2,9 @@
 ghost use Rattle.mtn_ports.specs.Ids.{sha1_makes_ids};
 ghost use Rattle.sha1.specs.Sha1.{sha1};
 
-use mtn_base::{Bytes, Id, NoMemory, Text};
-use mtn_cli::run;
-use mtn_ports::{Batch, Ident, MemKeeper, MemSink, MemSource, Sha1One};
+use crate::running::{answer, new_store};
+use mtn_base::{Id, NoMemory, Text};
+use mtn_ports::{Ident, Sha1One};
 use std::alloc::Global;
 use std::sync::atomic::{AtomicU64, Ordering};
 use std::test::Fail;
@@ -48,21 +48,9 @@ impl Ident for Counting {
 
 // The status of `read` of the packets, over an empty store in memory.
 fn read<R: Threads + Sync>(rt: &R, alloc: Global, ident: &Counting) -> Option<u8> {
-    let mut words = Vec::new(alloc);
-    words.push(Bytes::from_slice(alloc, b"read").ok()?).ok()?;
-    let mut source = MemSource::new(PACKETS.to_vec(alloc).ok()?, Vec::new(alloc));
-    let mut sink = MemSink::new(alloc, 1000, Vec::new(alloc)).ok()?;
-    let mut keeper = MemKeeper::new(Batch::new(alloc), Vec::new(alloc)).ok()?;
-    let status = run(
-        rt,
-        alloc,
-        &words,
-        ident,
-        &mut source,
-        &mut sink,
-        &mut keeper,
-    );
-    Some(status.number())
+    let mut store = new_store(alloc)?;
+    let (status, _) = answer(rt, alloc, ident, &[b"read"], PACKETS, &mut store)?;
+    Some(status)
 }
 
 #[test]

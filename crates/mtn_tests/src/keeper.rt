@@ -91,15 +91,49 @@ fn ends<K: Keeper>(
     Ok(!keeper.next(table, after, &mut next)?)
 }
 
+// A database with one record, closed.
+fn closed(alloc: Global) -> Result<Memory, Fail>
+    ensures { IfOk result (λ db. IsTrue (memory_is_usable db)) }
+{
+    let mut keeper = done(SqliteKeeper::new(open(alloc, Memory::new(alloc))?))?;
+    done(put(alloc, &mut keeper, 2, b"key", b"abc"))?;
+    Ok(close(keeper)?)
+}
+
 #[test]
 fn a_closed_database_has_its_record_again(rt: HostRuntime) -> Result<(), Fail> {
     let alloc = rt.alloc();
-    let mut keeper = done(SqliteKeeper::new(open(alloc, Memory::new(alloc))?))?;
-    done(put(alloc, &mut keeper, 2, b"key", b"abc"))?;
-    let db = close(keeper)?;
+    let db = closed(alloc)?;
     let mut again = done(SqliteKeeper::new(open(alloc, db)?))?;
     assert!(rt; done(has(alloc, &mut again, 2, b"key", b"abc"))?);
     Ok(())
+}
+
+// Puts records by two batches, some of them over others.
+fn put_twice<K: Keeper>(alloc: Global, keeper: &mut K) -> Result<(), KeepError> {
+    let mut batch = Batch::new(alloc);
+    batch.put(2, b"b", b"1")?;
+    batch.put(2, b"a", b"2")?;
+    batch.put(2, b"b", b"3")?;
+    batch.put(3, b"c", b"")?;
+    keeper.apply(batch)?;
+    put(alloc, keeper, 2, b"a", b"4")
+}
+
+// Whether the later records stand, and each in its table alone.
+fn has_the_later<K: Keeper>(alloc: Global, keeper: &mut K) -> Result<bool, KeepError> {
+    let second_batch = has(alloc, keeper, 2, b"a", b"4")?;
+    let same_batch = has(alloc, keeper, 2, b"b", b"3")?;
+    let third_table = has(alloc, keeper, 3, b"c", b"")?;
+    let second_table = has(alloc, keeper, 2, b"c", b"")?;
+    Ok(second_batch && same_batch && third_table && !second_table)
+}
+
+// Whether the keys of the second table are these, in order.
+fn goes_in_order<K: Keeper>(alloc: Global, keeper: &mut K) -> Result<bool, KeepError> {
+    let first = goes_on(alloc, keeper, 2, b"", b"a")?;
+    let second = goes_on(alloc, keeper, 2, b"a", b"b")?;
+    Ok(first && second && ends(alloc, keeper, 2, b"b")?)
 }
 
 #[test]
@@ -108,20 +142,9 @@ fn later_records_stand_over_earlier_ones_and_keys_come_in_order(
 ) -> Result<(), Fail> {
     let alloc = rt.alloc();
     let mut keeper = done(SqliteKeeper::new(Connection::open_in_memory(alloc)?))?;
-    let mut batch = Batch::new(alloc);
-    done(batch.put(2, b"b", b"1"))?;
-    done(batch.put(2, b"a", b"2"))?;
-    done(batch.put(2, b"b", b"3"))?;
-    done(batch.put(3, b"c", b""))?;
-    done(keeper.apply(batch))?;
-    done(put(alloc, &mut keeper, 2, b"a", b"4"))?;
-    assert!(rt; done(has(alloc, &mut keeper, 2, b"a", b"4"))?);
-    assert!(rt; done(has(alloc, &mut keeper, 2, b"b", b"3"))?);
-    assert!(rt; done(has(alloc, &mut keeper, 3, b"c", b""))?);
-    assert!(rt; !done(has(alloc, &mut keeper, 2, b"c", b""))?);
-    assert!(rt; done(goes_on(alloc, &mut keeper, 2, b"", b"a"))?);
-    assert!(rt; done(goes_on(alloc, &mut keeper, 2, b"a", b"b"))?);
-    assert!(rt; done(ends(alloc, &mut keeper, 2, b"b"))?);
+    done(put_twice(alloc, &mut keeper))?;
+    assert!(rt; done(has_the_later(alloc, &mut keeper))?);
+    assert!(rt; done(goes_in_order(alloc, &mut keeper))?);
     Ok(())
 }
 
@@ -184,16 +207,25 @@ fn is_opened_by_asking(alloc: Global) -> Result<bool, KeepError> {
     Ok(found || !ended || keeper.into_connection().is_some())
 }
 
+// Whether each of two batches is answered from behind it.
+fn keeps_two<K: Keeper>(alloc: Global, keeper: &mut K) -> Result<bool, KeepError> {
+    put(alloc, keeper, 2, b"key", b"abc")?;
+    let first = has(alloc, keeper, 2, b"key", b"abc")?;
+    put(alloc, keeper, 2, b"other", b"")?;
+    Ok(first && goes_on(alloc, keeper, 2, b"key", b"other")?)
+}
+
+// Whether a keeper over a missing database keeps two batches, and has opened it.
+fn is_opened_by_a_batch(alloc: Global) -> Result<bool, KeepError> {
+    let mut keeper = LazyKeeper::missing(Running { alloc, text: TABLE });
+    Ok(keeps_two(alloc, &mut keeper)? && keeper.into_connection().is_some())
+}
+
 #[test]
 fn a_missing_database_is_opened_at_its_first_batch(rt: HostRuntime) -> Result<(), Fail> {
     let alloc = rt.alloc();
     assert!(rt; !done(is_opened_by_asking(alloc))?);
-    let mut keeper = LazyKeeper::missing(Running { alloc, text: TABLE });
-    done(put(alloc, &mut keeper, 2, b"key", b"abc"))?;
-    assert!(rt; done(has(alloc, &mut keeper, 2, b"key", b"abc"))?);
-    done(put(alloc, &mut keeper, 2, b"other", b""))?;
-    assert!(rt; done(goes_on(alloc, &mut keeper, 2, b"key", b"other"))?);
-    assert!(rt; keeper.into_connection().is_some());
+    assert!(rt; done(is_opened_by_a_batch(alloc))?);
     Ok(())
 }
 

@@ -1,42 +1,21 @@
 // Small histories: revisions, their trees and their marks.
-use crate::graphs::{push, sets_of};
-use crate::words::words_of;
+use crate::graph::{both_alone, find, parents_of, push};
+use crate::{entries_of, id_of, words_of};
 use mtn_ancestry::{Graph, ParentList, Pos, PosSet};
-use mtn_case_trees::{entries_of, id_of};
 use mtn_marking::{MarkMap, MarkedRoster, mark_one, mark_root, mark_two};
 use mtn_roster::Roster;
 use std::alloc::Global;
 
-/// The revisions of a case.
+/// The revisions of a case, and at its position in the graph the tree of each, with its marks.
 #[derive(Drop)]
 pub struct History {
     pub graph: Graph,
     pub trees: Vec<MarkedRoster>,
 }
 
-/// The position of the revision of a digit.
-pub fn find(graph: &Graph, word: &[u8]) -> Option<Pos> {
-    graph.find(id_of(word)?)
-}
-
-fn both_of(graph: &Graph, first: &[u8], second: &[u8]) -> Option<ParentList> {
-    let first = find(graph, first)?;
-    Some(ParentList::Two(first, find(graph, second)?))
-}
-
-/// The parents that words tell.
-fn parents_of(graph: &Graph, words: &[&[u8]]) -> Option<ParentList> {
-    match words {
-        [] => Some(ParentList::Zero),
-        [parent] => Some(ParentList::One(find(graph, parent)?)),
-        [first, second] => both_of(graph, first, second),
-        _ => None,
-    }
-}
-
-/// The tree of the revision of a digit.
-fn tree_of(alloc: Global, case: &[u8], name: &[u8]) -> Option<Roster> {
-    let mut prefix = name.to_vec(alloc).ok()?;
+/// The tree that the lines `ID ENTRY` of a case spell.
+fn tree_of(alloc: Global, case: &[u8], digit: &[u8]) -> Option<Roster> {
+    let mut prefix = digit.to_vec(alloc).ok()?;
     prefix.push(b' ').ok()?;
     let entries = entries_of(alloc, case, &prefix)?;
     Roster::build(alloc, entries).ok()
@@ -57,9 +36,9 @@ impl History {
         Some(history)
     }
 
-    /// The tree of a revision, with its marks.
-    pub fn tree(&self, id: &[u8]) -> Option<&MarkedRoster> {
-        let at = find(&self.graph, id)?;
+    /// The tree of the revision of a digit, with its marks.
+    pub fn tree(&self, digit: &[u8]) -> Option<&MarkedRoster> {
+        let at = find(&self.graph, digit)?;
         self.trees.get(at.0 as usize)
     }
 
@@ -84,7 +63,7 @@ impl History {
 
     /// The marks of a tree over those of two revisions.
     fn marks_over(&mut self, alloc: Global, tree: &Roster, p: Pos, q: Pos) -> Option<MarkMap> {
-        let sets = sets_of(alloc, &mut self.graph, p, q)?;
+        let sets = both_alone(alloc, &mut self.graph, p, q)?;
         self.marks_by(alloc, tree, p, q, &sets)
     }
 
@@ -112,16 +91,16 @@ impl History {
     }
 
     /// Appends a revision with the tree that the case has for it.
-    fn add(&mut self, alloc: Global, case: &[u8], name: &[u8], parents: ParentList) -> Option<()> {
-        let tree = self.marked(alloc, tree_of(alloc, case, name)?, parents)?;
-        push(&mut self.graph, id_of(name)?, parents)?;
+    fn add(&mut self, alloc: Global, case: &[u8], digit: &[u8], parents: ParentList) -> Option<()> {
+        let tree = self.marked(alloc, tree_of(alloc, case, digit)?, parents)?;
+        push(&mut self.graph, id_of(digit)?, parents)?;
         self.trees.push(tree).ok()
     }
 
     fn add_words(&mut self, alloc: Global, case: &[u8], words: &[&[u8]]) -> Option<()> {
-        let (name, rest) = words.split_first()?;
+        let (digit, rest) = words.split_first()?;
         let parents = parents_of(&self.graph, rest)?;
-        self.add(alloc, case, name, parents)
+        self.add(alloc, case, digit, parents)
     }
 
     /// Appends the revision of a line.
