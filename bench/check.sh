@@ -1,8 +1,8 @@
 #!/bin/bash
 # What `check` of a store file costs: 2,000 revisions in a line over 200 files, as a multiple of `fossil test-integrity` and of `git fsck
 # --full` over the same history in the same run; how much longer twice the revisions take; what it takes on all processors, as a part of
-# what it takes on one; its peak of memory over both. The best of three counts. Given a path, that program is measured. Without fossil
-# (Debian's package) its line is left out.
+# what it takes on one, beside what loops with nothing shared take so, which no program goes below; its peak of memory over both. The best
+# of three counts. Given a path, that program is measured. Without fossil (Debian's package) its line is left out.
 source "$(dirname "${BASH_SOURCE[0]}")/program.sh" || exit 1
 measured <<'PYTHON'
 import os, shutil, subprocess, sys, time
@@ -19,6 +19,16 @@ def best(words, told=None):
         output = subprocess.run(words, stdin=subprocess.DEVNULL, stdout=subprocess.PIPE, stderr=subprocess.DEVNULL, check=True).stdout
         spent.append(time.monotonic() - start)
         assert told is None or output == told, output[:200]
+    return min(spent)
+
+def loops(count):
+    """The least seconds of so many loops, each in a process of its own, at once."""
+    spent = []
+    for _ in range(ROUNDS):
+        start = time.monotonic()
+        running = [subprocess.Popen([sys.executable, '-c', 'for _ in range(20_000_000): pass']) for _ in range(count)]
+        assert all(process.wait() == 0 for process in running)
+        spent.append(time.monotonic() - start)
     return min(spent)
 
 def peak(words):
@@ -52,5 +62,7 @@ print(f'check of 2,000 revisions: {ours:.3f} s, git fsck --full {git:.3f} s: {ou
 twice, alone = best([mtn, longer, 'check'], b'ok 4000\n'), best(['taskset', '-c', '0', *words])
 print(f'4,000 revisions: {twice:.3f} s, {twice / ours:.2f} times as long (at most 2.2)')
 print(f'on {os.cpu_count()} processors to one: {ours / alone:.2f} ({alone:.3f} s; at most 0.5 on 4)')
+count = os.cpu_count()
+print(f'{count} loops with nothing shared, at once to one after the other: {loops(count) / (count * loops(1)):.2f}')
 print(f'peak memory over 2,000 revisions {peak(words):.0f} MiB, over 4,000 {peak([mtn, longer, "check"]):.0f} MiB')
 PYTHON
