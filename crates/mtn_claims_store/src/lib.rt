@@ -11,4 +11,5 @@ pub mod logs;
 pub mod pending;
 pub mod questions;
 pub mod rosters;
-pub mod top;
+pub mod run;
+pub mod words;

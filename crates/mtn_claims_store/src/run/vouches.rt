@@ -1,0 +1,30 @@
+// What a command that vouches for the store says.
+ghost use Rattle.mtn_cli.specs.Run.{is_read};
+ghost use Rattle.mtn_cli.specs.Step.{Step};
+ghost use Rattle.mtn_cli.specs.Store.{IsFirstLine, IsOldStore, is_checking};
+ghost use Rattle.mtn_frame.specs.Frame.{Vouches};
+ghost use Rattle.mtn_frame.specs.Top.{ComesTo, is_vouch};
+ghost use Rattle.mtn_old_stores.specs.Stores.{StandsIn};
+
+use mtn_base::Bytes;
+use mtn_model::Status;
+use mtn_ports::{Ident, Keeper, Sink, Source};
+use std::alloc::Global;
+use std::thread::Threads;
+
+/// `mtn_cli::run`.
+pub fn run<R: Threads + Sync, I: Ident, S: Source, O: Sink, K: Keeper>(
+    rt: &R,
+    alloc: Global,
+    words: &[Bytes],
+    ident: &I,
+    source: &mut S,
+    sink: &mut O,
+    keeper: &mut K,
+) -> Status
+    ensures { Vouches (StandsIn (I.meaning ident.now)) (IsFirstLine (I.meaning ident.now)) IsOldStore (ComesTo (Step (I.meaning ident.now) words.now) (is_read words.now) (S.left source.old) (S.left source.new)) (is_vouch is_checking words.now)
+        (record { contents = K.contents keeper.old; left = S.left source.old; written = O.written sink.old })
+        (record { contents = K.contents keeper.new; left = S.left source.new; written = O.written sink.new }) result }
+{
+    mtn_cli::run(rt, alloc, words, ident, source, sink, keeper)
+}
