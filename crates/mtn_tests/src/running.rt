@@ -51,6 +51,6 @@ fn a_file_is_put_into_a_store_in_memory(rt: HostRuntime) -> Result<(), Fail> {
     let told = put_file(&rt, rt.alloc(), b"hello\n");
     let (status, printed) = told.ok_or("want of memory")?;
     assert_eq!(rt; status, 0);
-    assert!(rt; printed.as_slice() == b"f572d396fae9206628714fb2ce00f72e94f2258f\n");
+    assert!(rt; printed.as_slice() == b"f572d396fae9206628714fb2ce00f72e94f2258f\n".as_slice());
     Ok(())
 }
