@@ -2,7 +2,7 @@
 use Rattle.std.specs.Prelude.{map, find, option_and_then, option_map, slice_get, insert}
 use Rattle.std.specs.List.Sorted.{IsBinarySearchResult, IsSearchInRange}
 use Rattle.std.specs.Result.{result_ok}
-use Rattle.std.proofs.Common.{◌≡◌, ◌≢◌, ℕ, ◌<◌, ◌≤◌, Bool, true, false, cond, length, get_or, set, Result, Ok, Err, Some, refl, sym, ◌∙◌, ap}
+use Rattle.std.proofs.Common.{◌≡◌, ◌≢◌, ℕ, ◌<◌, ◌≤◌, Bool, true, false, cond, length, get_or, set, Result, Ok, Err, Some, refl, sym, ◌∙◌, ap, subst}
 use Rattle.mtn_base.specs.Names.{name_cmp, same_name}
 use Rattle.mtn_base.specs.declared.name.NodeName.{NodeName}
 use Rattle.mtn_base.specs.Lists.{rises}
@@ -11,7 +11,7 @@ use Rattle.mtn_base.proofs.Tests.{same_name-is, same_name-self}
 use Rattle.mtn_marking.specs.declared.node.NodeMarks.{NodeMarks}
 use Rattle.mtn_marking.specs.Marking.{Marks, marking_of}
 use Rattle.mtn_base.proofs.Members.{taken}
-use Rattle.mtn_marking.proofs.Keyed.{IsPlaceFor, place_for, halved, find-set, keys-set, find-insert, rises-insert}
+use Rattle.mtn_marking.proofs.Keyed.{IsPlaceFor, place_for, halved, found_there, find-set, keys-set, find-insert, rises-insert}
 
 abbrev pub name_of : NodeMarks → NodeName
 name_of m = m.name
@@ -20,6 +20,13 @@ pub halved_names : (ms : Marks) → rises name_cmp (map name_of ms) ≡ true →
     IsSearchInRange r (length ms) → IsBinarySearchResult (λ m. name_cmp (name_of m) n) ms r →
     option_and_then (slice_get ms) (result_ok r) ≡ find (λ (m : NodeMarks). same_name m.name n) ms
 halved_names = halved name_cmp name_of same_name names_total same_name-is same_name-self exact_names
+
+-- a node that stands at a place is the one that is found by its name
+pub stands_named : (ms : Marks) → rises name_cmp (map name_of ms) ≡ true → (n : NodeName) (i : ℕ) (m : NodeMarks) → slice_get ms i ≡ Some m → same_name m.name n ≡ true →
+    slice_get ms i ≡ find (λ (x : NodeMarks). same_name x.name n) ms
+stands_named ms rising n i m there same =
+    let hit = found_there name_cmp name_of same_name names_total same_name-is same_name-self exact_names ms rising i m there in
+    there ∙ sym (subst (λ q. find (λ (x : NodeMarks). same_name x.name q) ms ≡ Some m) (same_name-is m.name n same) hit)
 
 -- the map has this node in place of an earlier one of its name
 pub IsPut : Marks → NodeMarks → Marks → Type 0

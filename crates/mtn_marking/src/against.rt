@@ -16,6 +16,13 @@ pub struct Against<'a> {
     pub only_right: &'a PosSet,
 }
 
+/// Where the next node by ascending names is looked for first in each parent: behind the one that was found there last.
+#[derive(Clone, Copy)]
+pub struct Guesses {
+    pub left: usize,
+    pub right: usize,
+}
+
 /// All of it, for a position and the set of it alone.
 pub fn marked_on<'a>(
     at: Pos,

@@ -5,7 +5,7 @@ ghost use Rattle.mtn_base.specs.declared.name.NodeName.{NodeName};
 ghost use Rattle.mtn_marking.specs.Marking.{IsFor};
 ghost use Rattle.mtn_marking.specs.Parts.{seen, IsOrderly, HasHere, IsMarkedAttr, IsMarkedContent, IsMarkedNode, basis_of};
 
-use crate::against::Against;
+use crate::against::{Against, Guesses};
 use crate::known::{ParentNode, birth_from, have_attr, have_content, have_slot, known_from};
 use crate::side::mark_side;
 use crate::{AttrMarks, Marking, NodeMarks};
@@ -80,13 +80,18 @@ fn mark_content(
     }
 }
 
-/// The marking of a node.
-pub fn mark_entry(alloc: Global, against: &Against, entry: &Entry) -> Result<NodeMarks, NoMemory>
+/// The marking of a node, which is looked for in each parent at a guess first.
+pub fn mark_entry(
+    alloc: Global,
+    against: &Against,
+    entry: &Entry,
+    guesses: &mut Guesses,
+) -> Result<NodeMarks, NoMemory>
     requires here { HasHere against.now }
     ensures { IfOk result (IsMarkedNode (basis_of against.now) entry.now) }
 {
-    let left = known_from(against.left, &entry.name);
-    let right = known_from(against.right, &entry.name);
+    let left = known_from(against.left, &entry.name, &mut guesses.left);
+    let right = known_from(against.right, &entry.name, &mut guesses.right);
     let slot = mark_side(
         alloc,
         against,

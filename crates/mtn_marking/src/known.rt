@@ -21,14 +21,18 @@ pub struct ParentNode<'a> {
     pub marking: &'a Marking,
 }
 
-/// What a parent has of a node; none where there is no such parent.
-pub fn known_from<'a>(parent: Option<&'a MarkedRoster>, name: &NodeName) -> Option<ParentNode<'a>>
+/// What a parent has of a node, which is looked for at a guess first; none where there is no such parent.
+pub fn known_from<'a>(
+    parent: Option<&'a MarkedRoster>,
+    name: &NodeName,
+    guess: &mut usize,
+) -> Option<ParentNode<'a>>
     ensures known { seen result ≡ known_by (option_map (λ t. t.now) parent.entry) name.now }
     ensures orderly { IsOrderly (seen result) }
 {
     match parent {
         None => None,
-        Some(marked) => marked.known(name),
+        Some(marked) => marked.known(name, guess),
     }
 }
 

@@ -100,6 +100,22 @@ impl MarkMap {
         }
     }
 
+    /// The place of a node, which is looked for at a guess first, and by halves where it does not stand there. It takes no
+    /// memory.
+    pub fn place_near(&self, guess: usize, name: &NodeName) -> Option<usize>
+        ensures within { IfSome result (λ place. place < length self.now) }
+        ensures node { option_and_then (slice_get self.now) result ≡ find (λ (m : NodeMarks). same_name m.name name.now) self.now }
+    {
+        let Some(node) = self.items.get(guess) else {
+            return self.place(name);
+        };
+        if node.name.same(name) {
+            Some(guess)
+        } else {
+            self.place(name)
+        }
+    }
+
     /// An equal map, which shares the sets.
     pub fn copy(&self, alloc: Global) -> Result<MarkMap, NoMemory>
         ensures { IfOk result (λ map. map ≡ self.now) }

@@ -7,7 +7,7 @@ ghost use Rattle.mtn_marking.specs.Marking.{AreFor, AreAllByRule, HaveBirths, on
 ghost use Rattle.mtn_marking.specs.Graph.{Extends, IsMarkedAt};
 ghost use Rattle.mtn_marking.specs.Parts.{HasHere, IsMarkedNode, basis_of};
 
-use crate::against::{Against, marked_on};
+use crate::against::{Against, Guesses, marked_on};
 use crate::entry::mark_entry;
 use crate::sets::{no_marks, one_mark};
 use crate::{MarkMap, MarkedRoster};
@@ -23,9 +23,10 @@ fn mark_all(alloc: Global, against: &Against, new: &Roster) -> Result<MarkMap, N
 {
     let count = new.len() as usize;
     let mut items = Vec::with_capacity(alloc, count)?;
+    let mut guesses = Guesses { left: 0, right: 0 };
     for place in 0..count {
         let entry = new.at_place(place).unwrap();
-        items.push(mark_entry(alloc, against, entry)?)?;
+        items.push(mark_entry(alloc, against, entry, &mut guesses)?)?;
     }
     Ok(MarkMap::from_rising(items))
 }
