@@ -90,6 +90,14 @@ pub fn place(marks: &MarkMap, name: &NodeName) -> Option<usize>
     marks.place(name)
 }
 
+/// `MarkMap::place_near`.
+pub fn place_near(marks: &MarkMap, guess: usize, name: &NodeName) -> Option<usize>
+    ensures within { IfSome result (λ place. place < length marks.now) }
+    ensures node { option_and_then (slice_get marks.now) result ≡ find (λ (m : NodeMarks). same_name m.name name.now) marks.now }
+{
+    marks.place_near(guess, name)
+}
+
 /// `MarkMap::copy`.
 pub fn copy_marks(marks: &MarkMap, alloc: Global) -> Result<MarkMap, NoMemory>
     ensures { IfOk result (λ copy. copy ≡ marks.now) }

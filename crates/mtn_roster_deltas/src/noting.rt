@@ -28,16 +28,20 @@ fn zeros(alloc: Global, count: usize) -> Result<Vec<u64>, NoMemory>
     Ok(numbers)
 }
 
-/// Notes the number of an entry at the place of its node, if it has one.
-fn note_one(numbers: &mut [u64], marks: &MarkMap, entry: &NumberedEntry)
+/// Notes the number of an entry at the place of its node, if it has one, which is looked for at a guess first, and answers the
+/// next guess: the place behind it, since nodes of one birth are numbered as their paths ascend.
+fn note_one(numbers: &mut [u64], marks: &MarkMap, entry: &NumberedEntry, guess: usize) -> usize
     requires { length numbers.old ≡ length marks.now }
     ensures { (seen : Entries) → AreNoted seen (map (λ (m : NodeMarks). m.name) marks.now) numbers.old → AreOne (seen ++ entry.now ∷ []) →
         AreNoted (seen ++ entry.now ∷ []) (map (λ (m : NodeMarks). m.name) marks.now) numbers.new }
 {
     let _rising = marks.len();
-    match marks.place(&entry.node) {
-        None => {}
-        Some(place) => numbers[place] = entry.number,
+    match marks.place_near(guess, &entry.node) {
+        None => guess,
+        Some(place) => {
+            numbers[place] = entry.number;
+            place.saturating_add(1)
+        }
     }
 }
 
@@ -47,8 +51,9 @@ fn note(numbers: &mut [u64], marks: &MarkMap, entries: &[NumberedEntry])
     ensures { (seen : Entries) → AreNoted seen (map (λ (m : NodeMarks). m.name) marks.now) numbers.old → AreOne (seen ++ entries.now) →
         AreNoted (seen ++ entries.now) (map (λ (m : NodeMarks). m.name) marks.now) numbers.new }
 {
+    let mut guess = 0;
     for entry in entries {
-        note_one(numbers, marks, entry);
+        guess = note_one(numbers, marks, entry, guess);
     }
 }
 

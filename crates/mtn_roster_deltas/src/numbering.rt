@@ -20,26 +20,30 @@ use mtn_records::{Numbered, NumberedAttr, NumberedBody, NumberedEntry, copy_valu
 use mtn_roster::{Attr, Body, Entry, Slot, Stop};
 use std::alloc::Global;
 
-/// The number of a node of the tree.
-fn number_at(roster: &MarkedRoster, numbers: &[u64], node: &NodeName) -> u64
+/// The number of a node of the tree. Its place is looked for at a guess first, and is the next guess.
+fn number_at(roster: &MarkedRoster, numbers: &[u64], node: &NodeName, guess: &mut usize) -> u64
     requires { length numbers.now ≡ length roster.now.tree }
     ensures { (k : ℕ) (e : Entry) → slice_get roster.now.tree k ≡ Some e → e.name ≡ node.now → result ≡ slice_index numbers.now k }
 {
     let _fits = roster.roster();
     let marks = roster.marks();
     let _rising = marks.len();
-    match marks.place(node) {
+    match marks.place_near(*guess, node) {
         None => 0,
-        Some(place) => numbers[place],
+        Some(place) => {
+            *guess = place;
+            numbers[place]
+        }
     }
 }
 
-/// The parent's number and the name that tell a slot.
+/// The parent's number and the name that tell a slot. The parent is looked for at a guess first.
 fn numbered_slot(
     alloc: Global,
     roster: &MarkedRoster,
     numbers: &[u64],
     slot: &Slot,
+    guess: &mut usize,
 ) -> Result<(u64, Bytes), NoMemory>
     requires { length numbers.now ≡ length roster.now.tree }
     ensures { IfOk result (λ r. IsNumberedSlot roster.now.tree numbers.now slot.now r.0 r.1) }
@@ -47,7 +51,7 @@ fn numbered_slot(
     match slot {
         Slot::Root => Ok((0, List::new(alloc))),
         Slot::Below { parent, name } => {
-            let above = number_at(roster, numbers, parent);
+            let above = number_at(roster, numbers, parent, guess);
             let name = Bytes::from_slice(alloc, name.bytes())?;
             Ok((above, name))
         }
@@ -93,7 +97,7 @@ fn numbered_attrs(
     Ok(numbered)
 }
 
-/// The entry of the node at a place.
+/// The entry of the node at a place, whose parent is looked for at a guess first.
 fn numbered_entry(
     alloc: Global,
     roster: &MarkedRoster,
@@ -101,13 +105,14 @@ fn numbered_entry(
     place: usize,
     entry: &Entry,
     node: &NodeMarks,
+    guess: &mut usize,
 ) -> Result<NumberedEntry, NoMemory>
     requires long { length numbers.now ≡ length roster.now.tree }
     requires within { place < length numbers.now }
     requires fits { IsFor entry.now node.now }
     ensures { IfOk result (IsNumberedOf roster.now.tree numbers.now (slice_index numbers.now place) entry.now node.now) }
 {
-    let (parent, name) = numbered_slot(alloc, roster, numbers, &entry.slot)?;
+    let (parent, name) = numbered_slot(alloc, roster, numbers, &entry.slot, guess)?;
     let body = numbered_body(&entry.body, &node.marking.content)?;
     let attrs = numbered_attrs(alloc, entry.attrs.as_slice(), node.marking.attrs.as_slice())?;
     Ok(NumberedEntry {
@@ -135,10 +140,12 @@ fn numbered_entries(
     let tree = roster.roster();
     let marks = roster.marks();
     let mut entries = Vec::with_capacity(alloc, numbers.len())?;
+    // Nodes beside each other mostly have one parent.
+    let mut guess = 0;
     for place in 0..numbers.len() {
         let entry = tree.at_place(place).unwrap();
         let node = marks.at_place(place).unwrap();
-        entries.push(numbered_entry(alloc, roster, numbers, place, entry, node)?)?;
+        entries.push(numbered_entry(alloc, roster, numbers, place, entry, node, &mut guess)?)?;
     }
     Ok(entries)
 }
