@@ -15,8 +15,8 @@ use Rattle.mtn_check.proofs.Scanning.{AreKeptTo, all_kept, none_yet, one_more}
 use Rattle.mtn_check.proofs.Told.{each_both, still}
 
 -- a record whose key is one of these
-abbrev pub IsAmong : List (List ℕ) → KeyRule
-IsAmong keys key body = Contains keys key
+abbrev pub IsKeyAmong : List (List ℕ) → KeyRule
+IsKeyAmong keys key body = Contains keys key
 
 -- So many keys up to one, which is the last of them: each follows the one before
 abbrev pub IsCountTo : ℕ → Contents → ℕ → List ℕ → Type 0
@@ -27,18 +27,18 @@ IsCountTo table c (suc i) key = (last : List ℕ) × IsCountTo table c i last ×
 record KeysTo (table : ℕ) (c : Contents) (i : ℕ) (last : List ℕ) : Type 0 where
   keys : List (List ℕ)
   long : length keys ≡ i
-  all : AreKeptTo table (IsAmong keys) c last
+  all : AreKeptTo table (IsKeyAmong keys) c last
 
 module _ (table : ℕ) (c : Contents) where
   keys_to : (i : ℕ) (last : List ℕ) → IsCountTo table c i last → KeysTo table c i last
-  keys_to zero last first = record { keys = []; long = refl; all = none_yet table (IsAmong []) c last first }
+  keys_to zero last first = record { keys = []; long = refl; all = none_yet table (IsKeyAmong []) c last first }
   keys_to (suc i) key (last, before, above, there, between) =
       let k = keys_to i last before in
       let long = length-append k.keys (key ∷ []) in
       record {
         keys = k.keys ++ key ∷ [];
         long = omega (arith, long, k.long);
-        all = one_more table (IsAmong (k.keys ++ key ∷ [])) c last key (λ x b some far at. Contains-append_left k.keys (key ∷ []) x (k.all x b some far at)) (above, (λ body at. Contains-push k.keys key), between);
+        all = one_more table (IsKeyAmong (k.keys ++ key ∷ [])) c last key (λ x b some far at. Contains-append_left k.keys (key ∷ []) x (k.all x b some far at)) (above, (λ body at. Contains-push k.keys key), between);
       }
 
   -- a list that has the keys up to one still has those below it when that one is taken away
@@ -60,7 +60,7 @@ module _ (table : ℕ) (c : Contents) where
   none_more : (i most : ℕ) (last key : List ℕ) → i ≤ most → AreKeyed c → IsCountTo table c i last → IsNextKey c table last false key → HasAtMost table most c
   none_more i most last key le keyed so_far none =
       let k = keys_to i last so_far in
-      (k.keys, omega (arith, k.long, le), all_kept table (IsAmong k.keys) c last keyed k.all none)
+      (k.keys, omega (arith, k.long, le), all_kept table (IsKeyAmong k.keys) c last keyed k.all none)
 
   too_many : (most : ℕ) (key : List ℕ) → IsCountTo table c (suc most) key → HasAtMost table most c → ⊥
   too_many most key so_far (keys, few, all) = let long = at_least (suc most) key so_far keys (λ k b far at. all k b at) in omega (arith, long, few)

@@ -28,8 +28,8 @@ pub record AreIn {A : Type 0} (own : ℕ → A) (n : ℕ) (keys : List A) : Type
   pub each : (q : ℕ) → q < n → Contains keys (own q)
 
 module _ {A : Type 0} (own : ℕ → A) where
-  one_less : (n : ℕ) (keys : List A) → AreIn own (suc n) keys → (at : ℕ) → at < length keys → get_or keys at (own n) ≡ own n → AreIn own n (remove keys at)
-  one_less n keys all at within last = record {
+  one_key_less : (n : ℕ) (keys : List A) → AreIn own (suc n) keys → (at : ℕ) → at < length keys → get_or keys at (own n) ≡ own n → AreIn own n (remove keys at)
+  one_key_less n keys all at within last = record {
     apart = λ q r lt below e. all.apart q r (omega (arith, lt)) (omega (arith, below)) e;
     each = λ q lt.
         let one = all.each q (omega (arith, lt)) in
@@ -44,7 +44,7 @@ module _ {A : Type 0} (own : ℕ → A) where
       let long = length-remove keys last.0 last.1 in
       ⊎_elim (λ e. (n, omega arith, sym (same_place keys last.0 last.1 k (own n) has.0 has.2 last.2 e)))
       (λ apart.
-      let w = none_other n (remove keys last.0) (omega (arith, short, long)) (one_less n keys all last.0 last.1 last.2) k (still_there keys last.0 last.1 k has.0 has.1 has.2 apart) in
+      let w = none_other n (remove keys last.0) (omega (arith, short, long)) (one_key_less n keys all last.0 last.1 last.2) k (still_there keys last.0 last.1 k has.0 has.1 has.2 apart) in
       let lt = w.1 in (w.0, omega (arith, lt), w.2))
       (cases_eq has.0 last.0)
 

@@ -11,8 +11,7 @@ ghost use Rattle.mtn_check_log.specs.Below.{below};
 ghost use Rattle.mtn_check_hands.specs.Reading.{IsAnswer, IsAnswerBelow, front_with};
 
 use crate::asked::{Answer, Asked, ask_draft};
-use crate::undamaged::undamaged;
-use mtn_check_log::{Behind, Below, Lent};
+use mtn_check_log::{Behind, Below, Lent, undamaged};
 use mtn_history::{Draft, Memory, Pending, StoreError};
 use mtn_ports::{Batch, Keeper};
 use std::alloc::Global;

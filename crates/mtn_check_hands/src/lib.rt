@@ -22,7 +22,6 @@ mod read;
 mod records;
 mod stored;
 mod stretch;
-mod undamaged;
 
 pub use hands::Hands;
 pub use stretch::{Stretch, load_stretch};

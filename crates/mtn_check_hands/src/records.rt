@@ -9,9 +9,8 @@ ghost use Rattle.mtn_history.specs.Logs.{IsLogged};
 ghost use Rattle.mtn_check_hands.specs.Reading.{AreRecordsAt};
 
 use crate::contents::{Mentions, mentions_in};
-use crate::undamaged::undamaged;
 use mtn_base::{Bytes, Id};
-use mtn_check_log::{Entry, entry_at, text_in};
+use mtn_check_log::{Entry, entry_at, text_in, undamaged};
 use mtn_history::{ROSTERS, StoreError, TEXTS};
 use mtn_ports::Keeper;
 use mtn_records::LogRecord;

@@ -1,5 +1,5 @@
 //! A position of the log, checked, and the keeper that shows what stands below it.
-ghost use Rattle.std.specs.Prelude.{◌++◌, ◌≡◌, ◌≢◌, ◌≤◌, Err, IfErr, IfOk, IfSome, IsErrOf, List, MatchOption, OnOk, ℕ};
+ghost use Rattle.std.specs.Prelude.{◌++◌, ◌≡◌, ◌≢◌, ◌≤◌, Err, IfErr, IfOk, IfSome, IsErrOf, List, MatchOption, Ok, OnOk, ℕ};
 ghost use Rattle.mtn_check_log.specs.Below.{below};
 ghost use Rattle.mtn_check_log.specs.Positions.{IsEntryAt, IsFirstIn, IsKnownBehind, IsRecordOf, IsRight, IsUntold, IsWalkedTo, IsWrong};
 ghost use Rattle.mtn_history.specs.Errors.{IfDamage};
@@ -67,6 +67,15 @@ pub fn bad(alloc: Global, table: u8, key: &[u8], body: &[u8]) -> StoreError
     ensures failed { result ≢ StoreError.Failed }
 {
     mtn_check_log::bad(alloc, table, key, body)
+}
+
+/// As `mtn_check_log::undamaged`.
+pub fn undamaged<T: Drop>(found: Result<T, StoreError>) -> Result<Option<T>, StoreError>
+    ensures found { IfOk result (λ o. IfSome o (λ x. found ≡ Ok x)) }
+    ensures sound { IfErr result (λ e. IfDamage e (λ _. ⊥)) }
+    ensures failed { result ≡ Err StoreError.Failed → found ≡ Err StoreError.Failed }
+{
+    mtn_check_log::undamaged(found)
 }
 
 /// As `mtn_check_log::entry_at`.

@@ -1,6 +1,6 @@
 // Revisions with what is said of them.
 ghost use Rattle.std.specs.Prelude.{◌≡◌, IfOk, true};
-ghost use Rattle.mtn_commands.specs.Certifying.{least_two as least_of};
+ghost use Rattle.mtn_commands.specs.Certifying.{first_two as first_of};
 ghost use Rattle.mtn_commands.specs.Drafts.{Drafts, Replies};
 ghost use Rattle.mtn_step.specs.Certifying.{merge_said as said_of};
 ghost use Rattle.mtn_step.specs.Step.{Steps};
@@ -42,11 +42,11 @@ pub fn merge_said(
     mtn_commands::merge_heads::merge_said(alloc, key, author, branch, date, left, right)
 }
 
-/// `mtn_commands::merge_heads::least_two`.
-pub fn least_two(ids: &[Id]) -> Result<(Id, Id), HistoryError>
-    ensures { result ≡ least_of ids.now }
+/// `mtn_commands::merge_heads::first_two`.
+pub fn first_two(ids: &[Id]) -> Result<(Id, Id), HistoryError>
+    ensures { result ≡ first_of ids.now }
 {
-    mtn_commands::merge_heads::least_two(ids)
+    mtn_commands::merge_heads::first_two(ids)
 }
 
 /// `mtn_commands::merge_heads::merge_heads`.

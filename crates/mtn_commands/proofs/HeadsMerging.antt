@@ -25,7 +25,7 @@ use Rattle.mtn_step.specs.Certifying.{AreHeads, merge_said}
 use Rattle.mtn_step.specs.Step.{Steps, refused}
 use Rattle.mtn_step.specs.declared.call.Call.TheVariants.{MergeHeads}
 use Rattle.mtn_step.specs.declared.call.Said.{Said}
-use Rattle.mtn_commands.specs.Certifying.{AreHeadsOver, Merging, least_two}
+use Rattle.mtn_commands.specs.Certifying.{AreHeadsOver, Merging, first_two}
 use Rattle.mtn_commands.specs.Drafts.{Replies, drafted}
 use Rattle.mtn_commands.proofs.ReasonLemmas.{wider_reason}
 use Rattle.mtn_commands.proofs.ViewLemmas.{never, reason_of}
@@ -66,7 +66,7 @@ module _ (f : List ℕ → List ℕ) (branch author date : List ℕ) (key : Id) 
     quiet = tt;
   }
 
-  pub fewer : (after : Pending) (ids : List Id) (e : HistoryError) (result : Result Reply HistoryError) → result ≡ Err e → Err e ≡ least_two ids → AreHeadsOver f (contents mid) before branch ids →
+  pub fewer : (after : Pending) (ids : List Id) (e : HistoryError) (result : Result Reply HistoryError) → result ≡ Err e → Err e ≡ first_two ids → AreHeadsOver f (contents mid) before branch ids →
       Replies f contents leaves faults old mid before after true Outcomes result
   fewer after [] e result is told heads = let same : e ≡ Refused NoBranch = cc in subst (Replies f contents leaves faults old mid before after true Outcomes) (sym (is ∙ ap Err same)) (no_branch after heads)
   fewer after (id ∷ []) e result is told heads = let same : e ≡ Refused (OneHead id) = cc in subst (Replies f contents leaves faults old mid before after true Outcomes) (sym (is ∙ ap Err same)) (one_head after id heads)
@@ -122,7 +122,7 @@ two_of (x ∷ []) le = absurd (omega (arith, le))
 two_of (x ∷ y ∷ xs) le = (xs, refl)
 
 -- the two that are chosen are the first of them
-pub chosen : (xs : List Id) (left right : Id) → Ok (left, right) ≡ least_two xs → (rest : List Id) × (xs ≡ left ∷ right ∷ rest)
+pub chosen : (xs : List Id) (left right : Id) → Ok (left, right) ≡ first_two xs → (rest : List Id) × (xs ≡ left ∷ right ∷ rest)
 chosen [] left right told = absurd (let apart : Ok (left, right) ≡ Err (Refused NoBranch) = told in cc)
 chosen (x ∷ []) left right told = absurd (let apart : Ok (left, right) ≡ Err (Refused (OneHead x)) = told in cc)
 chosen (x ∷ y ∷ rest) left right told = (rest, let same : (left, right) ≡ (x, y) = cc in sym (ap (λ (p : Id × Id). p.0 ∷ p.1 ∷ rest) same))

@@ -46,7 +46,7 @@ abbrev pub AreHeadsOver : (List ℕ → List ℕ) → Option Contents → Pendin
 AreHeadsOver f told p branch ids = (c : Contents) (s : State) → told ≡ Some c → IsDraft f c p s → (h : List Revision) → IsHistory f s.files s.log h → AreHeads s h branch ids
 
 -- the two least of the heads of a branch, which stand by ascending ids; or why there are no two
-abbrev pub least_two : List Id → Result (Id × Id) HistoryError
-least_two [] = Err (Refused NoBranch)
-least_two (id ∷ []) = Err (Refused (OneHead id))
-least_two (left ∷ right ∷ rest) = Ok (left, right)
+abbrev pub first_two : List Id → Result (Id × Id) HistoryError
+first_two [] = Err (Refused NoBranch)
+first_two (id ∷ []) = Err (Refused (OneHead id))
+first_two (left ∷ right ∷ rest) = Ok (left, right)

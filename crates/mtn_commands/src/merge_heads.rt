@@ -1,6 +1,6 @@
 // The command `merge_heads`.
 ghost use Rattle.std.specs.Prelude.{◌≡◌, IfOk, true};
-ghost use Rattle.mtn_commands.specs.Certifying.{least_two as least_of};
+ghost use Rattle.mtn_commands.specs.Certifying.{first_two as first_of};
 ghost use Rattle.mtn_commands.specs.Drafts.{Replies};
 ghost use Rattle.mtn_step.specs.Certifying.{merge_log as log_of, merge_said as said_of};
 ghost use Rattle.mtn_step.specs.Step.{Steps};
@@ -49,9 +49,10 @@ pub fn merge_said(
     })
 }
 
-/// The two least of the heads of a branch, which stand by ascending ids; NoBranch where there is none, OneHead where there is one.
-pub fn least_two(ids: &[Id]) -> Result<(Id, Id), HistoryError>
-    ensures { result ≡ least_of ids.now }
+/// The first two of the heads of a branch, the least since they stand by ascending ids; NoBranch where there is none, OneHead where
+/// there is one.
+pub fn first_two(ids: &[Id]) -> Result<(Id, Id), HistoryError>
+    ensures { result ≡ first_of ids.now }
 {
     match ids {
         [] => Err(HistoryError::Refused(Cause::NoBranch)),
@@ -78,7 +79,7 @@ pub fn merge_heads<I: Ident, K: Keeper>(
         true (Steps (I.meaning ident.now) (Call.MergeHeads branch.now author.now date.now key resolves) payload.now) result }
 {
     let ids = heads_of(alloc, draft, branch.as_slice())?;
-    let (left, right) = least_two(ids.as_slice())?;
+    let (left, right) = first_two(ids.as_slice())?;
     let said = merge_said(alloc, key, author, branch, date, left, right)?;
     merge_two(
         alloc,
