@@ -11,10 +11,8 @@ ghost use Rattle.mtn_check_lots.specs.Runs.{IsLoadedAt};
 use crate::{Facts, Loaded};
 use mtn_ancestry::{ParentList, Pos};
 use mtn_base::{Id, MAX_CHAIN, NoMemory};
-use mtn_changes::{Change, read_revision};
 use mtn_check_log::{get_shown, text_in};
 use mtn_history::{FILES, LOG, ROSTERS, StoreError, TEXTS};
-use mtn_make_roster::new_content;
 use mtn_ports::Keeper;
 use mtn_records::read_log;
 use std::alloc::Global;
@@ -128,24 +126,23 @@ fn fetch_files<K: Keeper>(
     Ok(())
 }
 
-// Appends the contents that changes bring.
-fn push_contents(ids: &mut Vec<Id>, changes: &[Change]) -> Result<(), NoMemory> {
-    for change in changes {
-        if let Some(id) = new_content(change) {
-            ids.push(id)?;
-        }
-    }
-    Ok(())
+// The content that a line of a text brings: of a file that is added it stands behind `content`, of one that is patched behind `to`.
+fn content_in(line: &[u8]) -> Option<Id> {
+    let line = line.trim_ascii_start();
+    let rest = match line.strip_prefix(b"content [") {
+        Some(rest) => rest,
+        None => line.strip_prefix(b"to [")?,
+    };
+    Id::read_hex(rest.strip_suffix(b"]")?)
 }
 
-// The contents that a text brings, where it is one.
+// The contents that a text brings. The text is not read as one: of a line that looks alike a fact more is known.
 fn contents_in(alloc: Global, text: &[u8]) -> Result<Vec<Id>, NoMemory> {
     let mut ids = Vec::new(alloc);
-    let Ok(revision) = read_revision(alloc, text) else {
-        return Ok(ids);
-    };
-    for edge in revision.edges.as_slice() {
-        push_contents(&mut ids, edge.changes.changes.as_slice())?;
+    for line in text.split(|byte| *byte == b'\n') {
+        if let Some(id) = content_in(line) {
+            ids.push(id)?;
+        }
     }
     Ok(ids)
 }
