@@ -8,6 +8,7 @@ use mtn_changes::Changeset;
 use mtn_roster::Roster;
 use std::alloc::Global;
 
+/// As `mtn_between::between`.
 pub fn changes_of(alloc: Global, old: &Roster, new: &Roster) -> Result<Changeset, NoMemory>
     ensures { IfOk result (λ changes. changes ≡ between_trees old.now new.now) }
 {

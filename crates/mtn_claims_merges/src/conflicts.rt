@@ -11,6 +11,7 @@ use mtn_decide::Decisions;
 use mtn_roster::Roster;
 use std::alloc::Global;
 
+/// As `mtn_conflicts::conflicts`.
 pub fn find(alloc: Global, decisions: &Decisions) -> Result<Conflicts, NoMemory>
     ensures { IfOk result (AreConflictsOf decisions.now) }
 {
@@ -18,12 +19,14 @@ pub fn find(alloc: Global, decisions: &Decisions) -> Result<Conflicts, NoMemory>
     Ok(found)
 }
 
+/// As `Conflicts::none`.
 pub fn none(found: &Conflicts) -> bool
     ensures { IsTrue result ↔ IsNone found.now }
 {
     found.none()
 }
 
+/// As `mtn_conflicts::result`.
 pub fn made(alloc: Global, decisions: &Decisions, reborn: Id) -> Result<Roster, NoMemory>
     requires clear { AreClear decisions.now }
     requires dirs { ParentsAreDirs decisions.now.nodes }
@@ -33,6 +36,7 @@ pub fn made(alloc: Global, decisions: &Decisions, reborn: Id) -> Result<Roster, 
     result_tree(alloc, decisions, reborn)
 }
 
+/// As `mtn_conflicts::write`.
 pub fn written(left: Id, right: Id, found: &Conflicts, out: &mut Vec<u8>) -> Result<(), NoMemory>
     requires { IsLesser left right }
     ensures ok { OnOk result (out.new.items ≡ out.old.items ++ spelling (conflict_stanzas left right found.now)) }

@@ -12,6 +12,7 @@ use mtn_decide::{Choice, Decisions, decide, lives, merge_scalar};
 use mtn_marking::MarkedRoster;
 use std::alloc::Global;
 
+/// As `mtn_decide::merge_scalar`.
 pub fn choose(
     equal: bool,
     left: &PosSet,
@@ -24,6 +25,7 @@ pub fn choose(
     merge_scalar(equal, left, right, only_left, only_right)
 }
 
+/// As `mtn_decide::lives`.
 pub fn living(
     birth: Pos,
     in_left: bool,
@@ -36,6 +38,7 @@ pub fn living(
     lives(birth, in_left, in_right, only_left, only_right)
 }
 
+/// As `mtn_decide::decide`.
 pub fn decided(
     alloc: Global,
     left: &MarkedRoster,

@@ -11,6 +11,7 @@ use mtn_decide::Decisions;
 use mtn_resolve::{OverrideError, Resolutions, ResolveTextError, override_with, read};
 use std::alloc::Global;
 
+/// As `mtn_resolve::read`.
 pub fn resolutions(alloc: Global, text: &[u8]) -> Result<Resolutions, ResolveTextError>
     ensures ok { IfOk result (λ rs. IsResolutionsText text.now rs) }
     ensures stanzas { IfOk result (λ rs. AreStanzas (header ∷ map stanza_of rs)) }
@@ -19,6 +20,7 @@ pub fn resolutions(alloc: Global, text: &[u8]) -> Result<Resolutions, ResolveTex
     read(alloc, text)
 }
 
+/// As `mtn_resolve::override_with`.
 pub fn resolved(
     alloc: Global,
     decisions: &Decisions,
