@@ -4,7 +4,7 @@ cd "$(dirname "${BASH_SOURCE[0]}")/.." || exit 1
 passed=0
 failed=0
 work=$(mktemp -d)
-trap 'rm -rf "$work"' EXIT
+trap 'umount "$work/small" 2>/dev/null; rm -rf "$work"' EXIT
 
 ./mtn --version >/dev/null || { echo "tests/cli.sh: the program was not built" >&2; echo "0 passed, 1 failed"; exit 1; }
 
@@ -35,6 +35,25 @@ file_row() {
     printf "$output" >"$work/want"
     verdict "$name: status $ended, output $(head -c 200 "$work/out")" \
         test "$ended" = "$status" -a ! -s "$work/err" -a "$(cmp "$work/out" "$work/want" 2>&1)" = ""
+}
+
+# runs PID: waits, ten seconds at most, until what was started as ./mtn is the program itself.
+runs() {
+    local n
+    for n in $(seq 200); do
+        [ "$(readlink "/proc/$1/exe")" = "$PWD/target/mtn" ] && return 0
+        sleep 0.05
+    done
+    return 1
+}
+# opens PID FILE: waits until it has the file open.
+opens() {
+    local n
+    for n in $(seq 200); do
+        ls -l "/proc/$1/fd" 2>/dev/null | grep -qF "$2" && return 0
+        sleep 0.05
+    done
+    return 1
 }
 
 abc=a9993e364706816aba3e25717850c26c9cd0d89d
@@ -155,7 +174,8 @@ mkfifo "$work/pipe"
 ./mtn "$store" put_file <"$work/pipe" >"$work/first" 2>&1 &
 first=$!
 exec 8>"$work/pipe"
-sleep 1
+verdict "a first program opens the store" opens "$first" "$store"
+sleep 0.5
 row "a locked store is a fault" 6 '' '' "$store" get_file "$abc"
 printf 'later' >&8
 exec 8>&-
@@ -187,25 +207,29 @@ full() {
 }
 verdict "a full disk is a fault, and the store is as it was" full
 
-# Killed at a moment of a run of puts: the store has a front of the commands behind a first file, with every one that was
-# answered.
+# Killed at a moment of a run of puts, each by the program itself: the store has a front of the commands behind a first file,
+# with every one that was answered. The program opens what was left before sqlite3 does.
 killed() {
     local killed=$work/killed.mtn answered n
     rm -f "$killed"*
     ./mtn "$killed" put_file </dev/null >"$work/out" || return 1
     : >"$work/answered"
-    setsid bash -c 'for i in $(seq 100); do printf "$i" | ./mtn "$1" put_file >>"$2"; done' _ "$killed" "$work/answered" 2>/dev/null &
+    setsid bash -c 'for i in $(seq 100); do printf "$i" | target/mtn "$1" put_file >>"$2"; done' _ "$killed" "$work/answered" 2>/dev/null &
     local group=$!
-    sleep "0.$(printf '%03d' $((RANDOM % 500 + 20)))"
+    until [ -s "$work/answered" ]; do sleep 0.01; done
+    sleep "0.$(printf '%03d' $((RANDOM % 500)))"
     kill -9 -- -"$group" 2>/dev/null
     wait "$group" 2>/dev/null
+    while kill -0 -- -"$group" 2>/dev/null; do sleep 0.01; done
     answered=$(wc -l <"$work/answered")
-    [ "$answered" = 100 ] && return 0
+    [ "$answered" = 100 ] || cut_off=$((cut_off + 1))
     n=0
     while [ "$n" -lt 100 ] && [ "$(./mtn "$killed" get_file "$(printf $((n + 1)) | sha1sum | cut -d' ' -f1)")" = "$((n + 1))" ]; do n=$((n + 1)); done
     [ "$n" -ge "$answered" ] && asks "$killed" 'SELECT count(*) FROM kept WHERE kind = 2' "$((n + 1))" && asks "$killed" 'PRAGMA integrity_check' ok
 }
+cut_off=0
 for round in $(seq 20); do verdict "killed, round $round" killed; done
+verdict "most rounds were killed on their way: $cut_off of 20" test "$cut_off" -ge 10
 
 # ---- a store that is missing, or may not be written
 
@@ -293,7 +317,8 @@ mkfifo "$work/slow"
 ./mtn "$work/both.mtn" put_file <"$work/slow" >"$work/first" 2>&1 &
 first=$!
 exec 8>"$work/slow"
-sleep 2
+verdict "a first program runs" runs "$first"
+sleep 1
 row "a missing store is not locked by a command that reads" 0 abc "$abc\n" "$work/both.mtn" put_file
 printf 'later' >&8
 exec 8>&-

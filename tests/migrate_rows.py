@@ -17,7 +17,7 @@ sys.path.insert(0, os.path.dirname(os.path.abspath(__file__)))
 import revisions
 import sessions
 from old_store import VERSION, field, key_table, older
-from revisions import MTN, Store, add_dir, add_file, patch, revision, sha, verdict
+from revisions import MTN, Store, add_dir, add_file, left, patch, revision, sha, verdict
 from sessions import framed, request
 
 ONE, TWO, THREE = '1' * 40, '2' * 40, 'ab' * 20
@@ -195,13 +195,15 @@ def killed(folder):
         time.sleep(chance.random() * spent * 1.1)
         process.kill()
         process.wait()
-        held = one.records()
+        behind = Store(folder, 'left%d' % number)
+        left(one.path, behind.path)
+        held = behind.records()
         verdict('killed, it leaves one of both', held in (old, migrated))
         seen.append(held == migrated)
-        with contextlib.closing(sqlite3.connect(one.path)) as database:
+        with contextlib.closing(sqlite3.connect(behind.path)) as database:
             verdict('and a whole file', database.execute('PRAGMA integrity_check').fetchone() == ('ok',))
         if held == old:
-            asks(one, 'and goes on', ['migrate'], whole, 0, b'keys 3\ncerts 10006\n')
+            verdict('and goes on', one.ask('migrate', given=whole) == (0, b'keys 3\ncerts 10006\n', b''))
             verdict('to the same records', one.records() == migrated)
     verdict('it was killed on its way: %r' % seen, not all(seen))
 

@@ -5,6 +5,7 @@ Ends with 'N passed, M failed'."""
 import contextlib
 import hashlib
 import os
+import shutil
 import sqlite3
 import subprocess
 import sys
@@ -17,6 +18,14 @@ passed, failed = 0, 0
 
 def sha(data):
     return hashlib.sha1(data).hexdigest()
+
+
+def left(store, to):
+    """What a killed program left, its file and its log, under another name for sqlite3, whose look folds the log into the file."""
+    for end in ('', '-wal'):
+        if os.path.exists(store + end):
+            shutil.copy(store + end, to + end)
+    return to
 
 
 def verdict(name, holds):

@@ -19,7 +19,7 @@ import cert_rows
 import merged_rows
 import packet_rows
 import revisions
-from revisions import MTN, sha
+from revisions import MTN, left, sha
 
 passed, failed = 0, 0
 
@@ -237,7 +237,7 @@ def killed(folder):
         process.kill()
         process.stdout.close()
         process.wait()
-        with contextlib.closing(sqlite3.connect(store)) as records:
+        with contextlib.closing(sqlite3.connect(left(store, store + '.left'))) as records:
             count = lambda table: records.execute('SELECT count(*) FROM kept WHERE kind = ?', (table,)).fetchone()[0]
             made = count(3)
             verdict('a killed session of %d commits parts none' % made, made > 0 and count(4) == count(5) == made and count(8) == 4 * made)
