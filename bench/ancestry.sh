@@ -25,18 +25,18 @@ with tempfile.TemporaryDirectory() as work:
         return min(seconds(['git', *words], cwd=work) for _ in range(3))
     subprocess.run(['git', 'init', '-q', '--bare', work], check=True)
     subprocess.run(['git', 'fast-import', '--quiet'], input=''.join(history()).encode(), check=True, cwd=work)
-    subprocess.run(['git', 'commit-graph', 'write', '--reachable'], stderr=subprocess.DEVNULL, cwd=work)
+    subprocess.run(['git', 'commit-graph', 'write', '--reachable'], stderr=subprocess.DEVNULL, check=True, cwd=work)
     root = subprocess.run(['git', 'rev-list', '--max-parents=0', 'main'], stdout=subprocess.PIPE, check=True, cwd=work).stdout.strip()
     old = git('merge-base', '--is-ancestor', root, 'main')
     count = git('rev-list', '--count', 'main')
-    base = git('merge-base', 'main^1', 'main^2')
+    apart = git('rev-list', '--count', '--left-right', 'main^1...main^2')
 
 given = b'%d' % DIAMONDS
 assert answer('ancestry', given) == b'true %d 1 1 %d\n' % (3 * DIAMONDS, 3 * DIAMONDS - 2), answer('ancestry', given)
 whole = min(seconds([PROGRAM, 'ancestry'], given) for _ in range(3))
 _, is_old, ancestors, uncommon, common = least(steps('ancestry', given) for _ in range(3))
-for name, ours, gits in (('is_ancestor', is_old, old), ('ancestors', ancestors, count), ('uncommon', uncommon, base)):
+for name, ours, gits in (('is_ancestor', is_old, old), ('ancestors', ancestors, count), ('uncommon', uncommon, apart)):
     print('%s %.3f s, git %.3f s: %.3f' % (name, ours, gits, ours / gits))
 print('common of four %.3f s, ancestors %.3f s: %.2f' % (common, ancestors, common / ancestors))
-print('with the start and the making of the graph %.3f s, git all three %.3f s: %.2f (at most 1)' % (whole, old + count + base, whole / (old + count + base)))
+print('with the start and the making of the graph %.3f s, git all three %.3f s: %.2f (at most 1)' % (whole, old + count + apart, whole / (old + count + apart)))
 PYTHON

@@ -8,9 +8,18 @@ CASES = os.environ.get('MTN_CASES', TOP + '/crates/mtn_cases_store/out/mtn_cases
 
 
 def must_be_built(program):
-    """Ends the script where a program is not there."""
-    if not os.path.exists(program):
+    """Ends the script where a program is not there, or is older than a source and not named by a variable."""
+    if not os.path.exists(program) or (program.startswith(TOP) and newest_source() > os.path.getmtime(program)):
         sys.exit('build %s first: `rt run` in its crate, or give its path in MTN_BENCH or MTN_CASES' % program)
+
+
+def newest_source():
+    """When a source of a crate was changed last."""
+    times = [0]
+    for at, folders, names in os.walk(TOP + '/crates'):
+        folders[:] = [folder for folder in folders if folder != 'out']
+        times += [os.path.getmtime(os.path.join(at, name)) for name in names if name.endswith(('.rt', '.antt'))]
+    return max(times)
 
 
 def escaped(text):

@@ -62,10 +62,14 @@ class History:
         subprocess.run(['git', 'init', '-q', '--bare', self.peer], check=True)
         subprocess.run(['git', '-C', self.peer, 'fast-import', '--quiet'], input=b''.join(self.stream), check=True)
 
-    def git(self, left, right):
-        start = time.monotonic()
-        subprocess.run(['git', '-C', self.peer, 'merge-tree', '--write-tree', 'r%d' % left, 'r%d' % right], stdout=subprocess.DEVNULL, check=True)
-        return time.monotonic() - start
+    def git(self, *pairs, rounds=3):
+        """All these merges by one process, the best of some rounds."""
+        lines = b''.join(b'r%d r%d\n' % pair for pair in pairs)
+        def once():
+            start = time.monotonic()
+            subprocess.run(['git', '-C', self.peer, 'merge-tree', '--stdin'], input=lines, stdout=subprocess.DEVNULL, check=True)
+            return time.monotonic() - start
+        return min(once() for _ in range(rounds))
 
 random.seed(3)
 large = History('large', tree())
@@ -78,7 +82,7 @@ assert sha(text).encode() in session(large.requests + [request('merge', a, b)])[
 base = least(large.requests)
 merge = least(large.requests + [request('merge', a, b)]) - base
 put = least(large.requests + [request('put_revision', text)]) - base
-other = min(large.git(of_a, of_b) for _ in range(3))
+other = large.git((of_a, of_b))
 print(f'a merge over 100,000 nodes with 1,000 changes on each side takes {merge:.2f} s: {merge / put:.2f} times put_revision of its text (at most 2.5), {merge / other:.1f} times git merge-tree', flush=True)
 
 small = History('small', ['d%02d/' % d for d in range(10)] + ['d%02d/f%03d' % (file // 20, file) for file in range(200)])
@@ -88,6 +92,8 @@ small.import_all()
 pairs = [(left, right) for left in sides[0] for right in sides[1]][:1000]
 base = least(small.requests)
 ours = least(small.requests + [request('merge', left[0], right[0]) for left, right in pairs]) - base
-theirs = sum(small.git(left[1], right[1]) for left, right in pairs)
-print(f'1,000 merges over 200 files take {ours:.2f} s: {ours / theirs:.2f} times 1,000 git merge-tree (at most 2)')
+merges = [(left[1], right[1]) for left, right in pairs]
+theirs = sum(small.git(merge, rounds=1) for merge in merges)
+at_once = small.git(*merges) - small.git(merges[0])
+print(f'1,000 merges over 200 files take {ours:.2f} s: {ours / theirs:.2f} times 1,000 git merge-tree (at most 2), {ours / at_once:.2f} times one that does them all')
 PYTHON

@@ -21,20 +21,21 @@ database.executemany('INSERT OR REPLACE INTO kept (kind, name, body) VALUES (?, 
 database.commit()
 database.close()
 
-def best(*words):
+def best(status, *words):
     times = []
     for _ in range(5):
         start = time.monotonic()
-        told = subprocess.run([mtn, store, *words], stdout=subprocess.PIPE).stdout
+        ended = subprocess.run([mtn, store, *words], stdout=subprocess.PIPE)
         times.append(time.monotonic() - start)
-    return min(times), told
+        assert ended.returncode == status, ended
+    return min(times), ended.stdout
 
 parent, child = ids[-2:]
-opening, _ = best('get_file', '0' * 40)
-asked, told = best('parents', child.hex())
+opening, _ = best(1, 'get_file', '0' * 40)
+asked, told = best(0, 'parents', child.hex())
 assert told == parent.hex().encode() + b'\n', told
 print(f'parents in a store of 100,000 revisions: {asked:.2f} s, opening it {opening:.2f} s: {asked / opening:.2f} times (at most 1.2)')
-asked, told = best('ancestry_difference', child.hex(), ids[-11].hex())
+asked, told = best(0, 'ancestry_difference', child.hex(), ids[-11].hex())
 assert told == b''.join(id.hex().encode() + b'\n' for id in ids[-10:]), told
 print(f'ancestry_difference of near revisions there: {asked:.2f} s: {asked / opening:.2f} times')
 PYTHON

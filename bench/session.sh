@@ -67,23 +67,28 @@ bodies = [b'%-100d' % i for i in range(FILES)]
 puts = [request('put_file', body) for body in bodies]
 gets = [request('get_file', sha(body)) for body in bodies]
 
+keys = [bytes.fromhex(sha(body)) for body in bodies]
+
+# It keeps a log and syncs it at each commit, as the program does.
 def open_sqlite(folder):
     records = sqlite3.connect(os.path.join(folder, 'other.db'), isolation_level=None)
+    records.execute('PRAGMA journal_mode = WAL')
+    records.execute('PRAGMA synchronous = FULL')
     return records
 
 def other_puts(records):
     records.execute('CREATE TABLE kept (kind INTEGER, name BLOB, body BLOB, PRIMARY KEY (kind, name)) WITHOUT ROWID')
     def run():
-        for body in bodies:
+        for key, body in zip(keys, bodies):
             records.execute('BEGIN')
-            records.execute('INSERT INTO kept VALUES (2, ?, ?)', (bytes.fromhex(sha(body)), body))
+            records.execute('INSERT INTO kept VALUES (2, ?, ?)', (key, body))
             records.execute('COMMIT')
     return clock(run)
 
 def other_gets(records):
     def run():
-        for body in bodies:
-            records.execute('SELECT body FROM kept WHERE kind = 2 AND name = ?', (bytes.fromhex(sha(body)),)).fetchone()
+        for key in keys:
+            records.execute('SELECT body FROM kept WHERE kind = 2 AND name = ?', (key,)).fetchone()
     return clock(run)
 
 # Into a new store file in one session, the puts and then the gets; and into a new database over one connection. Then the gets in

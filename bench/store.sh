@@ -70,7 +70,8 @@ size = os.path.getsize('big.mtn') / 1e6
 times = []
 for _ in range(5):
     begun = time.monotonic()
-    subprocess.run([mtn, 'big.mtn', 'get_file', '0' * 40], stdout=subprocess.DEVNULL)
+    ended = subprocess.run([mtn, 'big.mtn', 'get_file', '0' * 40], stdout=subprocess.DEVNULL).returncode
+    assert ended == 1, ended
     times.append(time.monotonic() - begun)
 print(f'opening a store of {size:.0f} MB: {1000 * min(times) / size:.1f} ms a MB')
 PYTHON
