@@ -302,8 +302,8 @@ graph
 stdio <REQUESTS
   Does many commands at one opening of the store. Standard input is requests,
   each `l`, its words and `e`; a word is its size in decimal, `:` and its bytes.
-  The last word of put_file, put_revision, commit and read, of merge and
-  merge_heads with --resolve, is their input.
+  The last word of put_file, put_revision, commit, read and migrate, of merge
+  and merge_heads with --resolve, is their input.
   Prints for request N, counted from 0, N:m:SIZE:OUTPUT and N:l:1:STATUS.
   Refused: BadRequest (with the number, counted from 1, of the first request that
   is not whole and right; nothing is done then).";
@@ -320,9 +320,9 @@ pub const STATUSES: &str = "\
   command.
 
 2 usage
-  `usage` is written; nothing was opened or read. A word is misspelt, an id has
-  not 40 lower-case hexadecimal digits, a path is none, or the store's name is
-  missing in front. `mtn --help` lists the commands.
+  `usage` is written; nothing was opened or read. A word is misspelt or is not
+  UTF-8, an id has not 40 lower-case hexadecimal digits, a path is none, or the
+  store's name is missing in front or empty. `mtn --help` lists the commands.
 
 3 conflicts
   A merge found conflicts; their text is written, and the store is as it was.
@@ -333,24 +333,31 @@ pub const STATUSES: &str = "\
 
 5 the output failed
   The command was done, and what it kept is kept; a front of its answer is
-  written. Ask for the answer again.
+  written. Ask for the answer again. Where a pipe is closed at its other end, a
+  signal ends the program instead (141 in a shell), and the same holds.
 
 6 the store failed
-  Nothing is written, and the store is as it was. One of:
+  Nothing is written, and the store is as it was; of a session, as behind the
+  requests that were answered. One of:
   - another command has the store open, or has just made it: try again;
-  - STORE is a folder;
-  - STORE is a file that is no store (`sqlite3 STORE .schema` shows what it is);
+  - STORE is a folder, a link to nothing, a file that has a second name, or begins
+    with `file:`;
+  - STORE is a file that is no store (`sqlite3 STORE .schema` shows what it is), or
+    no whole one (`sqlite3 STORE 'PRAGMA integrity_check'`);
   - its folder is not there;
-  - you may not read and write the file and its folder;
-  - the disk is full or failed.
+  - you may not read and write the file, STORE-wal beside it, and its folder;
+  - the disk is full or failed. Where it failed while a command was kept, the
+    store may be as behind it: look before you repeat it.
 
 7 memory is wanting
-  Nothing is written, and the store is as it was. A command holds its input and
-  its store in memory: give it more.
+  Nothing is written, and the store is as it was; of a session, as behind the
+  requests that were answered. A command holds its input and its store in memory:
+  give it more.
 
 8 the store is damaged
-  `damaged ..` or `missing ..` shows the record; nothing was changed. Something
-  else changed the store: use a copy that you kept.
+  `damaged ..` or `missing ..` shows the record; nothing was changed, but by the
+  requests of a session that were answered. Something else changed the store: use
+  a copy that you kept.
 
 9 the input is too long
   It has more than 268435456 bytes. Nothing is written, and the store is as it

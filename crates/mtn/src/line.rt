@@ -11,7 +11,7 @@ pub enum Line {
     Command { store: String, words: List<Bytes> },
     /// A text about the program.
     Text(&'static str),
-    /// No store, or words that are not UTF-8.
+    /// No store or one without a name, or words that are not UTF-8.
     Usage,
 }
 
@@ -25,6 +25,9 @@ pub fn line_of(rt: &HostRuntime) -> Result<Line, NoMemory> {
     let Some(store) = args.next() else {
         return Ok(Line::Usage);
     };
+    if store.is_empty() {
+        return Ok(Line::Usage);
+    }
     let mut words = List::new(rt.alloc());
     for arg in args {
         words.push(List::from_vec(arg.into_bytes()))?;
