@@ -174,9 +174,9 @@ key KEYID NAME
 
 cert --key=KEYID [--sig=BASE64] REV NAME VALUE
   Holds a certificate of a revision: a name as that of a key, a value of any
-  bytes, the id of the key that says so, and its signature in base64, with its
-  padding and without space. The signature is carried and not checked. A
-  certificate that is held is kept already.
+  bytes (as a word of a command line, of UTF-8), the id of the key that says so,
+  and its signature in base64, with its padding and without space. The signature
+  is carried and not checked. A certificate that is held is kept already.
   Prints nothing.
   Refused: the first of BadField signature, BadField name, TextTooLong (value or
   signature above 67108864 bytes), UnknownRevision.
