@@ -91,6 +91,7 @@ for words in '' 'head' 'heads' 'put_file x' 'put_file --x' 'put_file --x=' 'put_
 done
 row "an end of options before an id" 1 '' "refused UnknownFile $abc\n" - get_file -- "$abc"
 row "no store" 2 '' 'usage\n'
+row "a store without a name" 2 '' 'usage\n' '' get_file "$abc"
 row "words that are not UTF-8" 2 '' 'usage\n' - put_file "$(printf '\377')"
 row "a command without a payload leaves its input" 1 'unread' "refused UnknownFile $abc\n" - get_file "$abc"
 
@@ -166,6 +167,12 @@ verdict "the text is as it was" cmp -s "$work/text" "$work/text.before"
 sqlite3 "$work/other.db" 'CREATE TABLE note (id INTEGER PRIMARY KEY)'
 row "another database is no store" 6 x '' "$work/other.db" put_file
 verdict "the other database is as it was" asks "$work/other.db" 'SELECT count(*) FROM sqlite_schema' 1
+head -c 5000 "$store" >"$work/cut.mtn"
+row "a database that is cut off is no store" 6 '' '' "$work/cut.mtn" check
+ln "$work/bad.mtn" "$work/second.mtn"
+row "a file with a second name is no store" 6 '' '' "$work/second.mtn" check
+ln -s "$work/nowhere" "$work/dangling.mtn"
+row "a link to nothing is no store" 6 x '' "$work/dangling.mtn" put_file
 : >"$work/empty.mtn"
 row "an empty file becomes a store" 0 abc "$abc\n" "$work/empty.mtn" put_file
 
@@ -177,10 +184,15 @@ exec 8>"$work/pipe"
 verdict "a first program opens the store" opens "$first" "$store"
 sleep 0.5
 row "a locked store is a fault" 6 '' '' "$store" get_file "$abc"
+sqlite3 -cmd '.timeout 60000' "$store" ".backup '$work/backup.mtn'" &
+backup=$!
 printf 'later' >&8
 exec 8>&-
 wait "$first"
 verdict "the first program ends well" test $? = 0 -a "$(cat "$work/first")" = "$(printf later | sha1sum | cut -d' ' -f1)"
+wait "$backup"
+verdict "a backup waits for it" test $? = 0
+row "and has what was kept" 0 '' later "$work/backup.mtn" get_file "$(printf later | sha1sum | cut -d' ' -f1)"
 
 # A full disk.
 full() {
