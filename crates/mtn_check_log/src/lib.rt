@@ -23,13 +23,11 @@ mod due;
 mod entry;
 mod position;
 mod shown;
-mod undamaged;
 mod walk;
 
 pub use below::{Behind, Below, Lent};
 pub use checked::check_position;
-pub use damaged::bad;
+pub use damaged::{bad, undamaged};
 pub use entry::{Entry, entry_at, record_of, text_in};
 pub use shown::get_shown;
-pub use undamaged::undamaged;
 pub use walk::{walk_from, walk_log};
