@@ -8,7 +8,7 @@ ghost use Rattle.mtn_check_lots.specs.Runs.{IsLoadedAt};
 
 use crate::gathering::gather;
 use crate::{Facts, Job, Loaded};
-use mtn_check_log::{entry_at, record_of, undamaged};
+use mtn_check_log::{entry_at, record_of};
 use mtn_history::{ROSTERS, StoreError};
 use mtn_ports::Keeper;
 use std::alloc::Global;
@@ -21,6 +21,19 @@ const MAX_JOBS: usize = 8;
 
 // A lot has no more runs once what was read for it has more bytes than this: some three hundred thousand nodes.
 const LOT_BYTES: usize = 32 << 20;
+
+// What was found, or none where there is damage.
+fn undamaged<T: Drop>(found: Result<T, StoreError>) -> Result<Option<T>, StoreError>
+    ensures found { IfOk result (λ o. IfSome o (λ x. found ≡ Ok x)) }
+    ensures sound { IfErr result (λ e. IfDamage e (λ _. ⊥)) }
+    ensures failed { result ≡ Err StoreError.Failed → found ≡ Err StoreError.Failed }
+{
+    match found {
+        Ok(value) => Ok(Some(value)),
+        Err(StoreError::Damaged(_)) => Ok(None),
+        Err(error) => Err(error),
+    }
+}
 
 // What stands at a position, where nothing is missing or bad there.
 fn load_at<K: Keeper>(alloc: Global, keeper: &mut K, at: u64) -> Result<Option<Loaded>, StoreError>

@@ -1,4 +1,3 @@
 pub mod Verdict
 pub mod Same
 pub mod Laws
-pub mod Shared

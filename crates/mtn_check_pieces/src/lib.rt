@@ -12,8 +12,8 @@
 //! every number of pieces. Numbers of nodes are no part of it, nor are the limits of a tree, its manifest and its files. Over a
 //! history, a stored roster that agrees is that of the next revision ([`laws`]). No clause says that several threads ran.
 //!
-//! Cost: of a job what reading its text, rebuilding its parents' rosters, applying, joining, marking, and a look at each stored entry cost; the time of the longest run,
-//! on as many processors as there are pieces.
+//! Cost: of a job what reading its text, rebuilding its parents' rosters, applying, joining, marking, and a look at each stored
+//! entry cost; the time of the longest run, on as many processors as there are pieces.
 #![tactic(auto)]
 
 mod job;
@@ -25,8 +25,7 @@ mod shared;
 mod trees;
 mod verdict;
 
-pub use job::{Agreed, CheckJob, Verdict};
+pub use job::{CheckJob, Verdict};
 pub use pieces::check_pieces;
-pub use reading::{revision_of, roster_of};
-pub use shared::{SharedEntries, SharedRecord};
-pub use verdict::{agreement, check_one};
+pub use shared::SharedRecord;
+pub use verdict::check_one;

@@ -4,10 +4,9 @@
 //! that position has the records of what is kept of its parents, and what each of two has above it that the other lacks
 //! (`specs/Behind.antt`).
 //!
-//! The code of the check (`mtn_check_records`, `mtn_check_walk`) relies on this: where such a job agrees, its text makes that tree
-//! with those marks of the history, so that neither is made again; and a job agrees wherever its text is lawful and its record the
-//! one that is due. What is left to the check are the limits of the tree, the files, the manifest's id and the numbers of nodes, all
-//! of the stored roster.
+//! A check by such verdicts can rely on this: where a job agrees, its text makes that tree with those marks of the history, so that
+//! neither is made again; and a job agrees wherever its text is lawful and its record the one that is due. What is left to it are
+//! the limits of the tree, the files, the manifest's id and the numbers of nodes, all of the stored roster.
 #![tactic(auto)]
 
 mod laws;

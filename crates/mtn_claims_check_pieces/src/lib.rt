@@ -4,7 +4,7 @@
 //! meet these clauses, a body that they refuse is no body of the call.
 #![tactic(auto)]
 
-ghost use Rattle.std.specs.Prelude.{IfOk};
+ghost use Rattle.std.specs.Prelude.{◌≡◌, IfOk};
 ghost use Rattle.mtn_check_pieces.specs.Verdict.{AreVerdicts, IsVerdict};
 
 use mtn_ancestry::Pos;
@@ -40,4 +40,18 @@ pub fn check_pieces<R: Threads + Sync, G: Gate>(
     ensures { IfOk result (λ vs. AreVerdicts jobs.now vs.items) }
 {
     mtn_check_pieces::check_pieces(rt, alloc, gate, pieces, jobs)
+}
+
+/// As `SharedRecord::new`.
+pub fn new_shared_record(alloc: Global, roster: RosterRecord) -> Result<SharedRecord, NoMemory>
+    ensures { IfOk result (λ r. r ≡ roster) }
+{
+    SharedRecord::new(alloc, roster)
+}
+
+/// As `SharedRecord::as_record`.
+pub fn as_record(shared: &SharedRecord) -> &RosterRecord
+    ensures { result.now ≡ shared.now }
+{
+    shared.as_record()
 }

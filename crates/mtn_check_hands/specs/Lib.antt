@@ -1,3 +1,0 @@
-pub mod Hands
-pub mod Putting
-pub mod Reading

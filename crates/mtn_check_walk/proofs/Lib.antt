@@ -1,2 +1,0 @@
-mod Stretches
-mod Walks
