@@ -8,20 +8,17 @@ use Rattle.std.proofs.lemmas.List.Edits.{length-remove}
 use Rattle.std.proofs.lemmas.List.Elements.{Contains-append_left, Contains-push}
 use Rattle.mtn_model.specs.Table.{Contents, body_at}
 use Rattle.mtn_ports.specs.Kept.{AreKeyed, IsAbove, IsAboveIf, IsNextKey, Same}
-use Rattle.mtn_check.specs.Tables.{HasAtMost, IsNoneBetween, KeyRule}
+use Rattle.mtn_check.specs.Tables.{AreTallied, HasAtMost, IsCountTo, IsTally, KeyRule}
+use Rattle.mtn_check.specs.declared.few.Tallies.{Tallies}
+use Rattle.mtn_check.specs.declared.few.Tally.{Tally}
 use Rattle.mtn_check.proofs.Others.{same_place, still_there}
 use Rattle.mtn_check.proofs.Order.{not_itself}
 use Rattle.mtn_check.proofs.Scanning.{AreKeptTo, all_kept, none_yet, one_more}
-use Rattle.mtn_check.proofs.Told.{each_both, still}
+use Rattle.mtn_check.proofs.Told.{each_both, each_told, still}
 
 -- a record whose key is one of these
 abbrev pub IsKeyAmong : List (List ℕ) → KeyRule
 IsKeyAmong keys key body = Contains keys key
-
--- So many keys up to one, which is the last of them: each follows the one before
-abbrev pub IsCountTo : ℕ → Contents → ℕ → List ℕ → Type 0
-IsCountTo table c zero key = key ≡ []
-IsCountTo table c (suc i) key = (last : List ℕ) × IsCountTo table c i last × IsAbove last key × ((body : List ℕ) × (body_at c table key ≡ Some body)) × IsNoneBetween table c last key
 
 -- the keys of a table up to one, so many
 record KeysTo (table : ℕ) (c : Contents) (i : ℕ) (last : List ℕ) : Type 0 where
@@ -97,3 +94,22 @@ module _ (old new : Option Contents) (table i : ℕ) (last shown : List ℕ) (ke
   counted_told found key keyed above next =
       each_both new (λ c. AreKeyed c × IsCountTo table c i shown) (λ c. IsNextKey c table shown found key) (λ c. IsTrue (not found) ↔ HasAtMost table i c)
       (λ c x y. counted table c i shown key found x.0 x.1 above y) (keyed_so_far keyed) next
+
+-- as many as there may be, where no more are left to count
+pub all_counted : (i most : ℕ) (told : Option Contents) (A : ℕ → Contents → Type 0) → (i < most → ⊥) → IfSome told (λ _. i ≤ most) → IfSome told (A i) → IfSome told (A most)
+all_counted i most told A ends within is = each_both told (λ _. i ≤ most) (A i) (A most) (λ c le a. subst (λ n. A n c) (let same : i ≡ most = omega (arith, le, ends) in same) a) within is
+
+-- one key more
+pub more_tallied : (old new : Option Contents) (table most : ℕ) (t u : Tally) (shown : List ℕ) (kept : Same old new) (is : shown ≡ t.last.items) (was : IfSome old (λ c. IsTally table most c t)) →
+    (found : Bool) (key : List ℕ) → found ≡ true → u.last.items ≡ key → u.found ≡ t.found + 1 → t.found + 1 ≤ most → IsAboveIf shown found key → IfSome new (λ c. IsNextKey c table shown found key) → IfSome new (λ c. IsTally table most c u)
+more_tallied old new table most t u shown kept is was found key there same up within above next =
+    let so_far = each_told old (λ c. IsTally table most c t) (λ c. IsCountTo table c t.found t.last.items) (λ c x. x.0) was in
+    let told = more_told old new table t.found t.last.items shown kept is so_far found key u.last.items there same above next in
+    each_told new (λ c. IsCountTo table c (t.found + 1) u.last.items) (λ c. IsTally table most c u) (λ c x. (subst (λ i. IsCountTo table c i u.last.items) (sym up) x, omega (arith, up, within))) told
+
+-- all three, each of its moment
+pub all_tallied : (n : ℕ) (first mid new : Option Contents) → Same first mid → Same mid new → (t : Tallies) →
+    IfSome first (λ c. IsTally 3 n c t.texts) → IfSome mid (λ c. IsTally 4 n c t.log) → IfSome new (λ c. IsTally 5 n c t.rosters) → IfSome new (λ c. AreTallied n c t)
+all_tallied n first mid new kept more t texts log rosters =
+    let both = each_both mid (λ c. IsTally 3 n c t.texts) (λ c. IsTally 4 n c t.log) (λ c. IsTally 3 n c t.texts × IsTally 4 n c t.log) (λ c x y. (x, y)) (still first mid (λ c. IsTally 3 n c t.texts) kept texts) log in
+    each_both new (λ c. IsTally 3 n c t.texts × IsTally 4 n c t.log) (λ c. IsTally 5 n c t.rosters) (λ c. AreTallied n c t) (λ c x y. record { texts = x.0; log = x.1; rosters = y }) (still mid new (λ c. IsTally 3 n c t.texts × IsTally 4 n c t.log) more both) rosters

@@ -54,6 +54,11 @@ ends_damaged {T} told A P Q e r is join a p =
     each_both told A (λ c. IfDamage e (P c)) (λ c. IfErr r (λ x. IfDamage x (Q c)))
     (λ c x y. subst (λ (o : Result T StoreError). IfErr o (λ z. IfDamage z (Q c))) (sym is) (if_damage e (P c) (Q c) (λ d. join c d x) y)) a p
 
+-- what holds of any records
+pub all_told : (told : Option Contents) {A : Contents → Type 0} → ((c : Contents) → A c) → IfSome told A
+all_told None a = tt
+all_told (Some c) a = a c
+
 -- nothing was found before
 pub nothing_yet : (told : Option Contents) → IfSome told (λ _. Unit {0})
 nothing_yet None = tt

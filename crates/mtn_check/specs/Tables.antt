@@ -1,8 +1,10 @@
 -- The records of one table, by key, and the first that breaks a rule.
-use Rattle.std.specs.Prelude.{◌≡◌, ◌<◌, ◌≤◌, ◌⊎◌, ℕ, List, length, Option, Some, None}
+use Rattle.std.specs.Prelude.{◌≡◌, ◌<◌, ◌≤◌, ◌⊎◌, ℕ, zero, suc, List, [], length, Option, Some, None}
 use Rattle.std.specs.List.{Contains}
 use Rattle.mtn_model.specs.Table.{Contents, body_at}
 use Rattle.mtn_ports.specs.Kept.{IsAbove}
+use Rattle.mtn_check.specs.declared.few.Tallies.{Tallies}
+use Rattle.mtn_check.specs.declared.few.Tally.{Tally}
 use Rattle.mtn_history.specs.declared.errors.Damage.{Damage}
 use Rattle.mtn_history.specs.declared.errors.Damage.TheVariants.{Bad}
 
@@ -66,3 +68,18 @@ HasAtMost table most c = (keys : List (List ℕ)) × (length keys ≤ most) × A
 -- it has no more, or each keeps the rule
 abbrev pub IsFewOrKept : ℕ → ℕ → KeyRule → Contents → Type 0
 IsFewOrKept table most rule c = HasAtMost table most c ⊎ AllIn table rule c
+
+-- so many keys up to one, which is the last of them: each follows the one before
+abbrev pub IsCountTo : ℕ → Contents → ℕ → List ℕ → Type 0
+IsCountTo table c zero key = key ≡ []
+IsCountTo table c (suc i) key = (last : List ℕ) × IsCountTo table c i last × IsAbove last key × ((body : List ℕ) × (body_at c table key ≡ Some body)) × IsNoneBetween table c last key
+
+-- counted up to the last key found, and no further than so many
+abbrev pub IsTally : ℕ → ℕ → Contents → Tally → Type 0
+IsTally table most c t = IsCountTo table c t.found t.last.items × (t.found ≤ most)
+
+-- texts, records of the log and rosters, no further than there are revisions
+pub record AreTallied (n : ℕ) (c : Contents) (t : Tallies) : Type 0 where
+  pub texts : IsTally 3 n c t.texts
+  pub log : IsTally 4 n c t.log
+  pub rosters : IsTally 5 n c t.rosters

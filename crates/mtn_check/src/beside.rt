@@ -4,7 +4,9 @@ ghost use Rattle.mtn_history.specs.Errors.{IfDamage};
 ghost use Rattle.mtn_ports.specs.Causes.{Rose};
 ghost use Rattle.mtn_ports.specs.Kept.{Stays};
 ghost use Rattle.mtn_check.specs.Steps.{IsLateDamage, IsRightBeside};
+ghost use Rattle.mtn_check.specs.Tables.{AreTallied};
 
+use crate::few::Tallies;
 use crate::places::check_places;
 use crate::scan::{Test, check_table};
 use mtn_certs::is_field;
@@ -66,14 +68,20 @@ impl Test for Certs {
 }
 
 /// Looks at the records of positions, at the names of keys, and at the certificates.
-pub fn check_beside<K: Keeper>(alloc: Global, count: u64, keeper: &mut K) -> Result<(), StoreError>
+pub fn check_beside<K: Keeper>(
+    alloc: Global,
+    tallies: Tallies,
+    count: u64,
+    keeper: &mut K,
+) -> Result<(), StoreError>
+    requires tallied { IfSome (K.contents keeper.old) (λ c. AreTallied count c tallies) }
     ensures stays { Stays K.contents K.leaves K.faults keeper.old keeper.new }
     ensures right { IfSome (K.contents keeper.new) (λ c. OnOk result (IsRightBeside count c)) }
     ensures damaged { IfSome (K.contents keeper.new) (λ c. IfErr result (λ e. IfDamage e (IsLateDamage count c))) }
     ensures failed { result ≡ Err StoreError.Failed → Rose (K.faults keeper.old) (K.faults keeper.new) }
 {
     walk_stands();
-    check_places(alloc, count, keeper)?;
+    check_places(alloc, tallies, count, keeper)?;
     check_table(alloc, &Names, KEYS, keeper)?;
     check_table(alloc, &Certs, CERTS, keeper)
 }

@@ -12,6 +12,7 @@ ghost use Rattle.mtn_check.specs.Steps.{Counts, IsWholeOf};
 
 use crate::begun::check_begun;
 use crate::beside::check_beside;
+use crate::few::Tallies;
 use crate::form::refuse_older;
 use crate::meta::read_count;
 use mtn_check_laws::{no_damage_stands, standing_has_no_damage};
@@ -37,8 +38,9 @@ fn check_all<R: Threads + Sync, I: Ident, K: Keeper>(
     ensures failed { result ≡ Err StoreError.Failed → Rose (K.faults keeper.old) (K.faults keeper.new) }
 {
     check_begun(alloc, ident, keeper)?;
-    walk_lots(rt, alloc, ident, pieces, count, keeper)?;
-    check_beside(alloc, count, keeper)
+    let mut tallies = Tallies::new(alloc);
+    walk_lots(rt, alloc, ident, pieces, count, keeper, &mut tallies)?;
+    check_beside(alloc, tallies, count, keeper)
 }
 
 // The number of revisions, or the first damage.

@@ -11,9 +11,9 @@
 //! does not (`specs/Tables.antt`). What each step asks and finds stands in `specs/Steps.antt`.
 //!
 //! Cost: beside the walk along the log each file, key name and certificate is asked for once, by the walk of its table, a certificate
-//! also for its revision's text. Texts, records of the log and rosters are counted there by their keys: a table that has one for
-//! each position and no more has no other. Only where it has more is each of its records asked for too, a text also for the log's
-//! record at its position. Each file is hashed once.
+//! also for its revision's text. Texts, records of the log and rosters are counted by their keys, little by little while the walk
+//! waits for the threads that accept, and then to their end: a table that has one for each position and no more has no other. Only
+//! where it has more is each of its records asked for too, a text also for the log's record at its position. Each file is hashed once.
 #![tactic(auto)]
 
 mod begun;

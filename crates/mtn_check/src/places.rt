@@ -6,9 +6,9 @@ ghost use Rattle.mtn_records.specs.declared.record.LogRecord.{LogRecord as Log};
 ghost use Rattle.mtn_ports.specs.Causes.{Rose};
 ghost use Rattle.mtn_ports.specs.Kept.{Stays};
 ghost use Rattle.mtn_check.specs.Steps.{ArePlaced, IsUnplaced};
-ghost use Rattle.mtn_check.specs.Tables.{IsBreakIn, IsFewOrKept};
+ghost use Rattle.mtn_check.specs.Tables.{AreTallied, IsBreakIn, IsFewOrKept, IsTally};
 
-use crate::few::has_at_most;
+use crate::few::{Tallies, Tally};
 use crate::number::{number_before, number_in};
 use crate::scan::{Test, check_table};
 use mtn_ancestry::Pos;
@@ -98,30 +98,44 @@ fn check_more<T: Test, K: Keeper>(
     alloc: Global,
     test: &T,
     table: u8,
+    tally: Tally,
     count: u64,
     keeper: &mut K,
 ) -> Result<(), StoreError>
+    requires tally { IfSome (K.contents keeper.old) (λ c. IsTally table count c tally) }
     ensures stays { Stays K.contents K.leaves K.faults keeper.old keeper.new }
     ensures kept { IfSome (K.contents keeper.new) (λ c. OnOk result (IsFewOrKept table count (T.rule test.now c) c)) }
     ensures damaged { IfSome (K.contents keeper.new) (λ c. IfErr result (λ e. IfDamage e (IsBreakIn table (T.rule test.now c) c))) }
     ensures failed { result ≡ Err StoreError.Failed → Rose (K.faults keeper.old) (K.faults keeper.new) }
 {
-    if has_at_most(alloc, table, count, keeper)? {
+    if tally.has_at_most(alloc, table, count, keeper)? {
         return Ok(());
     }
     check_table(alloc, test, table, keeper)
 }
 
 /// Whether each text, each record of the log and each roster is that of a position below the count. The walk along the log has
-/// found those of all positions, so the keys of a table are counted, and only where there are more are its records looked at.
-pub fn check_places<K: Keeper>(alloc: Global, count: u64, keeper: &mut K) -> Result<(), StoreError>
+/// found those of all positions, so the keys of a table are counted, as far as they are not yet, and only where there are more are its
+/// records looked at.
+pub fn check_places<K: Keeper>(
+    alloc: Global,
+    tallies: Tallies,
+    count: u64,
+    keeper: &mut K,
+) -> Result<(), StoreError>
+    requires tallied { IfSome (K.contents keeper.old) (λ c. AreTallied count c tallies) }
     ensures stays { Stays K.contents K.leaves K.faults keeper.old keeper.new }
     ensures placed { IfSome (K.contents keeper.new) (λ c. OnOk result (ArePlaced count c)) }
     ensures damaged { IfSome (K.contents keeper.new) (λ c. IfErr result (λ e. IfDamage e (IsUnplaced count c))) }
     ensures failed { result ≡ Err StoreError.Failed → Rose (K.faults keeper.old) (K.faults keeper.new) }
 {
     walk_stands();
-    check_more(alloc, &Texts { count }, TEXTS, count, keeper)?;
-    check_more(alloc, &Places { count }, LOG, count, keeper)?;
-    check_more(alloc, &Places { count }, ROSTERS, count, keeper)
+    let Tallies {
+        texts,
+        log,
+        rosters,
+    } = tallies;
+    check_more(alloc, &Texts { count }, TEXTS, texts, count, keeper)?;
+    check_more(alloc, &Places { count }, LOG, log, count, keeper)?;
+    check_more(alloc, &Places { count }, ROSTERS, rosters, count, keeper)
 }

@@ -1,6 +1,6 @@
 -- An id that no revision below a position has is new below each earlier one too.
 use Rattle.std.specs.Prelude.{IfSome}
-use Rattle.std.proofs.Common.{◌≡◌, ◌<◌, ◌≤◌, ◌^◌, ◌&&◌, ℕ, Bool, true, false, cond, List, Option, Some, None, take, sym, ap, ◌∙◌, subst, arith}
+use Rattle.std.proofs.Common.{◌≡◌, ◌<◌, ◌≤◌, ◌^◌, ◌&&◌, ℕ, true, cond, List, Option, Some, None, take, sym, ap, ◌∙◌, subst, arith}
 use Rattle.mtn_model.specs.Table.{Contents, body_at}
 use Rattle.mtn_check_log.specs.Below.{below, has_id_at, is_position, is_text_of}
 use Rattle.mtn_check_log.specs.Positions.{IsRecordOf}

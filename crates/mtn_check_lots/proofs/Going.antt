@@ -32,6 +32,11 @@ told_taken_at f old None jobs verdicts place job b same is verdict taken = tt
 told_taken_at f old (Some c) jobs verdicts place job b same is verdict taken =
     λ right. subst (IsTakenRun f c) (sym is) (if_same old (Some c) (λ d. IsTrue (slice_index_or verdicts place b) → IsTakenRun f d (slice_index_or jobs place job)) same taken (subst IsTrue verdict right))
 
+-- what is known of records that stay
+pub told_still : (holds : Contents → Type 0) (old now : Option Contents) → Same old now → IfSome old holds → IfSome now holds
+told_still holds old None same known = tt
+told_still holds old (Some c) same known = if_same old (Some c) holds same known
+
 -- the facts of runs
 pub told_have : (told : Option Contents) (jobs : List Job) → IfSome told (λ c. All (IsJobOf c) jobs) → IfSome told (HaveFacts jobs)
 told_have None jobs all = tt

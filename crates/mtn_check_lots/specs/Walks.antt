@@ -15,10 +15,11 @@ pub record AreVerdicts (f : List ℕ → List ℕ) (told : Option Contents) (job
   pub len : length verdicts ≡ length jobs
   pub taken : (i : ℕ) (d : Job) (b : Bool) → i < length jobs → IfSome told (λ c. IsTrue (slice_index_or verdicts i b) → IsTakenRun f c (slice_index_or jobs i d))
 
--- and what reading the next lot comes to
-pub record IsReadAhead {K : Type 0} (contents : K → Option Contents) (leaves : K → Contents → Type 0) (faults : K → ℕ) (from : ℕ) (old new : K) (result : Result Walk StoreError) : Type 0 where
+-- and what reading the next lot comes to, with a step of an errand
+pub record IsReadAhead {K : Type 0} (contents : K → Option Contents) (leaves : K → Contents → Type 0) (faults : K → ℕ) (holds : Contents → Type 0) (from : ℕ) (old new : K) (result : Result Walk StoreError) : Type 0 where
   pub stays : Stays contents leaves faults old new
   pub at : IfOk result (λ walk. walk.at ≡ from)
   pub jobs : IfSome (contents new) (λ c. IfOk result (λ walk. All (IsJobOf c) walk.jobs.items))
+  pub held : IfSome (contents new) holds
   pub sound : IfErr result (λ e. IfDamage e (λ _. ⊥))
   pub failed : result ≡ Err Failed → Rose (faults old) (faults new)

@@ -7,7 +7,7 @@
 //!
 //! [`walk_lots`] answers what `mtn_check_log::walk_log` answers, for every number of pieces: it reads as many runs as there are
 //! pieces, which is a *lot*, and the next lot while one is checked, and goes over runs that are not taken one position after the
-//! other. It relies on this: [`takes_jobs`] says of a run that it is taken only where its texts are
+//! other. Behind each lot that it reads it does a step of an [`Errand`]. It relies on this: [`takes_jobs`] says of a run that it is taken only where its texts are
 //! accepted one after the other over the state that the records below it stand for, and bring what stands there; and then the run
 //! lengthens whatever front these records spell ([`laws`]). It says so of any run that has what is true of the records, as many or
 //! as few facts as it has: where one is not at hand that a draft asks for, the run is not taken, which says nothing of the records.
@@ -17,6 +17,7 @@
 //! two lots as they were read, and of a draft for each run.
 #![tactic(auto)]
 
+mod errand;
 mod extract;
 mod facts;
 mod gathering;
@@ -27,6 +28,7 @@ mod loading;
 mod taking;
 mod walk;
 
+pub use errand::Errand;
 pub use extract::Told;
 pub use facts::Facts;
 pub use jobs::{Job, takes_jobs};

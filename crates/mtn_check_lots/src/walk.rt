@@ -12,7 +12,7 @@ ghost use Rattle.mtn_check_lots.specs.declared.jobs.Job.{Job as Run};
 
 use crate::extract::Told;
 use crate::loading::load_lot;
-use crate::{Job, takes_jobs};
+use crate::{Errand, Job, takes_jobs};
 use mtn_check_log::walk_from;
 use mtn_history::StoreError;
 use mtn_ports::{Ident, Keeper};
@@ -108,6 +108,28 @@ fn read_ahead<K: Keeper>(
     Ok(Walk { at: from, jobs })
 }
 
+// The same, and a step of the errand behind it.
+fn read_and_go<K: Keeper, E: Errand>(
+    alloc: Global,
+    keeper: &mut K,
+    errand: &mut E,
+    pieces: usize,
+    from: u64,
+    count: u64,
+) -> Result<Walk, StoreError>
+    requires held { IfSome (K.contents keeper.old) (E.holds errand.old count) }
+    ensures stays { Stays K.contents K.leaves K.faults keeper.old keeper.new }
+    ensures at { IfOk result (λ walk. walk.at ≡ from) }
+    ensures jobs { IfSome (K.contents keeper.new) (λ c. IfOk result (λ walk. All (IsJobOf c) walk.jobs.items)) }
+    ensures held { IfSome (K.contents keeper.new) (E.holds errand.new count) }
+    ensures sound { IfErr result (λ e. IfDamage e (λ _. ⊥)) }
+    ensures failed { result ≡ Err StoreError.Failed → Rose (K.faults keeper.old) (K.faults keeper.new) }
+{
+    let walk = read_ahead(alloc, keeper, pieces, from, count)?;
+    errand.go(alloc, count, keeper)?;
+    Ok(walk)
+}
+
 // A walk that has come to a position, with the lot from there on.
 fn begin_at<I: Ident, K: Keeper>(
     alloc: Global,
@@ -129,26 +151,31 @@ fn begin_at<I: Ident, K: Keeper>(
     read_ahead(alloc, keeper, pieces, at, count)
 }
 
-// Of each run of a lot, whether it is taken over what the keeper tells, and the lot behind it; with more pieces than one that is read
-// beside them.
-fn check_and_read<R: Threads + Sync, I: Ident, K: Keeper, N: Told>(
+// Of each run of a lot, whether it is taken over what the keeper tells, and the lot behind it with a step of the errand; with more
+// pieces than one that is done beside them.
+fn check_and_read<R: Threads + Sync, I: Ident, K: Keeper, E: Errand, N: Told>(
     rt: &R,
     alloc: Global,
     ident: &I,
     pieces: usize,
     jobs: &[Job],
     keeper: &mut K,
+    errand: &mut E,
     from: u64,
     count: u64,
 ) -> (Result<Vec<bool>, AllocError>, Result<Walk, StoreError>)
     requires told { N.told ≡ K.contents keeper.old }
     requires facts { IfSome N.told (HaveFacts jobs.now) }
+    requires held { IfSome (K.contents keeper.old) (E.holds errand.old count) }
     ensures verdicts { IfOk result.0 (λ v. AreVerdicts (I.meaning ident.now) N.told jobs.now v.items) }
-    ensures next { IsReadAhead K.contents K.leaves K.faults from keeper.old keeper.new result.1 }
+    ensures next { IsReadAhead K.contents K.leaves K.faults (E.holds errand.new count) from keeper.old keeper.new result.1 }
 {
     if pieces < 2 {
         let verdicts = takes_jobs::<R, I, N>(rt, alloc, ident, jobs);
-        return (verdicts, read_ahead(alloc, keeper, pieces, from, count));
+        return (
+            verdicts,
+            read_and_go(alloc, keeper, errand, pieces, from, count),
+        );
     }
     join_mut(
         rt,
@@ -157,8 +184,9 @@ fn check_and_read<R: Threads + Sync, I: Ident, K: Keeper, N: Told>(
             ensures { IfOk result (λ v. AreVerdicts (I.meaning ident.entry.now) N.told jobs.entry.now v.items) }
         { takes_jobs::<R, I, N>(rt, alloc, ident, jobs) },
         &mut || -> Result<Walk, StoreError>
-            ensures { IsReadAhead K.contents K.leaves K.faults from keeper.entry.now keeper.exit.now result }
-        { read_ahead(alloc, keeper, pieces, from, count) },
+            requires { IfSome (K.contents keeper.now) (E.holds errand.now count) }
+            ensures { IsReadAhead K.contents K.leaves K.faults (E.holds errand.exit.now count) from keeper.entry.now keeper.exit.now result }
+        { read_and_go(alloc, keeper, errand, pieces, from, count) },
     )
 }
 
@@ -205,7 +233,7 @@ fn go_behind<I: Ident, K: Keeper>(
 }
 
 // One lot more, or one position where nothing can be read there.
-fn walk_lot<R: Threads + Sync, I: Ident, K: Keeper>(
+fn walk_lot<R: Threads + Sync, I: Ident, K: Keeper, E: Errand>(
     rt: &R,
     alloc: Global,
     ident: &I,
@@ -213,21 +241,24 @@ fn walk_lot<R: Threads + Sync, I: Ident, K: Keeper>(
     count: u64,
     walk: Walk,
     keeper: &mut K,
+    errand: &mut E,
 ) -> Result<Walk, StoreError>
     requires walked { IfSome (K.contents keeper.old) (IsWalkedTo (I.meaning ident.now) count walk.at) }
     requires jobs { IfSome (K.contents keeper.old) (λ c. All (IsJobOf c) walk.jobs.items) }
+    requires held { IfSome (K.contents keeper.old) (E.holds errand.old count) }
     requires within { walk.at < count }
     ensures stays { Stays K.contents K.leaves K.faults keeper.old keeper.new }
     ensures walked { IfSome (K.contents keeper.new) (λ c. IfOk result (λ next. IsWalkedTo (I.meaning ident.now) count next.at c)) }
     ensures jobs { IfSome (K.contents keeper.new) (λ c. IfOk result (λ next. All (IsJobOf c) next.jobs.items)) }
+    ensures held { IfSome (K.contents keeper.new) (E.holds errand.new count) }
     ensures within { IfOk result (λ next. (walk.at < next.at) × (next.at ≤ count)) }
     ensures damaged { IfSome (K.contents keeper.new) (λ c. IfErr result (λ e. IfDamage e (IsFirstIn (I.meaning ident.now) count c))) }
     ensures failed { result ≡ Err StoreError.Failed → Rose (K.faults keeper.old) (K.faults keeper.new) }
 {
     let Walk { at, jobs } = walk;
     let from = behind(at, &jobs);
-    let (verdicts, ahead) = check_and_read::<R, I, K, Brand>(
-        rt, alloc, ident, pieces, &jobs, keeper, from, count,
+    let (verdicts, ahead) = check_and_read::<R, I, K, E, Brand>(
+        rt, alloc, ident, pieces, &jobs, keeper, errand, from, count,
     );
     let verdicts = verdicts?;
     let next = go_over(alloc, ident, keeper, count, at, &jobs, &verdicts)?;
@@ -236,25 +267,28 @@ fn walk_lot<R: Threads + Sync, I: Ident, K: Keeper>(
 }
 
 /// As `mtn_check_log::walk_log`, in lots of as many runs as there are pieces, each of which is checked on a thread of its own, while
-/// the next lot is read.
-pub fn walk_lots<R: Threads + Sync, I: Ident, K: Keeper>(
+/// the next lot is read and a step of an errand is done.
+pub fn walk_lots<R: Threads + Sync, I: Ident, K: Keeper, E: Errand>(
     rt: &R,
     alloc: Global,
     ident: &I,
     pieces: usize,
     count: u64,
     keeper: &mut K,
+    errand: &mut E,
 ) -> Result<(), StoreError>
     requires begun { IfSome (K.contents keeper.old) (λ c. IsBegun (I.meaning ident.now) c count) }
+    requires held { IfSome (K.contents keeper.old) (E.holds errand.old count) }
     ensures stays { Stays K.contents K.leaves K.faults keeper.old keeper.new }
     ensures walked { IfSome (K.contents keeper.new) (λ c. OnOk result ((front : Front) × IsFrontAt (I.meaning ident.now) c count front)) }
     ensures damaged { IfSome (K.contents keeper.new) (λ c. IfErr result (λ e. IfDamage e
         (λ d. (r : ℕ) × (front : Front) × (r < count) × IsFrontAt (I.meaning ident.now) c r front × IsDamageAt (I.meaning ident.now) c r front d))) }
+    ensures held { IfSome (K.contents keeper.new) (E.holds errand.new count) }
     ensures failed { result ≡ Err StoreError.Failed → Rose (K.faults keeper.old) (K.faults keeper.new) }
 {
     let mut walk = begin_at(alloc, ident, keeper, pieces, count, 0)?;
     while walk.at < count {
-        walk = walk_lot(rt, alloc, ident, pieces, count, walk, keeper)?;
+        walk = walk_lot(rt, alloc, ident, pieces, count, walk, keeper, errand)?;
     }
     Ok(())
 }

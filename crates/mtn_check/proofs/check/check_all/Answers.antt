@@ -3,7 +3,7 @@ use Rattle.std.proofs.lemmas.Result.{err_from_is_err_and}
 use Rattle.mtn_check_laws.specs.FirstDamage.{IsBegun, IsCount, IsFirstDamage}
 use Rattle.mtn_ports.proofs.KeptLemmas.{stays_trans}
 use Rattle.mtn_check.specs.Steps.{Begins, IsEarlyDamage, IsLateDamage, IsRightBeside, IsWholeOf}
-use Rattle.mtn_check.proofs.Told.{ends_damaged, last_damaged, last_found, still, with_earlier}
+use Rattle.mtn_check.proofs.Told.{all_told, ends_damaged, last_damaged, last_found, still, with_earlier}
 use Rattle.mtn_check.proofs.Whole.{HasFront, HasWalked, IsWalkDamage, early, late, on_walk, walked, whole}
 use Rattle.mtn_check.proofs.check.check_all.Goals as goal
 
@@ -41,3 +41,6 @@ returns-clause-damaged g c =
     let begun = with_earlier (g.K.Keeper.contents c.args.keeper.now) (g.K.Keeper.contents c.check_begun.new.keeper) (λ d. IsCount d c.args.count) (Begins (g.I.Ident.meaning c.args.ident.now)) (λ d. IsBegun (g.I.Ident.meaning c.args.ident.now) d c.args.count) c.check_begun.ensures.stays.same (λ d x y. y c.args.count x) c.requires.counted c.in_ok-check_begun.ensures.begun in
     let gone = with_earlier (g.K.Keeper.contents c.check_begun.new.keeper) (g.K.Keeper.contents c.walk_lots.new.keeper) (λ d. IsBegun (g.I.Ident.meaning c.args.ident.now) d c.args.count) (HasFront (g.I.Ident.meaning c.args.ident.now) c.args.count) (HasWalked (g.I.Ident.meaning c.args.ident.now) c.args.count) c.walk_lots.ensures.stays.same (walked (g.I.Ident.meaning c.args.ident.now) c.args.count) begun c.in_ok-walk_lots.ensures.walked in
     last_damaged now (HasWalked (g.I.Ident.meaning c.args.ident.now) c.args.count) (λ d x. IsLateDamage c.args.count d x) (λ d x. IsFirstDamage (g.I.Ident.meaning c.args.ident.now) d x) c.check_beside.result (late (g.I.Ident.meaning c.args.ident.now) c.args.count) (still (g.K.Keeper.contents c.walk_lots.new.keeper) now (HasWalked (g.I.Ident.meaning c.args.ident.now) c.args.count) c.check_beside.ensures.stays.same gone) c.check_beside.ensures.damaged
+
+pub walk_lots-requires-clause-held : goal.walk_lots-requires-clause-held
+walk_lots-requires-clause-held g c κs within = all_told (g.K.Keeper.contents c.check_begun.new.keeper) (λ k. c.new-tallies.ensures c.args.count k)

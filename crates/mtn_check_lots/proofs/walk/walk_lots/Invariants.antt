@@ -10,6 +10,7 @@ invariant-loop-walk g l = record {
   stays : Stays g.K.Keeper.contents g.K.Keeper.leaves g.K.Keeper.faults l.fn.keeper l.keeper;
   walked : IfSome (g.K.Keeper.contents l.keeper) (IsWalkedTo (g.I.Ident.meaning l.ident) l.count l.walk.at);
   jobs : IfSome (g.K.Keeper.contents l.keeper) (λ c. All (IsJobOf c) l.walk.jobs.items);
+  held : IfSome (g.K.Keeper.contents l.keeper) (g.E.Errand.holds l.errand l.count);
   within : l.walk.at ≤ l.count;
 }
 
