@@ -7,3 +7,4 @@ pub mod Names
 pub mod Paths
 pub mod Quoted
 pub mod Refusals
+pub mod Shares
