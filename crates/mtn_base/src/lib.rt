@@ -20,6 +20,7 @@ mod path;
 mod pieces;
 mod refusal;
 mod refusal_line;
+mod short_bytes;
 
 pub use id::Id;
 pub use ids::put_in_order;
@@ -32,3 +33,4 @@ pub use name::NodeName;
 pub use no_memory::NoMemory;
 pub use path::{Comp, Path, PathError};
 pub use refusal::{Cause, Field, PacketWhy, Refusal, Why};
+pub use short_bytes::ShortBytes;

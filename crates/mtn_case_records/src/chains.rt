@@ -2,7 +2,7 @@
 // each attribute, which is cleared; a node without a path is a directory, another a file; entries are parted by `,`.
 use crate::text::{first_word, number_of, put_number};
 use mtn_ancestry::{Pos, PosSet};
-use mtn_base::{Bytes, Comp, Id, List, NodeName, Path};
+use mtn_base::{Bytes, Comp, Id, List, NodeName, Path, ShortBytes};
 use mtn_marking::{MarkedRoster, mark_root};
 use mtn_records::{Numbered, NumberedAttr, NumberedBody, NumberedEntry, RecordError, RosterRecord};
 use mtn_roster::{Body, Entry, Roster, Slot};
@@ -48,7 +48,7 @@ fn bare(
     number: u64,
     path: &[u8],
     parent: u64,
-    name: Bytes,
+    name: ShortBytes,
 ) -> Option<NumberedEntry> {
     let node = name_of(alloc, path)?;
     let slot_marks = none(alloc)?;
@@ -70,7 +70,7 @@ fn entry_of(alloc: Global, text: &[u8]) -> Option<NumberedEntry> {
     let number = number_of(parts.next()?)?;
     let path = parts.next()?;
     let parent = number_of(parts.next()?)?;
-    let name = Bytes::from_slice(alloc, parts.next()?).ok()?;
+    let name = ShortBytes::from_slice(alloc, parts.next()?).ok()?;
     let mut entry = bare(alloc, number, path, parent, name)?;
     for key in parts {
         entry.attrs.push(attr_of(alloc, key)?).ok()?;

@@ -8,7 +8,7 @@ use crate::error::RecordError;
 use crate::field::Field;
 use crate::lists::{read_list, write_list};
 use mtn_ancestry::{Pos, PosSet};
-use mtn_base::{Bytes, Id, List, NoMemory, NodeName};
+use mtn_base::{Bytes, Id, List, NoMemory, NodeName, ShortBytes};
 use std::alloc::Global;
 
 impl Field for NumberedAttr {
@@ -85,7 +85,7 @@ pub(crate) fn numbers_ascend(entries: &[NumberedEntry]) -> bool
 }
 
 // Whether a root slot has no name, and the keys ascend.
-pub(crate) fn is_sound(parent: u64, name: &Bytes, attrs: &List<NumberedAttr>) -> bool
+pub(crate) fn is_sound(parent: u64, name: &ShortBytes, attrs: &List<NumberedAttr>) -> bool
     ensures { IsTrue result ↔ ((parent ≡ 0 → name.now ≡ []) × KeysAscend attrs.now) }
 {
     if parent == 0 && !name.as_slice().is_empty() {
@@ -142,7 +142,7 @@ fn write_head(entry: &NumberedEntry, out: &mut Vec<u8>) -> Result<(), NoMemory>
 }
 
 // Number, birth position, name, kind, the parent's number, the name below it, and the marks of both.
-type Head = (u64, (Pos, (NodeName, (bool, (u64, (Bytes, PosSet))))));
+type Head = (u64, (Pos, (NodeName, (bool, (u64, (ShortBytes, PosSet))))));
 
 impl Field for NumberedEntry {
     ghost use Rattle.mtn_records.specs.Entries.{entry_text, IsEntry};

@@ -3,7 +3,7 @@ ghost use Rattle.std.specs.Prelude.{◌≡◌};
 ghost use Rattle.mtn_records.specs.Entries.{is_file};
 
 use mtn_ancestry::{Pos, PosSet};
-use mtn_base::{Bytes, Id, List, NodeName};
+use mtn_base::{Bytes, Id, List, NodeName, ShortBytes};
 use std::marker::Model;
 
 /// An attribute and its marks; a value of None is cleared.
@@ -29,7 +29,7 @@ pub struct NumberedEntry {
     pub birth_at: Pos,
     pub node: NodeName,
     pub parent: u64,
-    pub name: Bytes,
+    pub name: ShortBytes,
     pub slot_marks: PosSet,
     pub body: NumberedBody,
     pub attrs: List<NumberedAttr>,

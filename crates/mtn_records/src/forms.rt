@@ -15,10 +15,10 @@ use mtn_base::{Bytes, NodeName, Path};
 // The least length that a field cannot tell.
 const TOO_LONG: usize = 4_294_967_296;
 
-fn is_field(bytes: &Bytes) -> bool
+fn is_field(bytes: &[u8]) -> bool
     ensures { IsTrue result ↔ IsField bytes.now }
 {
-    bytes.as_slice().len() < TOO_LONG
+    bytes.len() < TOO_LONG
 }
 
 fn is_value(value: &Option<Bytes>) -> bool
@@ -26,7 +26,7 @@ fn is_value(value: &Option<Bytes>) -> bool
 {
     match value {
         None => true,
-        Some(value) => is_field(value),
+        Some(value) => is_field(value.as_slice()),
     }
 }
 
@@ -62,7 +62,7 @@ fn is_name(name: &NodeName) -> bool
 fn is_attr_at(attr: &NumberedAttr, at: Pos) -> bool
     ensures { IsTrue result ↔ (IsAttr attr.now × IsAttrWithin at attr.now) }
 {
-    is_field(&attr.key) && is_value(&attr.value) && is_set_at(&attr.marks, at)
+    is_field(attr.key.as_slice()) && is_value(&attr.value) && is_set_at(&attr.marks, at)
 }
 
 fn are_attrs_at(attrs: &[NumberedAttr], at: Pos) -> bool
@@ -99,7 +99,7 @@ fn is_head_at(entry: &NumberedEntry, at: Pos) -> bool
     if !is_name(&entry.node) {
         return false;
     }
-    is_field(&entry.name) && is_set_at(&entry.slot_marks, at)
+    is_field(entry.name.as_slice()) && is_set_at(&entry.slot_marks, at)
 }
 
 fn is_entry_at(entry: &NumberedEntry, at: Pos) -> bool

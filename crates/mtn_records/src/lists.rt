@@ -7,7 +7,7 @@ ghost use Rattle.mtn_records.specs.Fields.{Begins, BeginsWithNone, BeginsWithAll
 use crate::error::RecordError;
 use crate::field::Field;
 use mtn_ancestry::{Pos, PosSet};
-use mtn_base::{Bytes, List, NoMemory, Path};
+use mtn_base::{Bytes, List, NoMemory, ShortBytes};
 use std::alloc::Global;
 
 /// So many values, one behind the other.
@@ -89,6 +89,17 @@ pub fn read_bytes(bytes: &[u8]) -> Option<(&[u8], &[u8])>
     rest.split_at_checked(count)
 }
 
+// Appends how many bytes, and the bytes.
+fn write_bytes(bytes: &[u8], out: &mut Vec<u8>) -> Result<(), NoMemory>
+    requires { IsField bytes.now }
+    ensures ok { OnOk result (out.new.items ≡ out.old.items ++ field_text bytes.now) }
+    ensures err { OnErr result (take (length out.old.items) out.new.items ≡ out.old.items) }
+{
+    write_count(bytes.len(), out)?;
+    out.extend_from_slice(bytes)?;
+    Ok(())
+}
+
 impl Field for Bytes {
     ghost use Rattle.mtn_records.specs.Fields.{field_text, IsField};
     ghost use Rattle.mtn_records.specs.Apart.{field_apart};
@@ -105,9 +116,29 @@ impl Field for Bytes {
     }
 
     fn write(&self, out: &mut Vec<u8>) -> Result<(), NoMemory> {
-        write_count(self.as_slice().len(), out)?;
-        out.extend_from_slice(self.as_slice())?;
-        Ok(())
+        write_bytes(self.as_slice(), out)
+    }
+
+    ghost apart = { field_apart };
+}
+
+impl Field for ShortBytes {
+    ghost use Rattle.mtn_records.specs.Fields.{field_text, IsField};
+    ghost use Rattle.mtn_records.specs.Apart.{field_apart};
+
+    ghost text = { field_text };
+
+    ghost form = { IsField };
+
+    fn read(alloc: Global, bytes: &[u8]) -> Result<(ShortBytes, &[u8]), RecordError> {
+        match read_bytes(bytes) {
+            Some((field, rest)) => Ok((ShortBytes::from_slice(alloc, field)?, rest)),
+            None => Err(RecordError::Bad),
+        }
+    }
+
+    fn write(&self, out: &mut Vec<u8>) -> Result<(), NoMemory> {
+        write_bytes(self.as_slice(), out)
     }
 
     ghost apart = { field_apart };

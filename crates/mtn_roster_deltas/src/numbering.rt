@@ -14,7 +14,7 @@ use crate::error::NumberError;
 use crate::noting::numbers_of;
 use crate::order::are_in_order;
 use mtn_ancestry::PosSet;
-use mtn_base::{Bytes, List, NoMemory, NodeName};
+use mtn_base::{List, NoMemory, NodeName, ShortBytes};
 use mtn_marking::{AttrMarks, MarkedRoster, NodeMarks};
 use mtn_records::{Numbered, NumberedAttr, NumberedBody, NumberedEntry, copy_value};
 use mtn_roster::{Attr, Body, Entry, Slot, Stop};
@@ -44,15 +44,15 @@ fn numbered_slot(
     numbers: &[u64],
     slot: &Slot,
     guess: &mut usize,
-) -> Result<(u64, Bytes), NoMemory>
+) -> Result<(u64, ShortBytes), NoMemory>
     requires { length numbers.now ≡ length roster.now.tree }
     ensures { IfOk result (λ r. IsNumberedSlot roster.now.tree numbers.now slot.now r.0 r.1) }
 {
     match slot {
-        Slot::Root => Ok((0, List::new(alloc))),
+        Slot::Root => Ok((0, ShortBytes::from_slice(alloc, &[])?)),
         Slot::Below { parent, name } => {
             let above = number_at(roster, numbers, parent, guess);
-            let name = Bytes::from_slice(alloc, name.bytes())?;
+            let name = ShortBytes::from_slice(alloc, name.bytes())?;
             Ok((above, name))
         }
     }
