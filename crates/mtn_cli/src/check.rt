@@ -22,8 +22,8 @@ use mtn_store_laws::one_state;
 use std::alloc::Global;
 use std::thread::Threads;
 
-// How many pieces of a check are worked on at once.
-const PIECES: usize = 4;
+// How many runs of a check are worked on at once: with the thread that reads two threads for each of four processors.
+const PIECES: usize = 7;
 
 // The answer of a check that finds no damage.
 fn sound(alloc: Global, count: u64) -> Result<Worked, NoMemory>

@@ -5,4 +5,4 @@ use Rattle.mtn_base.proofs.path.Path.read.Goals as goal
 
 pub returns-clause-ok : goal.returns-clause-ok
 returns-clause-ok c =
-    ap path_text c.in_ok-shared.ensures ∙ ap path_text (c.in_ok-push_pieces.ensures.ok ∙ ap (λ xs. xs ++ pieces_of c.args.text.now) c.root-path.ensures) ∙ join_with_byte-slice_split 47 c.args.text.now
+    ap path_text (c.in_ok-share.ensures ∙ c.in_ok-push_pieces.ensures.ok ∙ ap (λ xs. xs ++ pieces_of c.args.text.now) c.new-comps.ensures.items) ∙ join_with_byte-slice_split 47 c.args.text.now
