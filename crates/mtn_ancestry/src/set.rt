@@ -10,10 +10,19 @@ use std::marker::Model;
 use std::sync::Arc;
 
 /// A position alone, as most sets of marks have it, or a list that copies share.
-#[derive(Drop)]
 enum Members {
     One([Pos; 1]),
     Listed(Arc<Vec<Pos>>),
+}
+
+// By hand, so that whoever drops a set calls this, and no proof above knows of two cases.
+impl Drop for Members {
+    fn drop(self) {
+        match self {
+            Members::One(_) => {}
+            Members::Listed(items) => drop(items),
+        }
+    }
 }
 
 /// A set of positions, which contracts see as a list that ascends without repeats. Copies share the list, and one position alone
