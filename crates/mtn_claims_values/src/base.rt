@@ -4,7 +4,9 @@ ghost use Rattle.hex.specs.Hex.{IsBytes};
 ghost use Rattle.mtn_base.specs.Comps.{IsComp};
 ghost use Rattle.mtn_base.specs.Refusals.{cause_name, field_name, packet_why_name, why_name};
 
-use mtn_base::{Bytes, Cause, Comp, Field, Id, List, NoMemory, NodeName, PacketWhy, Path, Why};
+use mtn_base::{
+    Bytes, Cause, Comp, Field, Id, List, NoMemory, NodeName, PacketWhy, Path, ShortBytes, Why,
+};
 use std::alloc::Global;
 
 /// As `Id::as_slice`.
@@ -64,6 +66,27 @@ pub fn copy_list(list: &List<u8>, alloc: Global) -> Result<Bytes, NoMemory>
     ensures { IfOk result (λ l. l ≡ list.now) }
 {
     list.copy(alloc)
+}
+
+/// As `ShortBytes::from_slice`.
+pub fn short_from_slice(alloc: Global, bytes: &[u8]) -> Result<ShortBytes, NoMemory>
+    ensures { IfOk result (λ copy. copy ≡ bytes.now) }
+{
+    ShortBytes::from_slice(alloc, bytes)
+}
+
+/// As `ShortBytes::as_slice`.
+pub fn as_slice_of_short(short: &ShortBytes) -> &[u8]
+    ensures { result.now ≡ short.now }
+{
+    short.as_slice()
+}
+
+/// As `ShortBytes::copy`.
+pub fn copy_short(short: &ShortBytes, alloc: Global) -> Result<ShortBytes, NoMemory>
+    ensures { IfOk result (λ copy. copy ≡ short.now) }
+{
+    short.copy(alloc)
 }
 
 /// As `NodeName::copy`.
