@@ -12,7 +12,7 @@ use crate::{Facts, Loaded};
 use mtn_ancestry::{ParentList, Pos};
 use mtn_base::{Id, MAX_CHAIN, NoMemory};
 use mtn_check_log::{get_shown, text_in};
-use mtn_history::{FILES, LOG, ROSTERS, StoreError, TEXTS};
+use mtn_history::{FILES, LOG, ROSTERS, StoreError, TEXTS, just_below};
 use mtn_ports::Keeper;
 use mtn_records::read_log;
 use std::alloc::Global;
@@ -56,21 +56,6 @@ fn fetch<K: Keeper>(
     let mut body = Vec::new(alloc);
     let found = get_shown(alloc, keeper, from, table, key, &mut body)?;
     Ok(note(facts, table, key, found, body)?)
-}
-
-// What stands just below a key of twenty bytes among keys of twenty.
-fn just_below(alloc: Global, key: &[u8; 20]) -> Result<Vec<u8>, NoMemory>
-    ensures { IfOk result (λ below. 0 < length below.items) }
-{
-    let mut below = *key;
-    let len = if below[19] == 0 { 19 } else { 20 };
-    if below[19] > 0 {
-        below[19] -= 1;
-    }
-    let mut front = Vec::new(alloc);
-    front.push(below[0])?;
-    front.extend_from_slice(&below[1..len])?;
-    Ok(front)
 }
 
 // Notes an answer to `next`, among files.
@@ -120,8 +105,8 @@ fn fetch_files<K: Keeper>(
     ensures failed { result ≡ Err StoreError.Failed → Rose (K.faults keeper.old) (K.faults keeper.new) }
 {
     for id in ids {
-        let after = just_below(alloc, &id.0)?;
-        fetch_after(alloc, keeper, from, facts, &after)?;
+        let (below, len) = just_below(&id.0);
+        fetch_after(alloc, keeper, from, facts, &below[..len])?;
     }
     Ok(())
 }

@@ -1,6 +1,6 @@
 //! Drafts: records read and kept, and what is remembered.
-ghost use Rattle.std.specs.Prelude.{[], ◌++◌, ◌+◌, ◌<◌, ◌^◌, ◌≡◌, ◌≤◌, Err, IfErr, IfOk, IfSome, IsTrue, List, OnErr, OnOk, Some, false, length, true, ℕ};
-ghost use Rattle.mtn_history.specs.Asking.{OnlyAsks};
+ghost use Rattle.std.specs.Prelude.{[], ◌++◌, ◌+◌, ◌<◌, ◌^◌, ◌≡◌, ◌≤◌, Err, IfErr, IfOk, IfSome, IsTrue, List, OnErr, OnOk, Some, false, length, take, true, ℕ};
+ghost use Rattle.mtn_history.specs.Asking.{IsJustBelow, OnlyAsks};
 ghost use Rattle.mtn_history.specs.Errors.{IfDamage, IfStoreDamage};
 ghost use Rattle.mtn_history.specs.Files.{IsFileHeld, KeepsFile};
 ghost use Rattle.mtn_history.specs.Logs.{IsHeldAt, IsLogged, UnloggedAt};
@@ -14,7 +14,7 @@ ghost use Rattle.mtn_model.specs.State.{State};
 ghost use Rattle.mtn_model.specs.Table.{Contents, body_at};
 ghost use Rattle.mtn_ports.specs.Causes.{Rose};
 ghost use Rattle.mtn_ports.specs.Ident.{MakesIds};
-ghost use Rattle.mtn_ports.specs.Kept.{AreKeyed, Gets, IsBody, IsBodyIf, IsNextKey, Stays, StaysAbove, TellsBody, TellsNextKey, with_all};
+ghost use Rattle.mtn_ports.specs.Kept.{AreKeyed, Gets, IsAbove, IsBody, IsBodyIf, IsNextKey, Stays, StaysAbove, TellsBody, TellsNextKey, with_all};
 ghost use Rattle.mtn_records.specs.Bounds.{IsLogWithin};
 
 use mtn_ancestry::Pos;
@@ -24,6 +24,16 @@ use mtn_marking::MarkedRoster;
 use mtn_ports::Keeper;
 use mtn_records::LogRecord;
 use std::alloc::Global;
+
+/// As `just_below`.
+pub fn just_below(key: &[u8; 20]) -> ([u8; 20], usize)
+    ensures some { 0 < result.1 }
+    ensures short { result.1 ≤ 20 }
+    ensures above { IsAbove (take result.1 result.0) key.now }
+    ensures next { IsJustBelow (take result.1 result.0) key.now }
+{
+    mtn_history::just_below(key)
+}
 
 /// As `Draft::new`.
 pub fn new_draft<'a, K: Keeper>(keeper: &'a mut K, pending: Pending, memory: Memory) -> Draft<'a, K>

@@ -330,8 +330,10 @@ fn take_body(body: &mut Vec<u8>, pending: Option<&[u8]>) -> Result<(), NoMemory>
     Ok(())
 }
 
-// What stands just below a key of twenty bytes among keys of twenty, and how many of these bytes it has.
-fn just_below(key: &[u8; 20]) -> ([u8; 20], usize)
+/// What stands just below a key of twenty bytes among keys of twenty, and how many of these bytes it has: no key of twenty bytes
+/// stands between both.
+pub fn just_below(key: &[u8; 20]) -> ([u8; 20], usize)
+    ensures some { 0 < result.1 }
     ensures short { result.1 ≤ 20 }
     ensures above { IsAbove (take result.1 result.0) key.now }
     ensures next { IsJustBelow (take result.1 result.0) key.now }

@@ -26,7 +26,7 @@ mod rosters;
 mod tables;
 mod texts;
 
-pub use draft::Draft;
+pub use draft::{Draft, just_below};
 pub use errors::{Damage, HistoryError, StoreError};
 pub use marked::SharedRoster;
 pub use memory::Memory;
