@@ -1,10 +1,11 @@
 // The entries of a joined tree, made of those of the left one.
-ghost use Rattle.std.specs.Prelude.{◌≡◌, IfOk, IsTrue, Some, map};
+ghost use Rattle.std.specs.Prelude.{◌≡◌, IfOk, IsFalse, IsTrue, Some, map};
 ghost use Rattle.mtn_changeset_laws.specs.Joining.{joined_name};
 ghost use Rattle.mtn_join.specs.Pairing.{ArePaired, AreMates, paired_slot, paired_entry, unordered_entry};
 ghost use Rattle.mtn_roster.specs.Attrs.{are_keyed};
 ghost use Rattle.mtn_roster.specs.Tree.{IsSane};
 ghost use Rattle.mtn_roster.specs.Walk.{AreStops};
+ghost use Rattle.mtn_roster.specs.declared.entry.Slot.{Slot as Hanging};
 
 use crate::attrs::attrs_of_both;
 use mtn_base::{Id, NoMemory, NodeName};
@@ -39,19 +40,30 @@ fn name_of(alloc: Global, x: NodeName, y: &NodeName, new: Id) -> Result<NodeName
     if x.birth != new { Ok(x) } else { y.copy(alloc) }
 }
 
+/// Whether a slot is below a node that was added.
+fn is_below_added(slot: &Slot, new: Id) -> bool
+    ensures added { IsTrue result → (t : Hanging) → paired_slot new slot.now t ≡ t }
+    ensures old { IsFalse result → (t : Hanging) → paired_slot new slot.now t ≡ slot.now }
+{
+    match slot {
+        Slot::Root => false,
+        Slot::Below { parent, name: _ } => {
+            if parent.birth != new {
+                return false;
+            }
+            true
+        }
+    }
+}
+
 /// The slot of the first of two nodes, by the joined name of its parent: where that was added, the second has it.
 fn slot_of(alloc: Global, x: Slot, y: &Slot, new: Id) -> Result<Slot, NoMemory>
     ensures { IfOk result (λ slot. slot ≡ paired_slot new x y.now) }
 {
-    match x {
-        Slot::Root => Ok(Slot::Root),
-        Slot::Below { parent, name } => {
-            if parent.birth != new {
-                Ok(Slot::Below { parent, name })
-            } else {
-                y.copy(alloc)
-            }
-        }
+    if is_below_added(&x, new) {
+        y.copy(alloc)
+    } else {
+        Ok(x)
     }
 }
 
