@@ -16,7 +16,7 @@ use crate::few::Tallies;
 use crate::form::refuse_older;
 use crate::meta::read_count;
 use mtn_check_laws::{no_damage_stands, standing_has_no_damage};
-use mtn_check_lots::walk_lots;
+use mtn_check_walk::walk_jobs;
 use mtn_history::{HistoryError, StoreError};
 use mtn_ports::{Ident, Keeper};
 use std::alloc::Global;
@@ -39,7 +39,7 @@ fn check_all<R: Threads + Sync, I: Ident, K: Keeper>(
 {
     check_begun(alloc, ident, keeper)?;
     let mut tallies = Tallies::new(alloc);
-    walk_lots(rt, alloc, ident, pieces, count, keeper, &mut tallies)?;
+    walk_jobs(rt, alloc, ident, pieces, count, keeper, &mut tallies)?;
     check_beside(alloc, tallies, count, keeper)
 }
 

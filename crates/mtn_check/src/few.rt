@@ -5,14 +5,14 @@ ghost use Rattle.mtn_ports.specs.Causes.{Rose};
 ghost use Rattle.mtn_ports.specs.Kept.{Stays};
 ghost use Rattle.mtn_check.specs.Tables.{AreTallied, HasAtMost, IsTally};
 
-use mtn_check_lots::Errand;
+use mtn_check_walk::Errand;
 use mtn_history::{LOG, ROSTERS, StoreError, TEXTS};
 use mtn_ports::{KeepError, Keeper};
 use std::alloc::Global;
 use std::mem::{replace, swap};
 
-// How many keys of a table are counted in one step: of a lot's positions no more.
-const STEP: u64 = 256;
+// How many keys of a table are counted in one step: as many as a stretch has positions.
+const STEP: u64 = 64;
 
 /// How many keys a table has up to one of them.
 #[derive(Drop)]

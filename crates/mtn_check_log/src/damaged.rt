@@ -1,5 +1,5 @@
 // Damages, put into words.
-ghost use Rattle.std.specs.Prelude.{◌≡◌, ◌≢◌};
+ghost use Rattle.std.specs.Prelude.{◌≡◌, ◌≢◌, Err, None, Ok, Some, IfErr, IfOk, IfSome};
 ghost use Rattle.mtn_history.specs.Errors.{IfDamage};
 
 use mtn_base::{Bytes, NoMemory};
@@ -28,5 +28,20 @@ pub fn missing(alloc: Global, table: u8, key: &[u8]) -> StoreError
     match Bytes::from_slice(alloc, key) {
         Ok(key) => StoreError::Damaged(Damage::Missing { table, key }),
         Err(NoMemory) => StoreError::NoMemory,
+    }
+}
+
+/// What was found, or none where there is damage.
+pub fn undamaged<T: Drop>(found: Result<T, StoreError>) -> Result<Option<T>, StoreError>
+    ensures value { IfOk found (λ x. result ≡ Ok (Some x)) }
+    ensures damaged { IfErr found (λ e. IfDamage e (λ _. result ≡ Ok None)) }
+    ensures found { IfOk result (λ o. IfSome o (λ x. found ≡ Ok x)) }
+    ensures sound { IfErr result (λ e. IfDamage e (λ _. ⊥)) }
+    ensures failed { result ≡ Err StoreError.Failed → found ≡ Err StoreError.Failed }
+{
+    match found {
+        Ok(value) => Ok(Some(value)),
+        Err(StoreError::Damaged(_)) => Ok(None),
+        Err(error) => Err(error),
     }
 }

@@ -25,7 +25,9 @@ mod position;
 mod shown;
 mod walk;
 
+pub use below::{Behind, Below, Lent};
 pub use checked::check_position;
+pub use damaged::{bad, undamaged};
 pub use entry::{Entry, entry_at, record_of, text_in};
 pub use shown::get_shown;
 pub use walk::{walk_from, walk_log};

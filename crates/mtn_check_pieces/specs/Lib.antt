@@ -1,3 +1,4 @@
 pub mod Verdict
 pub mod Same
 pub mod Laws
+pub mod Shared

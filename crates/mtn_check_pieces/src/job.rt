@@ -26,7 +26,7 @@ pub enum Verdict {
     Differs,
 }
 
-// What the text and the stored record of a job that agrees spell.
+/// What the text and the stored record of a job that agrees spell.
 #[derive(Drop)]
 pub struct Agreed {
     pub revision: Revision,

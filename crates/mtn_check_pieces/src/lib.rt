@@ -25,7 +25,8 @@ mod shared;
 mod trees;
 mod verdict;
 
-pub use job::{CheckJob, Verdict};
+pub use job::{Agreed, CheckJob, Verdict};
 pub use pieces::check_pieces;
-pub use shared::SharedRecord;
-pub use verdict::check_one;
+pub use reading::{revision_of, roster_of};
+pub use shared::{SharedEntries, SharedRecord};
+pub use verdict::{agreement, check_one};

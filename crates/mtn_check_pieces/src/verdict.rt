@@ -5,11 +5,10 @@ ghost use Rattle.mtn_changeset_laws.specs.Laws.{RenamesDiffer};
 ghost use Rattle.mtn_marking.specs.Marking.{Basis, AreFor, AreAllByRule, HaveBirths};
 ghost use Rattle.mtn_check_pieces.specs.Verdict.{IsAgreed, IsMarkedOn, IsOneOf, IsStoredOf, IsStoredOn, IsStoredWith, IsTaken, IsVerdict};
 
-use crate::job::Agreed;
 use crate::reading::{revision_of, roster_of, stored_on};
 use crate::same_marks::are_same_marks;
 use crate::trees::{edge_tree, merged_tree};
-use crate::{CheckJob, SharedRecord, Verdict};
+use crate::{Agreed, CheckJob, SharedRecord, Verdict};
 use mtn_base::NoMemory;
 use mtn_changes::Edge;
 use mtn_marking::{MarkMap, MarkedRoster, mark_one, mark_root, mark_two};

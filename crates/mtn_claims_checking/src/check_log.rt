@@ -1,5 +1,5 @@
 //! A position of the log, checked, and the keeper that shows what stands below it.
-ghost use Rattle.std.specs.Prelude.{◌++◌, ◌≡◌, ◌≤◌, Err, IfErr, IfOk, IfSome, IsErrOf, List, MatchOption, Ok, OnOk, ℕ};
+ghost use Rattle.std.specs.Prelude.{◌++◌, ◌≡◌, ◌≢◌, ◌≤◌, Err, IfErr, IfOk, IfSome, IsErrOf, List, MatchOption, None, Ok, OnOk, Some, ℕ};
 ghost use Rattle.mtn_check_log.specs.Below.{below};
 ghost use Rattle.mtn_check_log.specs.Positions.{IsEntryAt, IsFirstIn, IsKnownBehind, IsRecordOf, IsRight, IsUntold, IsWalkedTo, IsWrong};
 ghost use Rattle.mtn_history.specs.Errors.{IfDamage};
@@ -7,13 +7,41 @@ ghost use Rattle.mtn_history.specs.Logs.{UnloggedAt};
 ghost use Rattle.mtn_history.specs.Memory.{Knows};
 ghost use Rattle.mtn_model.specs.Table.{body_at};
 ghost use Rattle.mtn_ports.specs.Causes.{Rose};
-ghost use Rattle.mtn_ports.specs.Kept.{IsBody, Stays};
+ghost use Rattle.mtn_ports.specs.Kept.{IsBody, Same, Stays};
 ghost use Rattle.mtn_records.specs.Fields.{number_text};
 
-use mtn_check_log::Entry;
-use mtn_history::{Memory, StoreError};
+use mtn_check_log::{Behind, Below, Entry, Lent};
+use mtn_history::{Damage, Memory, StoreError};
 use mtn_ports::{Ident, KeepError, Keeper};
 use std::alloc::Global;
+
+/// As `Lent::new`.
+pub fn new_lent<'a, K: Keeper>(alloc: Global, keeper: &'a mut K, count: u64) -> Lent<'a, K>
+    ensures reference { result.keeper.ghost_name ≡ keeper.entry.ghost_name }
+    ensures keeper { result.keeper.now ≡ keeper.old }
+    ensures count { result.count ≡ count }
+{
+    Lent::new(alloc, keeper, count)
+}
+
+/// As `Below::new`.
+pub fn new_below<'a, K: Keeper, N: Behind>(lent: Lent<'a, K>) -> Below<'a, K, N>
+    requires reference { lent.keeper.ghost_name ≡ N.reference }
+    requires count { lent.count ≡ N.count }
+    requires told { N.told ≡ K.contents lent.keeper.now }
+    ensures { result ≡ lent.entry.keeper.now }
+{
+    Below::new(lent)
+}
+
+/// As `Below::into_lent`.
+pub fn into_lent<'a, K: Keeper, N: Behind>(shown: Below<'a, K, N>) -> Lent<'a, K>
+    ensures same_reference { result.keeper.ghost_name ≡ N.reference }
+    ensures keeper { result.keeper.now ≡ shown.entry }
+    ensures told { Same N.told (K.contents shown.entry) }
+{
+    shown.into_lent()
+}
 
 /// As `mtn_check_log::check_position`.
 pub fn check_position<I: Ident, K: Keeper>(
@@ -31,6 +59,25 @@ pub fn check_position<I: Ident, K: Keeper>(
     ensures failed { result ≡ Err StoreError.Failed → Rose (K.faults keeper.old) (K.faults keeper.new) }
 {
     mtn_check_log::check_position(alloc, ident, keeper, at, memory)
+}
+
+/// As `mtn_check_log::bad`.
+pub fn bad(alloc: Global, table: u8, key: &[u8], body: &[u8]) -> StoreError
+    ensures damaged { IfDamage result (λ d. d ≡ Damage.Bad table key.now body.now) }
+    ensures failed { result ≢ StoreError.Failed }
+{
+    mtn_check_log::bad(alloc, table, key, body)
+}
+
+/// As `mtn_check_log::undamaged`.
+pub fn undamaged<T: Drop>(found: Result<T, StoreError>) -> Result<Option<T>, StoreError>
+    ensures value { IfOk found (λ x. result ≡ Ok (Some x)) }
+    ensures damaged { IfErr found (λ e. IfDamage e (λ _. result ≡ Ok None)) }
+    ensures found { IfOk result (λ o. IfSome o (λ x. found ≡ Ok x)) }
+    ensures sound { IfErr result (λ e. IfDamage e (λ _. ⊥)) }
+    ensures failed { result ≡ Err StoreError.Failed → found ≡ Err StoreError.Failed }
+{
+    mtn_check_log::undamaged(found)
 }
 
 /// As `mtn_check_log::entry_at`.

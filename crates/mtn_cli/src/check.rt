@@ -22,8 +22,8 @@ use mtn_store_laws::one_state;
 use std::alloc::Global;
 use std::thread::Threads;
 
-// How many runs of a check are worked on at once: with the thread that reads two threads for each of four processors.
-const PIECES: usize = 7;
+// In how many pieces the jobs of a check are worked on, where there are so few that lots of four would be fewer.
+const PIECES: usize = 4;
 
 // The answer of a check that finds no damage.
 fn sound(alloc: Global, count: u64) -> Result<Worked, NoMemory>

@@ -101,16 +101,20 @@ fn print_in(alloc: Global, form: Form, status: Status, text: Bytes) -> Result<By
     }
 }
 
+// The most that a frame has around its text: two numbers of twenty digits, a size of as many, a status, and what stands between.
+const MOST_AROUND: usize = 72;
+
 fn frame(alloc: Global, number: u64, status: Status, text: &[u8]) -> Result<Bytes, NoMemory>
     ensures { IfOk result (λ printed. printed ≡ framed number status text.now) }
 {
-    let mut out = Vec::new(alloc);
-    push_number(alloc, &mut out, number)?;
+    let digits = number.to_string(alloc)?;
+    let mut out = Vec::with_capacity(alloc, text.len().saturating_add(MOST_AROUND))?;
+    out.extend_from_slice(digits.as_bytes())?;
     out.extend_from_slice(b":m:")?;
     push_number(alloc, &mut out, text.len() as u64)?;
     out.push(b':')?;
     out.extend_from_slice(text)?;
-    push_number(alloc, &mut out, number)?;
+    out.extend_from_slice(digits.as_bytes())?;
     out.extend_from_slice(b":l:1:")?;
     push_number(alloc, &mut out, u64::from(status.number()))?;
     Ok(List::from_vec(out))

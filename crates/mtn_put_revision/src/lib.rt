@@ -23,5 +23,6 @@ mod uncommon;
 mod unfit;
 
 pub use put::{put_revision, put_revision_as};
+pub use records::{KeptParents, Written, write_record};
 pub use uncommon::uncommon_of;
 pub use unfit::roster_held;

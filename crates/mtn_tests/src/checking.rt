@@ -1,4 +1,4 @@
-// That the runs of a check are worked on at the same time, in `run` as it is. No clause says so: a body that does one after the
+// That the jobs of a check are worked on at the same time, in `run` as it is. No clause says so: a body that does one after the
 // other answers the same, and they do not meet.
 ghost use Rattle.mtn_ports.specs.Ids.{sha1_makes_ids};
 ghost use Rattle.sha1.specs.Sha1.{sha1};
@@ -42,10 +42,10 @@ impl Ident for Meets<'_> {
     }
 }
 
-// The status of a check of seven runs of revisions.
+// The status of a check of two revisions, which are two lots.
 fn checked<R: Threads + Sync>(rt: &R, alloc: Global, meeting: &Meeting) -> Option<u8> {
     let mut store = new_store(alloc)?;
-    let (generated, _) = answer(rt, alloc, &Sha1One, &[b"generate", b"224"], b"", &mut store)?;
+    let (generated, _) = answer(rt, alloc, &Sha1One, &[b"generate", b"2"], b"", &mut store)?;
     if generated != 0 {
         return None;
     }
@@ -57,9 +57,9 @@ fn checked<R: Threads + Sync>(rt: &R, alloc: Global, meeting: &Meeting) -> Optio
 }
 
 #[test]
-fn runs_of_a_check_meet(rt: HostRuntime) -> Result<(), Fail> {
+fn jobs_of_a_check_meet(rt: HostRuntime) -> Result<(), Fail> {
     let meeting = Meeting::new();
     assert_eq!(rt; checked(&rt, rt.alloc(), &meeting), Some(0));
-    assert_eq!(rt; meeting.met.load(Ordering::SeqCst), 0b111_1111);
+    assert_eq!(rt; meeting.met.load(Ordering::SeqCst), 0b11);
     Ok(())
 }

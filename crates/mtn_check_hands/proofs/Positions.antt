@@ -1,0 +1,54 @@
+-- A position, put together.
+use Rattle.std.specs.Prelude.{IfSome}
+use Rattle.std.proofs.Common.{◌≡◌, ℕ, List, [], ◌∷◌, Option, Some, None, refl, sym, ◌∙◌, subst}
+use Rattle.mtn_check_pieces.specs.declared.job.CheckJob.{CheckJob}
+use Rattle.mtn_check_pieces_laws.specs.Behind.{AreApartIn}
+use Rattle.mtn_history_laws.specs.History.{Revision}
+use Rattle.mtn_model.specs.Table.{Contents}
+use Rattle.mtn_ports.proofs.KeptLemmas.{if_same}
+use Rattle.mtn_ports.specs.Kept.{Same}
+use Rattle.mtn_check_records.specs.Reading.{ids_of, places_of}
+use Rattle.mtn_check_hands.specs.Hands.{IsHandRead}
+use Rattle.mtn_check_hands.specs.Putting.{read_of}
+use Rattle.mtn_check_hands.specs.Reading.{AreApart, AreKinAt, AreRecordsAt, IsNextAt, IsReadWith}
+use Rattle.mtn_check_hands.specs.declared.hands.Hands.{Hands}
+use Rattle.mtn_check_hands.specs.declared.kin.Kin.{Kin}
+use Rattle.mtn_check_hands.specs.declared.read.Read.{Read}
+use Rattle.mtn_check_hands.specs.declared.records.Records.{Records}
+use Rattle.mtn_check_hands.specs.declared.stored.Stored.{Stored}
+
+apart_in : (h : List Revision) (ps : List ℕ) (job : CheckJob) → AreApart h ps job.only_left job.only_right → AreApartIn h ps job
+apart_in h [] job is = tt
+apart_in h (p ∷ []) job is = tt
+apart_in h (p ∷ q ∷ []) job is = is
+apart_in h (p ∷ q ∷ r ∷ ps) job is = tt
+
+read_with : (c : Contents) (at : ℕ) (hands : Hands) (records : Records) (next : ℕ) (kin : Kin) (stored : Stored) → AreRecordsAt c at records → IsNextAt c at hands next → AreKinAt c at hands kin → ids_of kin.parents ≡ records.mentions.parents →
+    IsReadWith c at hands (read_of at records next kin stored)
+read_with c at hands records next kin stored are is_next are_kin named = λ f n front begun walked right.
+    let related = are_kin f n front begun walked right in
+    record {
+      here = refl;
+      log = are.log;
+      formed = are.formed;
+      id = refl;
+      text = are.text;
+      roster = are.roster;
+      next = is_next f n front begun walked right;
+      parents = related.0;
+      apart = apart_in front.history (places_of kin.parents) (read_of at records next kin stored).job related.1;
+      named = λ v read. are.mentions.named v read ∙ sym named;
+      files = are.mentions.files;
+      unheld = are.mentions.unheld;
+    }
+
+pub told_read : (first second told : Option Contents) (at : ℕ) (hands : Hands) (records : Records) (next : ℕ) (kin : Kin) (stored : Stored) (read : Read) → Same first second → Same second told → read ≡ read_of at records next kin stored →
+    IfSome first (λ c. AreRecordsAt c at records) → IfSome second (λ c. IsNextAt c at hands next) → IfSome told (λ c. AreKinAt c at hands kin) → ids_of kin.parents ≡ records.mentions.parents → IfSome told (λ c. IsReadWith c at hands read)
+told_read first second None at hands records next kin stored read same later is are is_next are_kin named = tt
+told_read first second (Some c) at hands records next kin stored read same later is are is_next are_kin named =
+    subst (IsReadWith c at hands) (sym is) (read_with c at hands records next kin stored
+    (if_same first (Some c) (λ d. AreRecordsAt d at records) (λ d told. same d (later d told)) are) (if_same second (Some c) (λ d. IsNextAt d at hands next) later is_next) are_kin named)
+
+pub hand_read : (at : ℕ) (records : Records) (next : ℕ) (kin : Kin) (stored : Stored) (read : Read) → read ≡ read_of at records next kin stored → IsHandRead read.position read.job read.hand
+hand_read at records next kin stored read is =
+    subst (λ (x : Read). IsHandRead x.position x.job x.hand) (sym is) (record { id = refl; next = refl; depth = refl; entries = refl })

@@ -1,4 +1,0 @@
-pub mod Facts
-pub mod Jobs
-pub mod Runs
-pub mod Walks

@@ -1,0 +1,25 @@
+-- Another record is due.
+use Rattle.std.specs.Prelude.{IfSome, not, bytes_eq}
+use Rattle.std.proofs.Common.{◌≡◌, ◌∙◌, List, ℕ, Bool, true, false, ap, sym, subst}
+use Rattle.std.proofs.lemmas.Slice.Eq.{bytes_eq-Decides}
+use Rattle.mtn_put_revision.specs.Keeping.{IsWrittenOn}
+use Rattle.mtn_roster_deltas.specs.Numbering.{shown}
+use Rattle.mtn_check_records.specs.Due.{IsNumberedBy}
+use Rattle.mtn_check_records.proofs.due.over.Goals as goal
+
+differ : (a b : List ℕ) (r : Bool) → r ≡ not (bytes_eq a b) → r ≡ true → a ≡ b → ⊥
+differ a b r is ne e = let equal : not (bytes_eq a b) ≡ false = ap not ((bytes_eq-Decides a b).1 e) in cc
+
+pub returns-then-ne : goal.returns-then-ne
+returns-then-ne c =
+    let known = shown c.args.known.now.entries.now in
+    let r = subst (λ o. IfSome o (λ r. IsNumberedBy c.args.stored.now known c.args.position.now.next r.0 r.1)) c.in-Some.is c.in_ok-entries.ensures in
+    let w = subst (λ o. IfSome o (IsWrittenOn c.args.known.now.places.now known c.args.known.now.depth c.in-Some.entries c.args.job.now.at)) c.in-Some-2.is c.in_ok-written.ensures.record in
+    record {
+      entries = c.in-Some.entries;
+      numbered = record { ascending = r.ascending; numbers = r.numbers; next = λ are. sym c.if-free-position.false ∙ r.next_free are };
+      body = c.in-Some-2.written.body;
+      deep = c.in-Some-2.written.depth;
+      written = w.0;
+      other = λ e. differ c.as_slice.result.now c.as_slice-2.result.now c.ne.result c.ne.ensures c.if-ne.true (c.as_slice.ensures ∙ sym e ∙ sym c.as_slice-2.ensures.value);
+    }

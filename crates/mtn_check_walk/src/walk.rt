@@ -1,0 +1,256 @@
+// The walk along the log, in stretches.
+ghost use Rattle.std.specs.Prelude.{◌≡◌, ◌<◌, ◌≤◌, ◌+◌, ℕ, Err, IfErr, IfOk, IfSome, OnOk, length};
+ghost use Rattle.mtn_ports.specs.Causes.{Rose};
+ghost use Rattle.mtn_ports.specs.Kept.{Stays};
+ghost use Rattle.mtn_history.specs.Errors.{IfDamage};
+ghost use Rattle.mtn_check_laws.specs.FirstDamage.{IsBegun, IsDamageAt};
+ghost use Rattle.mtn_check_laws.specs.Fronts.{Front, IsFrontAt};
+ghost use Rattle.mtn_check_log.specs.Positions.{IsFirstIn, IsWalkedTo};
+ghost use Rattle.mtn_check_walk.specs.Walks.{IsLaidOut, IsNextStretch, IsReadBehind};
+ghost use Rattle.mtn_check_walk.specs.Judging.{IsJudged};
+ghost use Rattle.mtn_check_hands.specs.Hands.{AreRead, NoneFrom};
+
+use crate::Errand;
+use crate::judging::{Judged, judge};
+use mtn_base::NoMemory;
+use mtn_check_hands::{Hands, Stretch, load_stretch};
+use mtn_check_log::walk_from;
+use mtn_history::StoreError;
+use mtn_ports::{Ident, Keeper};
+use std::alloc::Global;
+use std::thread::{Threads, join_mut};
+
+/// A walk that stands at a position, with the stretch that was read there, and what is at hand behind that.
+#[derive(Drop)]
+pub struct Walk {
+    pub at: u64,
+    pub stretch: Stretch,
+    pub hands: Hands,
+}
+
+/// A stretch read behind another: what is found of that, and the walk behind it.
+#[derive(Drop)]
+pub struct Ahead {
+    pub judged: Judged,
+    pub walk: Walk,
+}
+
+// Reads a stretch with nothing at hand, where the walk has come.
+fn begin_at<I: Ident, K: Keeper>(
+    alloc: Global,
+    ident: &I,
+    keeper: &mut K,
+    count: u64,
+    at: u64,
+) -> Result<Walk, StoreError>
+    requires walked { IfSome (K.contents keeper.old) (IsWalkedTo (I.meaning ident.now) count at) }
+    requires within { at ≤ count }
+    ensures stays { Stays K.contents K.leaves K.faults keeper.old keeper.new }
+    ensures read { IfSome (K.contents keeper.new) (λ c. IfOk result (λ walk. IsReadBehind (I.meaning ident.now) count walk c)) }
+    ensures laid_out { IfOk result (IsLaidOut count) }
+    ensures at { IfOk result (λ walk. walk.at ≡ at) }
+    ensures sound { IfErr result (λ e. IfDamage e (λ _. ⊥)) }
+    ensures failed { result ≡ Err StoreError.Failed → Rose (K.faults keeper.old) (K.faults keeper.new) }
+{
+    let _ = ident;
+    let mut hands = Hands::new(alloc);
+    let stretch = load_stretch(alloc, keeper, &mut hands, at, count)?;
+    Ok(Walk { at, stretch, hands })
+}
+
+// Reads a stretch, with a step of an errand behind it.
+fn read_and_go<K: Keeper, E: Errand>(
+    alloc: Global,
+    keeper: &mut K,
+    errand: &mut E,
+    hands: &mut Hands,
+    from: u64,
+    count: u64,
+) -> Result<Stretch, StoreError>
+    requires none { NoneFrom from hands.old }
+    requires within { from ≤ count }
+    requires held { IfSome (K.contents keeper.old) (E.holds errand.old count) }
+    ensures stays { Stays K.contents K.leaves K.faults keeper.old keeper.new }
+    ensures long { IfOk result (λ stretch. length stretch.positions.items ≡ length stretch.jobs.items) }
+    ensures within { IfOk result (λ stretch. from + length stretch.jobs.items ≤ count) }
+    ensures none { IfOk result (λ stretch. NoneFrom (from + length stretch.jobs.items) hands.new) }
+    ensures read { IfSome (K.contents keeper.new) (λ c. IfOk result (λ stretch. AreRead c from hands.old stretch.positions.items stretch.jobs.items hands.new)) }
+    ensures held { IfSome (K.contents keeper.new) (E.holds errand.new count) }
+    ensures sound { IfErr result (λ e. IfDamage e (λ _. ⊥)) }
+    ensures failed { result ≡ Err StoreError.Failed → Rose (K.faults keeper.old) (K.faults keeper.new) }
+{
+    let stretch = load_stretch(alloc, keeper, hands, from, count)?;
+    errand.go(alloc, count, keeper)?;
+    Ok(stretch)
+}
+
+// Judges a stretch, and reads the one behind it; with more pieces than one beside each other.
+fn judge_and_read<R: Threads + Sync, I: Ident, K: Keeper, E: Errand>(
+    rt: &R,
+    alloc: Global,
+    ident: &I,
+    pieces: usize,
+    stretch: &Stretch,
+    keeper: &mut K,
+    errand: &mut E,
+    hands: &mut Hands,
+    from: u64,
+    count: u64,
+) -> (Result<Judged, NoMemory>, Result<Stretch, StoreError>)
+    requires same { length stretch.now.positions.items ≡ length stretch.now.jobs.items }
+    requires none { NoneFrom from hands.old }
+    requires within { from ≤ count }
+    requires held { IfSome (K.contents keeper.old) (E.holds errand.old count) }
+    ensures judged { IfOk result.0 (IsJudged (I.meaning ident.now) stretch.now) }
+    ensures next { IsNextStretch K.contents K.leaves K.faults (E.holds errand.new count) from count keeper.old keeper.new hands.old hands.new result.1 }
+{
+    if pieces < 2 {
+        let judged = judge(rt, alloc, ident, pieces, stretch);
+        return (
+            judged,
+            read_and_go(alloc, keeper, errand, hands, from, count),
+        );
+    }
+    join_mut(
+        rt,
+        &mut || -> Result<Judged, NoMemory>
+            requires { length stretch.now.positions.items ≡ length stretch.now.jobs.items }
+            ensures { IfOk result (IsJudged (I.meaning ident.entry.now) stretch.entry.now) }
+        { judge(rt, alloc, ident, pieces, stretch) },
+        &mut || -> Result<Stretch, StoreError>
+            requires { NoneFrom from hands.now × (from ≤ count) × IfSome (K.contents keeper.now) (E.holds errand.now count) }
+            ensures { IsNextStretch K.contents K.leaves K.faults (E.holds errand.exit.now count) from count keeper.entry.now keeper.exit.now hands.entry.now hands.exit.now result }
+        { read_and_go(alloc, keeper, errand, hands, from, count) },
+    )
+}
+
+// Judges the stretch of a walk, and reads the next one behind it, with a step of an errand.
+fn look_ahead<R: Threads + Sync, I: Ident, K: Keeper, E: Errand>(
+    rt: &R,
+    alloc: Global,
+    ident: &I,
+    pieces: usize,
+    count: u64,
+    keeper: &mut K,
+    errand: &mut E,
+    walk: Walk,
+) -> Result<Ahead, StoreError>
+    requires read { IfSome (K.contents keeper.old) (IsReadBehind (I.meaning ident.now) count walk) }
+    requires laid_out { IsLaidOut count walk }
+    requires held { IfSome (K.contents keeper.old) (E.holds errand.old count) }
+    ensures held { IfSome (K.contents keeper.new) (E.holds errand.new count) }
+    ensures stays { Stays K.contents K.leaves K.faults keeper.old keeper.new }
+    ensures walked { IfSome (K.contents keeper.new) (λ c. IfOk result (λ ahead. IsWalkedTo (I.meaning ident.now) count (walk.at + ahead.judged.sound) c)) }
+    ensures read { IfSome (K.contents keeper.new) (λ c. IfOk result (λ ahead. ahead.judged.sound ≡ length walk.stretch.jobs.items → IsReadBehind (I.meaning ident.now) count ahead.walk c)) }
+    ensures shown { IfSome (K.contents keeper.new) (λ c. IfOk result (λ ahead. IfSome ahead.judged.damage (λ e. IfDamage e (IsFirstIn (I.meaning ident.now) count c)))) }
+    ensures laid_out { IfOk result (λ ahead. IsLaidOut count ahead.walk) }
+    ensures at { IfOk result (λ ahead. ahead.walk.at ≡ walk.at + length walk.stretch.jobs.items) }
+    ensures judged { IfOk result (λ ahead. IsJudged (I.meaning ident.now) walk.stretch ahead.judged) }
+    ensures sound { IfErr result (λ e. IfDamage e (λ _. ⊥)) }
+    ensures failed { result ≡ Err StoreError.Failed → Rose (K.faults keeper.old) (K.faults keeper.new) }
+{
+    let Walk {
+        at,
+        stretch,
+        mut hands,
+    } = walk;
+    let behind = at + stretch.jobs.len() as u64;
+    let (judged, next) = judge_and_read(
+        rt, alloc, ident, pieces, &stretch, keeper, errand, &mut hands, behind, count,
+    );
+    let judged = judged?;
+    let walk = Walk {
+        at: behind,
+        stretch: next?,
+        hands,
+    };
+    Ok(Ahead { judged, walk })
+}
+
+// Goes over a position by its text accepted again, and begins behind it.
+fn go_over<I: Ident, K: Keeper>(
+    alloc: Global,
+    ident: &I,
+    keeper: &mut K,
+    count: u64,
+    at: u64,
+) -> Result<Walk, StoreError>
+    requires walked { IfSome (K.contents keeper.old) (IsWalkedTo (I.meaning ident.now) count at) }
+    requires within { at < count }
+    ensures stays { Stays K.contents K.leaves K.faults keeper.old keeper.new }
+    ensures read { IfSome (K.contents keeper.new) (λ c. IfOk result (λ walk. IsReadBehind (I.meaning ident.now) count walk c)) }
+    ensures laid_out { IfOk result (IsLaidOut count) }
+    ensures at { IfOk result (λ walk. walk.at ≡ at + 1) }
+    ensures damaged { IfSome (K.contents keeper.new) (λ c. IfErr result (λ e. IfDamage e (IsFirstIn (I.meaning ident.now) count c))) }
+    ensures failed { result ≡ Err StoreError.Failed → Rose (K.faults keeper.old) (K.faults keeper.new) }
+{
+    walk_from(alloc, ident, keeper, count, at, at + 1)?;
+    begin_at(alloc, ident, keeper, count, at + 1)
+}
+
+// Goes behind the stretch of a walk, or behind the first position in it that is not sound.
+fn go_on<R: Threads + Sync, I: Ident, K: Keeper, E: Errand>(
+    rt: &R,
+    alloc: Global,
+    ident: &I,
+    pieces: usize,
+    count: u64,
+    keeper: &mut K,
+    errand: &mut E,
+    walk: Walk,
+) -> Result<Walk, StoreError>
+    requires read { IfSome (K.contents keeper.old) (IsReadBehind (I.meaning ident.now) count walk) }
+    requires laid_out { IsLaidOut count walk }
+    requires held { IfSome (K.contents keeper.old) (E.holds errand.old count) }
+    requires within { walk.at < count }
+    ensures held { IfSome (K.contents keeper.new) (E.holds errand.new count) }
+    ensures stays { Stays K.contents K.leaves K.faults keeper.old keeper.new }
+    ensures read { IfSome (K.contents keeper.new) (λ c. IfOk result (λ next. IsReadBehind (I.meaning ident.now) count next c)) }
+    ensures laid_out { IfOk result (IsLaidOut count) }
+    ensures further { IfOk result (λ next. walk.at < next.at) }
+    ensures damaged { IfSome (K.contents keeper.new) (λ c. IfErr result (λ e. IfDamage e (IsFirstIn (I.meaning ident.now) count c))) }
+    ensures failed { result ≡ Err StoreError.Failed → Rose (K.faults keeper.old) (K.faults keeper.new) }
+{
+    let at = walk.at;
+    let len = walk.stretch.jobs.len();
+    if len == 0 {
+        return go_over(alloc, ident, keeper, count, at);
+    }
+    let ahead = look_ahead(rt, alloc, ident, pieces, count, keeper, errand, walk)?;
+    let Ahead { judged, walk } = ahead;
+    if judged.sound == len {
+        return Ok(walk);
+    }
+    match judged.damage {
+        Some(error) => Err(error),
+        None => go_over(alloc, ident, keeper, count, at + judged.sound as u64),
+    }
+}
+
+/// As `mtn_check_log::walk_log`, in stretches of positions, of which the jobs of each are checked in so many pieces, while the next one
+/// is read and a step of an errand is done. A text is accepted again, as `walk_log` does it, only where the job of its position
+/// differs, or the records there give none.
+pub fn walk_jobs<R: Threads + Sync, I: Ident, K: Keeper, E: Errand>(
+    rt: &R,
+    alloc: Global,
+    ident: &I,
+    pieces: usize,
+    count: u64,
+    keeper: &mut K,
+    errand: &mut E,
+) -> Result<(), StoreError>
+    requires begun { IfSome (K.contents keeper.old) (λ c. IsBegun (I.meaning ident.now) c count) }
+    requires held { IfSome (K.contents keeper.old) (E.holds errand.old count) }
+    ensures held { IfSome (K.contents keeper.new) (E.holds errand.new count) }
+    ensures stays { Stays K.contents K.leaves K.faults keeper.old keeper.new }
+    ensures walked { IfSome (K.contents keeper.new) (λ c. OnOk result ((front : Front) × IsFrontAt (I.meaning ident.now) c count front)) }
+    ensures damaged { IfSome (K.contents keeper.new) (λ c. IfErr result (λ e. IfDamage e
+        (λ d. (r : ℕ) × (front : Front) × (r < count) × IsFrontAt (I.meaning ident.now) c r front × IsDamageAt (I.meaning ident.now) c r front d))) }
+    ensures failed { result ≡ Err StoreError.Failed → Rose (K.faults keeper.old) (K.faults keeper.new) }
+{
+    let mut walk = begin_at(alloc, ident, keeper, count, 0)?;
+    while walk.at < count {
+        walk = go_on(rt, alloc, ident, pieces, count, keeper, errand, walk)?;
+    }
+    Ok(())
+}
