@@ -12,7 +12,7 @@ use std::alloc::Global;
 use std::mem::{replace, swap};
 
 // How many keys of a table are counted in one step: as many as a stretch has positions.
-const STEP: u64 = 64;
+const STEP: u64 = 256;
 
 /// How many keys a table has up to one of them.
 #[derive(Drop)]

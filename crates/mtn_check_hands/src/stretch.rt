@@ -16,8 +16,8 @@ use mtn_ports::Keeper;
 use mtn_records::RosterRecord;
 use std::alloc::Global;
 
-/// The most positions of a stretch: sixteen lots of four jobs, so that threads wait for one another but once in so many.
-const MAX_POSITIONS: u64 = 64;
+/// The most positions of a stretch: sixty-four lots of four jobs, so that threads wait for one another but once in so many.
+const MAX_POSITIONS: u64 = 256;
 
 /// The most nodes of a stretch with more than one position: of the stored rosters and their parents'.
 const MAX_NODES: u64 = 300_000;
@@ -112,7 +112,7 @@ fn add(stretch: &mut Stretch, hands: &mut Hands, at: u64, read: Read) -> Result<
     Ok(())
 }
 
-/// The positions from one on, read with what is at hand of those below, which then has them too: at most sixty-four, below `count`, and
+/// The positions from one on, read with what is at hand of those below, which then has them too: at most 256, below `count`, and
 /// of rosters with at most 300,000 nodes together where they are more than one. It ends before a position at which a record is
 /// missing or bad, or a content that the text brings is not held; so there may be none. `Failed` where the keeper failed and
 /// `NoMemory` where memory was wanting, and no other error: then some may be at hand that were read.
