@@ -1,0 +1,5 @@
+use Rattle.std.proofs.Common.{rules}
+use Rattle.mtn_claims_check_pieces.proofs.check_pieces.Goals as goal
+
+pub returns : goal.returns
+returns g c = search rules
