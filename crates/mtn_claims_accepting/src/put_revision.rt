@@ -1,4 +1,4 @@
-//! What each of two revisions has above it that the other lacks, and the fault of a roster.
+//! The record that is due, and what each of two revisions has above it that the other lacks.
 ghost use Rattle.std.specs.Prelude.{◌+◌, ◌-◌, ◌<◌, ◌≡◌, ◌≤◌, All, Err, IfErr, IfOk, IfSome, List, None, Ok, max, ℕ};
 ghost use Rattle.mtn_ancestry.specs.Ancestors.{ReachesFrom};
 ghost use Rattle.mtn_history.specs.Errors.{IfDamage};
@@ -9,12 +9,31 @@ ghost use Rattle.mtn_model.specs.State.{State};
 ghost use Rattle.mtn_ports.specs.Causes.{Rose};
 ghost use Rattle.mtn_ports.specs.Kept.{Stays, with_all};
 ghost use Rattle.mtn_put_revision.specs.Finding.{IsFound, IsUnfounded};
+ghost use Rattle.mtn_put_revision.specs.Keeping.{IsWrittenOn};
+ghost use Rattle.mtn_put_revision.specs.Writing.{AllAscend, NoneHas};
+ghost use Rattle.mtn_roster_deltas.specs.Numbering.{shown};
 
 use mtn_ancestry::Pos;
+use mtn_base::NoMemory;
 use mtn_history::{Draft, StoreError};
 use mtn_make_roster::Uncommon;
 use mtn_ports::Keeper;
+use mtn_put_revision::{KeptParents, Written};
+use mtn_records::Numbered;
 use std::alloc::Global;
+
+/// As `mtn_put_revision::write_record`.
+pub fn write_record(
+    alloc: Global,
+    known: &KeptParents<'_>,
+    entries: Numbered,
+    at: Pos,
+) -> Result<Option<Written>, NoMemory>
+    ensures record { IfOk result (λ o. IfSome o (IsWrittenOn known.now.places.now (shown known.now.entries.now) known.now.depth entries at)) }
+    ensures none { result ≡ Ok None → All (λ p. p < at) known.now.places.now → AllAscend (shown known.now.entries.now) → NoneHas at entries }
+{
+    mtn_put_revision::write_record(alloc, known, entries, at)
+}
 
 /// As `mtn_put_revision::uncommon_of`.
 pub fn uncommon_of<K: Keeper>(
