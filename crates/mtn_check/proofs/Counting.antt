@@ -8,13 +8,14 @@ use Rattle.std.proofs.lemmas.List.Edits.{length-remove}
 use Rattle.std.proofs.lemmas.List.Elements.{Contains-append_left, Contains-push}
 use Rattle.mtn_model.specs.Table.{Contents, body_at}
 use Rattle.mtn_ports.specs.Kept.{AreKeyed, IsAbove, IsAboveIf, IsNextKey, Same}
+use Rattle.mtn_ports.proofs.KeptLemmas.{if_same}
 use Rattle.mtn_check.specs.Tables.{AreTallied, HasAtMost, IsCountTo, IsTally, KeyRule}
 use Rattle.mtn_check.specs.declared.few.Tallies.{Tallies}
 use Rattle.mtn_check.specs.declared.few.Tally.{Tally}
 use Rattle.mtn_check.proofs.Others.{same_place, still_there}
 use Rattle.mtn_check.proofs.Order.{not_itself}
 use Rattle.mtn_check.proofs.Scanning.{AreKeptTo, all_kept, none_yet, one_more}
-use Rattle.mtn_check.proofs.Told.{each_both, each_told, still}
+use Rattle.mtn_check.proofs.Told.{each_both, each_told}
 
 -- a record whose key is one of these
 abbrev pub IsKeyAmong : List (List ℕ) → KeyRule
@@ -74,7 +75,7 @@ module _ (table : ℕ) (c : Contents) where
 
 module _ (old new : Option Contents) (table i : ℕ) (last shown : List ℕ) (kept : Same old new) (is : shown ≡ last) (so_far : IfSome old (λ c. IsCountTo table c i last)) where
   now_so_far : IfSome new (λ c. IsCountTo table c i shown)
-  now_so_far = subst (λ l. IfSome new (λ c. IsCountTo table c i l)) (sym is) (still old new (λ c. IsCountTo table c i last) kept so_far)
+  now_so_far = subst (λ l. IfSome new (λ c. IsCountTo table c i l)) (sym is) (if_same old new (λ c. IsCountTo table c i last) kept so_far)
 
   keyed_so_far : IfSome new AreKeyed → IfSome new (λ c. AreKeyed c × IsCountTo table c i shown)
   keyed_so_far keyed = each_both new AreKeyed (λ c. IsCountTo table c i shown) (λ c. AreKeyed c × IsCountTo table c i shown) (λ c x y. (x, y)) keyed now_so_far
@@ -111,5 +112,5 @@ more_tallied old new table most t u shown kept is was found key there same up wi
 pub all_tallied : (n : ℕ) (first mid new : Option Contents) → Same first mid → Same mid new → (t : Tallies) →
     IfSome first (λ c. IsTally 3 n c t.texts) → IfSome mid (λ c. IsTally 4 n c t.log) → IfSome new (λ c. IsTally 5 n c t.rosters) → IfSome new (λ c. AreTallied n c t)
 all_tallied n first mid new kept more t texts log rosters =
-    let both = each_both mid (λ c. IsTally 3 n c t.texts) (λ c. IsTally 4 n c t.log) (λ c. IsTally 3 n c t.texts × IsTally 4 n c t.log) (λ c x y. (x, y)) (still first mid (λ c. IsTally 3 n c t.texts) kept texts) log in
-    each_both new (λ c. IsTally 3 n c t.texts × IsTally 4 n c t.log) (λ c. IsTally 5 n c t.rosters) (λ c. AreTallied n c t) (λ c x y. record { texts = x.0; log = x.1; rosters = y }) (still mid new (λ c. IsTally 3 n c t.texts × IsTally 4 n c t.log) more both) rosters
+    let both = each_both mid (λ c. IsTally 3 n c t.texts) (λ c. IsTally 4 n c t.log) (λ c. IsTally 3 n c t.texts × IsTally 4 n c t.log) (λ c x y. (x, y)) (if_same first mid (λ c. IsTally 3 n c t.texts) kept texts) log in
+    each_both new (λ c. IsTally 3 n c t.texts × IsTally 4 n c t.log) (λ c. IsTally 5 n c t.rosters) (λ c. AreTallied n c t) (λ c x y. record { texts = x.0; log = x.1; rosters = y }) (if_same mid new (λ c. IsTally 3 n c t.texts × IsTally 4 n c t.log) more both) rosters

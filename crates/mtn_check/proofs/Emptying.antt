@@ -4,11 +4,12 @@ use Rattle.std.proofs.Common.{◌≡◌, ◌<◌, ◌≤◌, ◌+◌, ℕ, Bool,
 use Rattle.std.proofs.lemmas.Bool.Decides.{nat_tests}
 use Rattle.mtn_model.specs.Table.{Contents, body_at}
 use Rattle.mtn_ports.specs.Kept.{Same}
+use Rattle.mtn_ports.proofs.KeptLemmas.{if_same}
 use Rattle.mtn_history.specs.declared.errors.Damage.{Damage}
 use Rattle.mtn_history.specs.declared.errors.StoreError.{StoreError}
 use Rattle.mtn_history.specs.Errors.{IfDamage}
 use Rattle.mtn_check.specs.Tables.{AreEmpty, IsFirstOf}
-use Rattle.mtn_check.proofs.Told.{each_told, ends_damaged, still, with_earlier}
+use Rattle.mtn_check.proofs.Told.{each_told, ends_damaged, with_earlier}
 
 -- the one table of a range of one
 only : (n t : ℕ) → n ≤ t → t < n + 1 → t ≡ n
@@ -55,7 +56,7 @@ module _ (old new : Option Contents) (from n table : ℕ) (kept : Same old new) 
       IfSome new (λ c. IfErr r (λ x. IfDamage x (IsFirstOf from to c)))
   first_told to e r fails le lt here =
       ends_damaged new (AreEmpty from n) (λ c d. IsFirstOf table (table + 1) c d) (λ c d. IsFirstOf from to c d) e r fails
-      (λ c d x y. first_of c from n to d le lt x (subst (λ t. IsFirstOf t (t + 1) c d) is y)) (still old new (AreEmpty from n) kept so_far) here
+      (λ c d x y. first_of c from n to d le lt x (subst (λ t. IsFirstOf t (t + 1) c d) is y)) (if_same old new (AreEmpty from n) kept so_far) here
 
 pub up_to : (told : Option Contents) (from to n : ℕ) → to ≤ n → IfSome told (AreEmpty from n) → IfSome told (AreEmpty from to)
 up_to told from to n le none = each_told told (AreEmpty from n) (AreEmpty from to) (λ c x t k low high. x t k low (omega (arith, high, le))) none

@@ -3,12 +3,13 @@ use Rattle.std.specs.Prelude.{IfErr, IfSome}
 use Rattle.std.proofs.Common.{◌≡◌, ⊎_elim, ℕ, List, [], ◌∷◌, Option, Some, None, Result, Err, refl, sym, ap, ◌∙◌, subst}
 use Rattle.mtn_model.specs.Table.{Contents, body_at}
 use Rattle.mtn_ports.specs.Kept.{AreKeyed, IsAbove, Same}
+use Rattle.mtn_ports.proofs.KeptLemmas.{if_same}
 use Rattle.mtn_history.specs.Errors.{IfDamage}
 use Rattle.mtn_history.specs.declared.errors.StoreError.{StoreError}
 use Rattle.mtn_history.specs.declared.errors.Damage.{Damage}
 use Rattle.mtn_check.specs.Tables.{AllIn, IsBreakIn, IsNextBroken, IsNextKept, IsNoneBetween, KeyRule}
 use Rattle.mtn_check.proofs.Order.{not_both, not_itself, which}
-use Rattle.mtn_check.proofs.Told.{each_both, ends_damaged, still}
+use Rattle.mtn_check.proofs.Told.{each_both, ends_damaged}
 
 clash : (o : Option (List ℕ)) (body : List ℕ) → o ≡ Some body → o ≡ None → ⊥
 clash o body there none = cc
@@ -57,7 +58,7 @@ module _ (table : ℕ) (rule : KeyRule) (c : Contents) where
 
 module _ (old new : Option Contents) (table : ℕ) (rule : Contents → KeyRule) (last shown : List ℕ) (kept : Same old new) (is : shown ≡ last) (so_far : IfSome old (λ c. AreKeptTo table (rule c) c last)) where
   now_kept : IfSome new (λ c. AreKeptTo table (rule c) c last)
-  now_kept = still old new (λ c. AreKeptTo table (rule c) c last) kept so_far
+  now_kept = if_same old new (λ c. AreKeptTo table (rule c) c last) kept so_far
 
   pub more_told : (found : Option (List ℕ)) (key : List ℕ) → found ≡ Some key → IfSome new (λ c. IsNextKept table (rule c) c shown found) → IfSome new (λ c. AreKeptTo table (rule c) c key)
   more_told found key there next =

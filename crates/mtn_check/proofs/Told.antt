@@ -3,15 +3,11 @@ use Rattle.std.specs.Prelude.{IfErr, IfSome, OnOk}
 use Rattle.std.proofs.Common.{◌≡◌, Option, Some, None, Result, Ok, Err, refl, sym, subst}
 use Rattle.mtn_model.specs.Table.{Contents}
 use Rattle.mtn_ports.specs.Kept.{Same}
+use Rattle.mtn_ports.proofs.KeptLemmas.{if_same}
 use Rattle.mtn_history.specs.Errors.{IfDamage}
 use Rattle.mtn_history.specs.declared.errors.Damage.{Damage}
 use Rattle.mtn_history.specs.declared.errors.StoreError.{StoreError}
 use Rattle.mtn_history.specs.declared.errors.StoreError.TheVariants.{Damaged, Failed, NoMemory}
-
--- a fact of an earlier moment, at a later one
-pub still : (old new : Option Contents) (A : Contents → Type 0) → Same old new → IfSome old A → IfSome new A
-still old None A kept a = tt
-still old (Some c) A kept a = subst (λ o. IfSome o A) (kept c refl) a
 
 pub each_told : (told : Option Contents) (A B : Contents → Type 0) → ((c : Contents) → A c → B c) → IfSome told A → IfSome told B
 each_told None A B join a = tt
@@ -23,7 +19,7 @@ each_both (Some c) A B C join a b = join c a b
 
 -- one of each moment
 pub with_earlier : (old new : Option Contents) (A B C : Contents → Type 0) → Same old new → ((c : Contents) → A c → B c → C c) → IfSome old A → IfSome new B → IfSome new C
-with_earlier old new A B C kept join a b = each_both new A B C join (still old new A kept a) b
+with_earlier old new A B C kept join a b = each_both new A B C join (if_same old new A kept a) b
 
 pub if_damage : (e : StoreError) (P Q : Damage → Type 0) → ((d : Damage) → P d → Q d) → IfDamage e P → IfDamage e Q
 if_damage (Damaged d) P Q join fact = join d fact

@@ -152,8 +152,3 @@ told_begun f n walk before old (Some c) same none is read =
       walked = record { begun = here.begun; front = here.front; walked = here.walked; right = λ p hand lt has. absurd (none p hand has) };
       read = read;
     }
-
--- what is known of records that stay
-pub told_still : (holds : Contents → Type 0) (old now : Option Contents) → Same old now → IfSome old holds → IfSome now holds
-told_still holds old None same known = tt
-told_still holds old (Some c) same known = if_same old (Some c) holds same known

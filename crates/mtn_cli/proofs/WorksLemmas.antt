@@ -75,10 +75,6 @@ pub map_known : (P Q : Contents → Type 0) (told : Option Contents) → ((c : C
 map_known P Q None follows fact = tt
 map_known P Q (Some c) follows fact = follows c fact
 
-pub still_known : (Is : Contents → Type 0) (old new : Option Contents) → Same old new → IfSome old Is → IfSome new Is
-still_known Is old None same known = tt
-still_known Is old (Some c) same known = at_told old Is c (same c refl) known
-
 pub no_puts : (puts : List Put) → length puts ≡ 0 → puts ≡ []
 no_puts [] none = refl
 no_puts (p ∷ ps) none = absurd (omega (arith, none))

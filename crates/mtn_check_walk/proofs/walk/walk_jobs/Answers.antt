@@ -1,5 +1,4 @@
-use Rattle.mtn_ports.proofs.KeptLemmas.{stays_trans}
-use Rattle.mtn_check_walk.proofs.Walks.{told_still}
+use Rattle.mtn_ports.proofs.KeptLemmas.{if_same, stays_trans}
 use Rattle.mtn_check_walk.proofs.walk.walk_jobs.Goals as goal
 
 pub returns-in_err-walk-2-clause-stays : goal.returns-in_err-walk-2-clause-stays
@@ -18,5 +17,5 @@ loop-walk-init g c = record {
   stays = c.begin_at.ensures.stays;
   read = c.in_ok-walk.ensures.read;
   laid_out = c.in_ok-walk.ensures.laid_out;
-  held = told_still (g.E.Errand.holds c.args.errand.now c.args.count) (g.K.Keeper.contents c.args.keeper.now) (g.K.Keeper.contents c.begin_at.new.keeper) c.begin_at.ensures.stays.same c.requires.held;
+  held = if_same (g.K.Keeper.contents c.args.keeper.now) (g.K.Keeper.contents c.begin_at.new.keeper) (g.E.Errand.holds c.args.errand.now c.args.count) c.begin_at.ensures.stays.same c.requires.held;
 }

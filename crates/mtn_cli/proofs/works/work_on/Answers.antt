@@ -1,6 +1,7 @@
 use Rattle.std.proofs.Common.{rules, Some, Err, Ok, sym, ap, subst}
 use Rattle.std.specs.Prelude.{IfSome}
 use Rattle.mtn_ports.specs.Kept.{with_all}
+use Rattle.mtn_ports.proofs.KeptLemmas.{if_same}
 use Rattle.mtn_history.specs.Memory.{Knows}
 use Rattle.mtn_history.specs.declared.pending.Pending.{Pending}
 use Rattle.mtn_step.specs.Step.{Steps}
@@ -11,7 +12,7 @@ use Rattle.mtn_cli.specs.Step.{StepIn}
 use Rattle.mtn_cli.specs.Store.{IsFirstLine, IsLine, IsOldStore, IsTold, bounds_in, checks_store}
 use Rattle.mtn_cli.proofs.Bounding.{few_opened, few_over, with_reads}
 use Rattle.mtn_cli.proofs.CheckLemmas.{not_checking}
-use Rattle.mtn_cli.proofs.WorksLemmas.{answered_at, begins_counted, begins_known, failed_at, is_present, map_known, not_migrating, open_failed, over, still_known}
+use Rattle.mtn_cli.proofs.WorksLemmas.{answered_at, begins_counted, begins_known, failed_at, is_present, map_known, not_migrating, open_failed, over}
 use Rattle.mtn_cli.proofs.works.work_on.Goals as goal
 
 pub new-draft-requires-clause-counted : goal.new-draft-requires-clause-counted
@@ -28,7 +29,7 @@ returns-in-Err g c =
     c.args.keeper.now c.open.new.keeper c.args.memory.now c.in-Err.error c.tell.result (subst (λ (e : CommandError). IsTold e c.tell.result) c.whole.ensures c.tell.ensures) c.in-Err.ensures.stays
     (λ d s told stands. c.in-Err.ensures.stands (g.I.Ident.meaning c.args.ident.now) d s told stands)
     (λ e. c.in-Err.ensures.failed (ap Err e)) c.in-Err.ensures.unopened
-    (still_known (Knows c.args.memory.now) (g.K.Keeper.contents c.args.keeper.now) (g.K.Keeper.contents c.open.new.keeper) c.in-Err.ensures.stays.same c.requires.known))
+    (if_same (g.K.Keeper.contents c.args.keeper.now) (g.K.Keeper.contents c.open.new.keeper) (Knows c.args.memory.now) c.in-Err.ensures.stays.same c.requires.known))
     (few_opened (g.I.Ident.meaning c.args.ident.now) c.args.payload g.K.Keeper.contents g.K.Keeper.reads c.args.call.now c.args.keeper.now c.open.new.keeper c.in-Err.ensures.reads)
 
 pub returns-in-Ok-worked : goal.returns-in-Ok-worked

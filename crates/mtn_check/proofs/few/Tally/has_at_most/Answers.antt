@@ -1,9 +1,9 @@
 use Rattle.std.specs.Prelude.{IsTrue, ◌↔◌}
 use Rattle.std.proofs.Common.{◌≤◌, ◌+◌, not, ap, arith}
 use Rattle.mtn_check.specs.Tables.{HasAtMost}
-use Rattle.mtn_ports.proofs.KeptLemmas.{stays_trans}
+use Rattle.mtn_ports.proofs.KeptLemmas.{if_same, stays_trans}
 use Rattle.mtn_check.proofs.Counting.{all_counted, counted_told, more_told, none_told}
-use Rattle.mtn_check.proofs.Told.{each_told, nothing_yet, still}
+use Rattle.mtn_check.proofs.Told.{each_told, nothing_yet}
 use Rattle.mtn_check.proofs.few.Tally.has_at_most.Goals as goal
 
 pub returns-in_err-next-clause-stays : goal.returns-in_err-next-clause-stays
@@ -36,5 +36,5 @@ pub returns-clause-few : goal.returns-clause-few
 returns-clause-few g c =
     let told = counted_told (g.K.Keeper.contents c.loop-found.keeper) (g.K.Keeper.contents c.next-2.new.self) c.args.table c.loop-found._found c.loop-found.last.items c.deref-2.result.now c.next-2.ensures.stays.same c.deref-2.ensures.value c.loop-found.invariant.so_far
     c.in_ok-more.more c.next-2.new.key.items c.in_ok-more.ensures.keyed c.in_ok-more.ensures.above c.in_ok-more.ensures.found in
-    let within = still (g.K.Keeper.contents c.loop-found.keeper) (g.K.Keeper.contents c.next-2.new.self) (λ _. c.loop-found._found ≤ c.args.most) c.next-2.ensures.stays.same c.loop-found.invariant.within in
+    let within = if_same (g.K.Keeper.contents c.loop-found.keeper) (g.K.Keeper.contents c.next-2.new.self) (λ _. c.loop-found._found ≤ c.args.most) c.next-2.ensures.stays.same c.loop-found.invariant.within in
     all_counted c.loop-found._found c.args.most (g.K.Keeper.contents c.next-2.new.self) (λ n d. IsTrue (not c.in_ok-more.more) ↔ HasAtMost c.args.table n d) (λ less. omega (arith, less)) within told
