@@ -34,6 +34,7 @@ use Rattle.mtn_ports.specs.declared.batch.Put.{Put}
 use Rattle.mtn_step.specs.Step.{done, sound_text}
 use Rattle.mtn_step.specs.declared.call.Call.{Call}
 use Rattle.mtn_step.specs.declared.call.Call.TheVariants.{Check, PutRevision}
+use Rattle.mtn_reading.proofs.UnfitReading.{at_told}
 use Rattle.mtn_cli.specs.Step.{StepIn, present, whole}
 use Rattle.mtn_cli.specs.Store.{IsFirstLine, IsLine, IsOldStore, IsTold, ShowsDamage, bounds_in, changes_of, checks_store, migrates_store}
 
@@ -41,9 +42,6 @@ use Rattle.mtn_cli.specs.Store.{IsFirstLine, IsLine, IsOldStore, IsTold, ShowsDa
 pub not_checking : (call : Call) → call ≢ Check → checks_store (Some call) ≡ false
 not_checking Check other = absurd (other refl)
 not_checking call other = refl
-
-at_told : (o : Option Contents) (P : Contents → Type 0) (c : Contents) → o ≡ Some c → IfSome o P → P c
-at_told o P c now fact = subst (λ x. IfSome x P) now fact
 
 -- records that stand for a state are not of the older form
 pub not_old : (f : List ℕ → List ℕ) (c : Contents) (s : State) → Stands f c s → HasOldVersion c → ⊥

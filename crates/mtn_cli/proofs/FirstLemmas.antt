@@ -27,14 +27,8 @@ use Rattle.mtn_model.specs.Table.{Contents}
 use Rattle.mtn_ports.proofs.KeptLemmas.{stays_trans}
 use Rattle.mtn_ports.specs.Causes.{Rose}
 use Rattle.mtn_ports.specs.Kept.{IfTold, Same, Stays}
+use Rattle.mtn_reading.proofs.UnfitReading.{at_told, if_told}
 use Rattle.mtn_cli.specs.Store.{IsFirstLine, IsFirstShown, IsLine, IsOldStore, IsTold, MeetsDamage, ShowsDamage}
-
-at_told : (o : Option Contents) (P : Contents → Type 0) (c : Contents) → o ≡ Some c → IfSome o P → P c
-at_told o P c now fact = subst (λ x. IfSome x P) now fact
-
-told_by : (o : Option Contents) (P : Contents → Type 0) → ((c : Contents) → o ≡ Some c → P c) → IfSome o P
-told_by None P each = tt
-told_by (Some c) P each = each c refl
 
 -- an error of a check over records that stand for no state
 pub first_found : (f : List ℕ → List ℕ) (told : Option Contents) (before now : ℕ) (e : StoreError) (out : WorkError) → IsTold (Store e) out →
@@ -43,14 +37,14 @@ first_found f told before now Failed out is damaged failed = subst (IsFirstShown
 first_found f told before now NoMemory out is damaged failed = subst (IsFirstShown f told before now) (sym is) tt
 first_found f told before now (Damaged d) out (inr is) damaged failed = subst (IsFirstShown f told before now) (sym is) tt
 first_found f told before now (Damaged d) out (inl is) damaged failed = subst (IsFirstShown f told before now) (sym is)
-    ((d, refl), told_by told _ (λ c at. let found = at_told told (λ x. IsFirstDamage f x d × IsShown x d) c at damaged in (d, found.0, found.1, refl)))
+    ((d, refl), if_told told _ (λ c at. let found = at_told told (λ x. IsFirstDamage f x d × IsShown x d) c at damaged in (d, found.0, found.1, refl)))
 
 -- a check of such records finds a damage
 pub none_sound : (f : List ℕ → List ℕ) (old new : Option Contents) (before now count : ℕ) (line : List ℕ) → IsLine line → Same old new → IfSome old (λ c. ((s : State) → Stands f c s → ⊥) × ¬ HasOldVersion c) →
     IfSome new (λ c. (s : State) × Stands f c s × (count ≡ length s.log)) → IsFirstShown f new before now (work.Damaged line)
 none_sound f old new before now count line shows same none clean = (
   shows,
-  told_by new _ (λ c at.
+  if_told new _ (λ c at.
       let found = at_told new _ c at clean in absurd ((at_told old (λ x. ((s : State) → Stands f x s → ⊥) × ¬ HasOldVersion x) c (same c at) none).0 found.0 found.1)),
 )
 
@@ -59,7 +53,7 @@ pub none_refused : (f : List ℕ → List ℕ) (old new : Option Contents) (befo
     IfSome new (λ c. IsOfForm {A = ℕ} c (Err (history.Refused cause))) → IsFirstShown f new before now (work.Damaged line)
 none_refused f old new before now cause line shows same none form = (
   shows,
-  told_by new _ (λ c at.
+  if_told new _ (λ c at.
       absurd ((at_told old (λ x. ((s : State) → Stands f x s → ⊥) × ¬ HasOldVersion x) c (same c at) none).1 (at_told new (λ x. IsOfForm {A = ℕ} x (Err (history.Refused cause))) c at form).1)),
 )
 
@@ -81,7 +75,7 @@ module _ (f : List ℕ → List ℕ) {M : Type 0} (Knows : M → Contents → Ty
 
   -- over told records that a command found damaged there is no state
   pub none_stand : (old new : K) (line : List ℕ) → Met old new (Err (work.Damaged line)) → IfSome (contents new) (λ c. ((s : State) → Stands f c s → ⊥) × ¬ HasOldVersion c)
-  none_stand old new line met = told_by (contents new) _ (λ c at. (λ s stands. (met.reason.1 c at).no_state (Present s) stands, (met.reason.1 c at).present))
+  none_stand old new line met = if_told (contents new) _ (λ c at. (λ s stands. (met.reason.1 c at).no_state (Present s) stands, (met.reason.1 c at).present))
 
   -- no damage was met, or the command reads no packets: as it is
   pub as_met : (old new : K) (r : Result Worked WorkError) → ((line : List ℕ) → r ≡ Err (work.Damaged line) → reading ≡ false) → Met old new r → Shown old new r

@@ -34,6 +34,7 @@ use Rattle.mtn_ports.specs.declared.batch.Put.{Put}
 use Rattle.mtn_step.specs.Step.{refused as step_refused}
 use Rattle.mtn_step.specs.declared.call.Call.{Call}
 use Rattle.mtn_step.specs.declared.call.Call.TheVariants.{Migrate, PutRevision}
+use Rattle.mtn_reading.proofs.UnfitReading.{at_told}
 use Rattle.mtn_cli.specs.Step.{StepIn, whole}
 use Rattle.mtn_cli.specs.Store.{IsFirstLine, IsLine, IsOldStore, IsOutlasted, IsTold, ShowsDamage, bounds_in, changes_of, checks_store, migrates_store}
 
@@ -68,9 +69,6 @@ outlasts c (p ∷ puts) all =
     record { tables = λ t least most. rest.tables t least most ∙ first.tables t least most; count = rest.count ∙ first.count }
 
 -- ---- what it comes to
-
-at_told : (o : Option Contents) (P : Contents → Type 0) (c : Contents) → o ≡ Some c → IfSome o P → P c
-at_told o P c now fact = subst (λ x. IfSome x P) now fact
 
 -- a damage of the version is one of table 1
 of_version : (c : Contents) (d : Damage) → FormDamage c d → MetaDamage c d

@@ -42,11 +42,8 @@ use Rattle.mtn_commands.specs.Drafts.{Counts, HasCommandReason, IsCommandDamage,
 use Rattle.mtn_cli.specs.Step.{StepIn, present, whole}
 use Rattle.mtn_step.specs.Step.{Steps}
 use Rattle.mtn_step.specs.declared.call.Call.TheVariants.{Migrate}
+use Rattle.mtn_reading.proofs.UnfitReading.{at_told}
 use Rattle.mtn_cli.specs.Store.{IsFirstLine, IsLine, IsOldStore, IsTold, MeetsDamage, changes_of}
-
--- a fact of told records
-at_told : (o : Option Contents) (P : Contents → Type 0) (c : Contents) → o ≡ Some c → IfSome o P → P c
-at_told o P c now fact = subst (λ x. IfSome x P) now fact
 
 -- nothing was pending
 nothing_over : (p : Pending) (told : Option Contents) → p.batch ≡ [] → drafted p told ≡ told
