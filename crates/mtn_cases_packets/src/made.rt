@@ -58,44 +58,50 @@ fn repeated(alloc: Global, byte: u8, count: u64) -> Option<Bytes> {
     Some(Bytes::from_vec(bytes))
 }
 
-// A file and a certificate with values of so many bytes `a`.
-fn long(alloc: Global, args: &[Bytes]) -> Option<(Packet, Packet)> {
-    let [count] = args else {
-        return None;
-    };
-    let count = number(count.as_slice())?;
-    let id = Id([255; 20]);
-    let file = Packet::File {
+// A file of so many bytes `a`.
+fn long_file(alloc: Global, id: Id, count: u64) -> Option<Packet> {
+    Some(Packet::File {
         id,
         bytes: repeated(alloc, b'a', count)?,
-    };
-    let cert = Packet::Cert {
+    })
+}
+
+// A certificate with a value of so many bytes `a`.
+fn long_cert(alloc: Global, id: Id, count: u64) -> Option<Packet> {
+    Some(Packet::Cert {
         revision: id,
         name: repeated(alloc, b'n', 1)?,
         key: PacketKey::Id(id),
         value: repeated(alloc, b'a', count)?,
         signature: repeated(alloc, b's', count)?,
-    };
-    Some((file, cert))
+    })
 }
 
-// The two of `long` written, read back, and written.
-fn twice(alloc: Global, args: &[Bytes], out: &mut Vec<u8>) -> Option<()> {
-    let (file, cert) = long(alloc, args)?;
-    if !is_writable(&cert) {
-        return None;
-    }
-    if !is_writable(&file) {
-        return None;
-    }
-    let packets = [file, cert];
-    let again = read_back(alloc, &packets).ok()?;
-    for packet in &again {
+fn write_all(packets: &[Packet], out: &mut Vec<u8>) -> Option<()> {
+    for packet in packets {
         if is_writable(packet) {
             write(packet, out).ok()?;
         }
     }
     Some(())
+}
+
+// A file and a certificate of so many bytes written, read back, and written.
+fn twice(alloc: Global, args: &[Bytes], out: &mut Vec<u8>) -> Option<()> {
+    let [count] = args else {
+        return None;
+    };
+    let count = number(count.as_slice())?;
+    let id = Id([255; 20]);
+    let packets = [long_file(alloc, id, count)?, long_cert(alloc, id, count)?];
+    let [file, cert] = &packets;
+    if !is_writable(cert) {
+        return None;
+    }
+    if !is_writable(file) {
+        return None;
+    }
+    write_all(&read_back(alloc, &packets).ok()?, out)
 }
 
 /// `file ID BYTES`, `revision ID BYTES`, `cert REVISION NAME KIND KEY VALUE SIGNATURE` with the kind `id` or `name`, `passed`: the

@@ -60,6 +60,50 @@ fn at(batch: &Batch, text: &[u8], out: &mut Vec<u8>) -> Option<()> {
     }
 }
 
+// A step without arguments.
+fn bare(
+    alloc: Global,
+    batch: &mut Batch,
+    other: &mut Batch,
+    word: &[u8],
+    out: &mut Vec<u8>,
+) -> Option<()> {
+    match word {
+        b"append" => append(alloc, batch, other),
+        b"copy" => copy(batch),
+        b"len" => put_number(alloc, batch.len() as u64, out).ok(),
+        _ => None,
+    }
+}
+
+// A step with a number.
+fn counted(batch: &mut Batch, word: &[u8], number: &[u8], out: &mut Vec<u8>) -> Option<()> {
+    match word {
+        b"cut" => cut(batch, number),
+        b"at" => at(batch, number, out),
+        _ => None,
+    }
+}
+
+// A step with a table and a key.
+fn keyed(batch: &Batch, word: &[u8], table: &[u8], key: &[u8], out: &mut Vec<u8>) -> Option<()> {
+    match word {
+        b"find" => find(batch, table, key, out),
+        b"least" => least(batch, table, key, out),
+        _ => None,
+    }
+}
+
+// A step with a record.
+fn puts(batch: &mut Batch, other: &mut Batch, word: &[u8], record: [&[u8]; 3]) -> Option<()> {
+    let [table, key, body] = record;
+    match word {
+        b"put" => put(batch, table, key, body),
+        b"also" => put(other, table, key, body),
+        _ => None,
+    }
+}
+
 fn step(
     alloc: Global,
     batch: &mut Batch,
@@ -68,26 +112,17 @@ fn step(
     out: &mut Vec<u8>,
 ) -> Option<()> {
     let (word, args) = step.split_first()?;
-    match (word.as_slice(), args) {
-        (b"put", [table, key, body]) => put(
+    let word = word.as_slice();
+    match args {
+        [] => bare(alloc, batch, other, word, out),
+        [number] => counted(batch, word, number.as_slice(), out),
+        [table, key] => keyed(batch, word, table.as_slice(), key.as_slice(), out),
+        [table, key, body] => puts(
             batch,
-            table.as_slice(),
-            key.as_slice(),
-            body.as_slice(),
-        ),
-        (b"also", [table, key, body]) => put(
             other,
-            table.as_slice(),
-            key.as_slice(),
-            body.as_slice(),
+            word,
+            [table.as_slice(), key.as_slice(), body.as_slice()],
         ),
-        (b"append", []) => append(alloc, batch, other),
-        (b"copy", []) => copy(batch),
-        (b"cut", [len]) => cut(batch, len.as_slice()),
-        (b"len", []) => put_number(alloc, batch.len() as u64, out).ok(),
-        (b"at", [place]) => at(batch, place.as_slice(), out),
-        (b"find", [table, key]) => find(batch, table.as_slice(), key.as_slice(), out),
-        (b"least", [table, after]) => least(batch, table.as_slice(), after.as_slice(), out),
         _ => None,
     }
 }

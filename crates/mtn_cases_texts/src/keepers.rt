@@ -42,6 +42,40 @@ fn apply<K: Keeper>(
     }
 }
 
+// The next record.
+fn record<K: Keeper>(
+    alloc: Global,
+    keeper: &mut K,
+    table: u8,
+    after: &[u8],
+    out: &mut Vec<u8>,
+) -> Option<()> {
+    let mut key = Vec::new(alloc);
+    let mut body = Vec::new(alloc);
+    let found = keeper.next_record(table, after, &mut key, &mut body);
+    key.push(b'=').ok()?;
+    key.extend_from_slice(&body).ok()?;
+    said(found, &key, out)
+}
+
+// The body under a key, or the next key.
+fn text<K: Keeper>(
+    alloc: Global,
+    keeper: &mut K,
+    is_body: bool,
+    table: u8,
+    key: &[u8],
+    out: &mut Vec<u8>,
+) -> Option<()> {
+    let mut text = Vec::new(alloc);
+    let found = if is_body {
+        keeper.get(table, key, &mut text)
+    } else {
+        keeper.next(table, key, &mut text)
+    };
+    said(found, &text, out)
+}
+
 fn ask<K: Keeper>(
     alloc: Global,
     keeper: &mut K,
@@ -53,18 +87,17 @@ fn ask<K: Keeper>(
         return None;
     };
     let table = u8::try_from(number(table.as_slice())?).ok()?;
-    let mut text = Vec::new(alloc);
-    let mut body = Vec::new(alloc);
-    let found = match word {
-        b"get" => keeper.get(table, key.as_slice(), &mut text),
-        b"record" => keeper.next_record(table, key.as_slice(), &mut text, &mut body),
-        _ => keeper.next(table, key.as_slice(), &mut text),
-    };
-    if word == b"record".as_slice() {
-        text.push(b'=').ok()?;
-        text.extend_from_slice(&body).ok()?;
+    match word {
+        b"record" => record(alloc, keeper, table, key.as_slice(), out),
+        word => text(
+            alloc,
+            keeper,
+            word == b"get".as_slice(),
+            table,
+            key.as_slice(),
+            out,
+        ),
     }
-    said(found, &text, out)
 }
 
 fn steps<K: Keeper>(alloc: Global, keeper: &mut K, all: &[Bytes], out: &mut Vec<u8>) -> Option<()> {

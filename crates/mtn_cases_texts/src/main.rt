@@ -21,16 +21,22 @@ use mtn_base::Bytes;
 use std::alloc::Global;
 use std::io::{self, Read, Write};
 
+// What takes a list of changes, or a revision.
+fn of_changes(alloc: Global, word: &[u8], text: &[u8], out: &mut Vec<u8>) -> Option<bool> {
+    match word {
+        b"changes" | b"revision" | b"kinds" | b"sorted" => changes::answer(alloc, word, text, out)?,
+        b"stanzas" => texts::stanzas(alloc, text, out)?,
+        _ => return Some(false),
+    }
+    Some(true)
+}
+
 // What takes all that stands behind the word as one text.
 fn of_text(alloc: Global, word: &[u8], text: &[u8], out: &mut Vec<u8>) -> Option<bool> {
     match word {
         b"path" | b"comp" | b"id" => base::of_one(alloc, word, text, out)?,
-        b"stanzas" => texts::stanzas(alloc, text, out)?,
-        b"changes" | b"revision" | b"kinds" | b"sorted" => {
-            changes::answer(alloc, word, text, out)?
-        }
         b"sha1" | b"toy" => idents::answer(word, text, out)?,
-        _ => return Some(false),
+        _ => return of_changes(alloc, word, text, out),
     }
     Some(true)
 }
