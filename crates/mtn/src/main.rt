@@ -7,6 +7,7 @@
 #![tactic(auto)]
 
 mod help;
+mod keeper;
 mod line;
 mod store;
 

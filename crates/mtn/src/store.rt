@@ -1,9 +1,10 @@
 // A command over the store that the first word names.
+use crate::keeper::StoreKeeper;
 use mtn_base::Bytes;
 use mtn_cli::{Status, run};
 use mtn_keeper::{DatabaseFile, LazyKeeper};
 use mtn_pieces::{FreeGate, Sha1Many};
-use mtn_ports::{Batch, KeepError, Keeper, MemKeeper, StdSink, StdSource};
+use mtn_ports::{Batch, KeepError, MemKeeper, StdSink, StdSource};
 use std::fs;
 use std::thread::Threads;
 
@@ -14,7 +15,7 @@ const PIECES: usize = 4;
 pub fn in_memory<T: Threads + Sync>(threads: &T, rt: &HostRuntime, words: &[Bytes]) -> Status {
     let alloc = rt.alloc();
     match MemKeeper::new(Batch::new(alloc), Vec::new(alloc)) {
-        Ok(mut keeper) => over(threads, rt, words, &mut keeper),
+        Ok(keeper) => over(threads, rt, words, &mut StoreKeeper::Memory(keeper)),
         Err(_) => Status::NoMemory,
     }
 }
@@ -28,15 +29,23 @@ pub fn in_file<T: Threads + Sync>(
     words: &[Bytes],
 ) -> Status {
     let mut keeper = match keeper_at(rt, path) {
-        Ok(keeper) => keeper,
+        Ok(keeper) => StoreKeeper::File(keeper),
         Err(KeepError::NoMemory) => return Status::NoMemory,
         Err(KeepError::Failed) => return Status::StoreFault,
     };
     let status = over(threads, rt, words, &mut keeper);
+    close(keeper);
+    status
+}
+
+// Closes the file, if there is one.
+fn close(keeper: StoreKeeper<'_>) {
+    let StoreKeeper::File(keeper) = keeper else {
+        return;
+    };
     if let Some(connection) = keeper.into_connection() {
         let _ = connection.close();
     }
-    status
 }
 
 // The keeper over a file, which is opened at once where it may be there.
@@ -57,11 +66,11 @@ fn is_missing(rt: &HostRuntime, path: &str) -> bool {
     matches!(fs::exists(rt, path), Ok(false))
 }
 
-fn over<T: Threads + Sync, K: Keeper>(
+fn over<T: Threads + Sync>(
     threads: &T,
     rt: &HostRuntime,
     words: &[Bytes],
-    keeper: &mut K,
+    keeper: &mut StoreKeeper<'_>,
 ) -> Status {
     let mut source = StdSource::new(rt.stdin());
     let mut sink = StdSink::new(rt.stdout());

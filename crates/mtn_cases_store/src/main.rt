@@ -17,6 +17,7 @@
 #![tactic(auto)]
 
 mod held;
+mod ids;
 mod parts;
 mod session;
 

@@ -1,12 +1,13 @@
 // Sessions of commands over a keeper in memory.
 use crate::held::Held;
+use crate::ids::Ids;
 use mtn_base::{Bytes, Id};
 use mtn_case_records::text::{
     first_word, number_of, numbers_of, plain, put_escaped, put_hex, put_number, words_of,
 };
-use mtn_cli::{Status, run};
+use mtn_cli::run;
 use mtn_history::{Draft, Memory, Pending};
-use mtn_ports::{Batch, Keeper, MemKeeper, MemSink, MemSource, Sha1One, Toy};
+use mtn_ports::{Batch, Keeper, MemKeeper, MemSink, MemSource};
 use std::alloc::Global;
 use std::thread::Threads;
 
@@ -37,7 +38,7 @@ impl Given {
 #[derive(Drop)]
 pub struct Session {
     held: Held,
-    is_toy: bool,
+    ids: Ids,
     given: Given,
 }
 
@@ -54,33 +55,6 @@ fn filled(alloc: Global, count: &[u8]) -> Option<Vec<u8>> {
     let mut payload = Vec::new(alloc);
     payload.resize(number_of(count)? as usize, b'a').ok()?;
     Some(payload)
-}
-
-// One command over a keeper; its status, and what it wrote.
-fn done<T: Threads + Sync, K: Keeper>(
-    threads: &T,
-    alloc: Global,
-    words: &[Bytes],
-    is_toy: bool,
-    given: Given,
-    keeper: &mut K,
-) -> Option<(Status, Vec<u8>)> {
-    let mut source = MemSource::new(given.payload, given.source);
-    let mut sink = MemSink::new(alloc, given.room, given.sink).ok()?;
-    let status = if is_toy {
-        run(threads, alloc, words, &Toy, &mut source, &mut sink, keeper)
-    } else {
-        run(
-            threads,
-            alloc,
-            words,
-            &Sha1One,
-            &mut source,
-            &mut sink,
-            keeper,
-        )
-    };
-    Some((status, sink.written().to_vec(alloc).ok()?))
 }
 
 // How many reads a draft takes that is asked so often for a roster.
@@ -106,7 +80,7 @@ impl Session {
     pub fn new(alloc: Global) -> Option<Session> {
         Some(Session {
             held: Held::new(alloc, b"plain", Vec::new(alloc))?,
-            is_toy: false,
+            ids: Ids::Sha1,
             given: Given::new(alloc),
         })
     }
@@ -116,7 +90,11 @@ impl Session {
         let (kind, rest) = first_word(rest);
         let (ident, failing) = first_word(rest);
         self.held = Held::new(alloc, kind, numbers_of(alloc, failing)?)?;
-        self.is_toy = ident == b"toy".as_slice();
+        self.ids = if ident == b"toy".as_slice() {
+            Ids::Toys
+        } else {
+            Ids::Sha1
+        };
         self.given = Given::new(alloc);
         Some(())
     }
@@ -165,16 +143,21 @@ impl Session {
         out: &mut Vec<u8>,
     ) -> Option<()> {
         let words = words_of(alloc, rest)?;
-        let words = words.as_slice();
-        let is_toy = self.is_toy;
         let given = std::mem::replace(&mut self.given, Given::new(alloc));
-        let (status, written) = match &mut self.held {
-            Held::Plain(keeper) => done(threads, alloc, words, is_toy, given, keeper)?,
-            Held::Doubtful(keeper) => done(threads, alloc, words, is_toy, given, keeper)?,
-        };
+        let mut source = MemSource::new(given.payload, given.source);
+        let mut sink = MemSink::new(alloc, given.room, given.sink).ok()?;
+        let status = run(
+            threads,
+            alloc,
+            &words,
+            &self.ids,
+            &mut source,
+            &mut sink,
+            &mut self.held,
+        );
         put_number(alloc, u64::from(status.number()), out)?;
         out.push(b' ').ok()?;
-        put_escaped(&written, out)
+        put_escaped(sink.written(), out)
     }
 
     // The body under a key, or the next key.

@@ -20,3 +20,5 @@ mod running;
 mod threads;
 #[cfg(test)]
 mod verdicts;
+#[cfg(test)]
+mod watched;

@@ -1,7 +1,8 @@
 // `run` as a library call, over objects in memory.
+use crate::watched::Watched;
 use mtn_base::Bytes;
 use mtn_cli::run;
-use mtn_ports::{Batch, Ident, MemKeeper, MemSink, MemSource, Sha1One};
+use mtn_ports::{Batch, MemKeeper, MemSink, MemSource};
 use std::alloc::Global;
 use std::test::Fail;
 use std::thread::Threads;
@@ -20,10 +21,10 @@ fn words_of(alloc: Global, texts: &[&[u8]]) -> Option<Vec<Bytes>> {
 }
 
 /// The status of a command, and what it prints, over a store in memory.
-pub fn answer<R: Threads + Sync, I: Ident>(
+pub fn answer<R: Threads + Sync>(
     rt: &R,
     alloc: Global,
-    ident: &I,
+    ident: &Watched<'_>,
     command: &[&[u8]],
     payload: &[u8],
     store: &mut MemKeeper,
@@ -39,7 +40,7 @@ fn put_file<R: Threads + Sync>(rt: &R, alloc: Global, text: &[u8]) -> Option<(u8
     answer(
         rt,
         alloc,
-        &Sha1One,
+        &Watched::new(None),
         &[b"put_file"],
         text,
         &mut new_store(alloc)?,
