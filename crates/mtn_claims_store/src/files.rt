@@ -47,10 +47,7 @@ pub fn file<K: Keeper>(
     id: Id,
     out: &mut Vec<u8>,
 ) -> Result<(), HistoryError>
-    ensures same_reference { draft.new.keeper.ghost_name ≡ draft.old.keeper.ghost_name }
-    ensures stays { Stays K.contents K.leaves K.faults draft.old.keeper.now draft.new.keeper.now }
-    ensures pending { draft.new.pending ≡ draft.old.pending }
-    ensures reads { K.reads draft.new.keeper.now ≤ K.reads draft.old.keeper.now + 1 }
+    ensures asks { OnlyAsks K.contents K.leaves K.faults K.reads 1 draft.old draft.new }
     ensures finds { (f : List ℕ → List ℕ) (c : Contents) (s : State) → K.contents draft.new.keeper.now ≡ Some c → IsDraft f c draft.old.pending s
         → FindsFile s id result out.new.items }
     ensures sound { IfErr result (λ e. IfStoreDamage e (λ _. ⊥)) }

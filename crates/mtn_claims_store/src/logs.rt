@@ -25,10 +25,7 @@ pub fn text_of<K: Keeper>(
     id: Id,
     out: &mut Vec<u8>,
 ) -> Result<(), HistoryError>
-    ensures same_reference { draft.new.keeper.ghost_name ≡ draft.old.keeper.ghost_name }
-    ensures stays { Stays K.contents K.leaves K.faults draft.old.keeper.now draft.new.keeper.now }
-    ensures pending { draft.new.pending ≡ draft.old.pending }
-    ensures reads { K.reads draft.new.keeper.now ≤ K.reads draft.old.keeper.now + 1 }
+    ensures asks { OnlyAsks K.contents K.leaves K.faults K.reads 1 draft.old draft.new }
     ensures finds { (f : List ℕ → List ℕ) (c : Contents) (s : State) → K.contents draft.new.keeper.now ≡ Some c → IsDraft f c draft.old.pending s
         → FindsText s id result out.new.items }
     ensures damaged { IfSome (K.contents draft.new.keeper.now) (λ c. IfErr result (λ e. IfStoreDamage e (TextDamage (with_all c draft.old.pending.batch)))) }
@@ -67,10 +64,7 @@ pub fn log_at<K: Keeper>(draft: &mut Draft<'_, K>, at: Pos) -> Result<LogRecord,
 
 /// `Draft::graph`.
 pub fn graph<K: Keeper>(draft: &mut Draft<'_, K>) -> Result<Graph, StoreError>
-    ensures same_reference { draft.new.keeper.ghost_name ≡ draft.old.keeper.ghost_name }
-    ensures stays { Stays K.contents K.leaves K.faults draft.old.keeper.now draft.new.keeper.now }
-    ensures pending { draft.new.pending ≡ draft.old.pending }
-    ensures reads { K.reads draft.new.keeper.now ≤ K.reads draft.old.keeper.now + (draft.old.pending.count + 1) }
+    ensures asks { OnlyAsks K.contents K.leaves K.faults K.reads (draft.old.pending.count + 1) draft.old draft.new }
     ensures read { IfSome (K.contents draft.new.keeper.now) (λ c. IfOk result (IsReadTo (with_all c draft.old.pending.batch) draft.old.pending.count)) }
     ensures found { (f : List ℕ → List ℕ) (s : State) (d : IsFounded f (K.contents draft.new.keeper.now) draft.old.pending s) → IfOk result (IsGraphOf d.stands.history) }
     ensures damaged { IfSome (K.contents draft.new.keeper.now) (λ c. IfErr result (λ e. IfDamage e (WrongBelow draft.old.pending.count (with_all c draft.old.pending.batch)))) }

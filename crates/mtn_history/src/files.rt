@@ -93,10 +93,8 @@ impl<'a, K: Keeper> Draft<'a, K> {
     /// Replaces `out` by the bytes of a file; UnknownFile where none is held under the id. After an
     /// error `out` may hold anything. What is pending stays.
     pub fn file(&mut self, id: Id, out: &mut Vec<u8>) -> Result<(), HistoryError>
-        ensures same_reference { self.new.keeper.ghost_name ≡ self.old.keeper.ghost_name }
-        ensures stays { Stays K.contents K.leaves K.faults self.old.keeper.now self.new.keeper.now }
-        ensures pending { self.new.pending ≡ self.old.pending }
-        ensures reads { K.reads self.new.keeper.now ≤ K.reads self.old.keeper.now + 1 }
+        ensures asks { OnlyAsks K.contents K.leaves K.faults K.reads 1 self.old self.new }
+
         ensures finds { (f : List ℕ → List ℕ) (c : Contents) (s : State) → K.contents self.new.keeper.now ≡ Some c → IsDraft f c self.old.pending s
             → FindsFile s id result out.new.items }
         ensures sound { IfErr result (λ e. IfStoreDamage e (λ _. ⊥)) }

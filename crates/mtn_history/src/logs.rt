@@ -4,7 +4,7 @@ ghost use Rattle.mtn_history_laws.specs.History.{IsPlaceOf};
 ghost use Rattle.mtn_replay.specs.Graphs.{IsGraphOf};
 ghost use Rattle.mtn_model.specs.State.{State};
 ghost use Rattle.mtn_ports.specs.Causes.{Rose};
-ghost use Rattle.mtn_ports.specs.Kept.{Stays, with_all};
+ghost use Rattle.mtn_ports.specs.Kept.{with_all};
 ghost use Rattle.mtn_records.specs.Bounds.{IsLogWithin};
 ghost use Rattle.mtn_history.specs.Asking.{OnlyAsks};
 ghost use Rattle.mtn_history.specs.Errors.{IfDamage};
@@ -103,10 +103,8 @@ impl<'a, K: Keeper> Draft<'a, K> {
     /// The graph that the log tells. It asks for each record of the log once. Over records that stand for a state it is that
     /// of the history.
     pub fn graph(&mut self) -> Result<Graph, StoreError>
-        ensures same_reference { self.new.keeper.ghost_name ≡ self.old.keeper.ghost_name }
-        ensures stays { Stays K.contents K.leaves K.faults self.old.keeper.now self.new.keeper.now }
-        ensures pending { self.new.pending ≡ self.old.pending }
-        ensures reads { K.reads self.new.keeper.now ≤ K.reads self.old.keeper.now + (self.old.pending.count + 1) }
+        ensures asks { OnlyAsks K.contents K.leaves K.faults K.reads (self.old.pending.count + 1) self.old self.new }
+
         ensures read { IfSome (K.contents self.new.keeper.now) (λ c. IfOk result (IsReadTo (with_all c self.old.pending.batch) self.old.pending.count)) }
         ensures found { (f : List ℕ → List ℕ) (s : State) (d : IsFounded f (K.contents self.new.keeper.now) self.old.pending s) → IfOk result (IsGraphOf d.stands.history) }
         ensures damaged { IfSome (K.contents self.new.keeper.now) (λ c. IfErr result (λ e. IfDamage e (WrongBelow self.old.pending.count (with_all c self.old.pending.batch)))) }

@@ -1,9 +1,10 @@
 // Texts of revisions, found.
-ghost use Rattle.std.specs.Prelude.{◌≡◌, ◌+◌, ◌++◌, ◌≤◌, List, ℕ, Some, Err, drop, length, IfErr, IfSome, OnErr};
+ghost use Rattle.std.specs.Prelude.{◌≡◌, List, ℕ, Some, Err, IfErr, IfSome};
 ghost use Rattle.mtn_model.specs.Table.{Contents};
 ghost use Rattle.mtn_model.specs.State.{State};
 ghost use Rattle.mtn_ports.specs.Causes.{Rose};
-ghost use Rattle.mtn_ports.specs.Kept.{Stays, with_all};
+ghost use Rattle.mtn_ports.specs.Kept.{with_all};
+ghost use Rattle.mtn_history.specs.Asking.{OnlyAsks};
 ghost use Rattle.mtn_history.specs.Errors.{IfStoreDamage};
 ghost use Rattle.mtn_history.specs.Stands.{IsDraft};
 ghost use Rattle.mtn_history.specs.Texts.{FindsText, TextDamage};
@@ -20,10 +21,8 @@ impl<'a, K: Keeper> Draft<'a, K> {
     /// Replaces `out` by the text of a revision; UnknownRevision where the log has no such id. After an error `out` may
     /// hold anything. What is pending stays.
     pub fn text_of(&mut self, id: Id, out: &mut Vec<u8>) -> Result<(), HistoryError>
-        ensures same_reference { self.new.keeper.ghost_name ≡ self.old.keeper.ghost_name }
-        ensures stays { Stays K.contents K.leaves K.faults self.old.keeper.now self.new.keeper.now }
-        ensures pending { self.new.pending ≡ self.old.pending }
-        ensures reads { K.reads self.new.keeper.now ≤ K.reads self.old.keeper.now + 1 }
+        ensures asks { OnlyAsks K.contents K.leaves K.faults K.reads 1 self.old self.new }
+
         ensures finds { (f : List ℕ → List ℕ) (c : Contents) (s : State) → K.contents self.new.keeper.now ≡ Some c → IsDraft f c self.old.pending s
             → FindsText s id result out.new.items }
         ensures damaged { IfSome (K.contents self.new.keeper.now) (λ c. IfErr result (λ e. IfStoreDamage e (TextDamage (with_all c self.old.pending.batch)))) }

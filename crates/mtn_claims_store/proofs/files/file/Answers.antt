@@ -1,17 +1,8 @@
 use Rattle.std.proofs.Common.{rules}
 use Rattle.mtn_claims_store.proofs.files.file.Goals as goal
 
-pub returns-clause-same_reference : goal.returns-clause-same_reference
-returns-clause-same_reference g c = search rules
-
-pub returns-clause-stays : goal.returns-clause-stays
-returns-clause-stays g c = search rules
-
-pub returns-clause-pending : goal.returns-clause-pending
-returns-clause-pending g c = search rules
-
-pub returns-clause-reads : goal.returns-clause-reads
-returns-clause-reads g c = search rules
+pub returns-clause-asks : goal.returns-clause-asks
+returns-clause-asks g c = search rules
 
 pub returns-clause-finds : goal.returns-clause-finds
 returns-clause-finds g c = search rules

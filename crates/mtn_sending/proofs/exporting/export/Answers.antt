@@ -44,7 +44,7 @@ returns-in_err-ids-clause-damaged g c =
     asking_damages (g.K.Keeper.contents c.graph.new.self.keeper.now) c.args.draft.now.pending c.from_residual-in_err-ids.result c.in_err-ids.field-0.0 (p.1 ∙ ap Err p.2) c.in_err-ids.ensures.sound
 
 pub returns-in_err-send_all-clause-stays : goal.returns-in_err-send_all-clause-stays
-returns-in_err-send_all-clause-stays g c = stays_trans g.K.Keeper.contents g.K.Keeper.leaves g.K.Keeper.faults _ _ _ c.graph.ensures.stays c.send_all.ensures.stays
+returns-in_err-send_all-clause-stays g c = stays_trans g.K.Keeper.contents g.K.Keeper.leaves g.K.Keeper.faults _ _ _ c.graph.ensures.asks.stays c.send_all.ensures.stays
 
 pub returns-in_err-send_all-clause-found : goal.returns-in_err-send_all-clause-found
 returns-in_err-send_all-clause-found g c = λ f k s at draft.
@@ -68,7 +68,7 @@ returns-in_err-send_all-clause-damaged g c =
     c.in_err-send_all.field-0.0 c.new-text.result.items c.send_all.new.out.items (subst (λ l. FindsAll {X = Unit {0}} (g.K.Keeper.contents c.send_all.new.draft.keeper.now) c.graph.new.self.pending l c.new-text.result.items c.send_all.new.out.items (Err c.in_err-send_all.field-0.0)) c.as_slice.ensures c.in_err-send_all.ensures.found) c.from_residual-in_err-send_all.result (p.1 ∙ ap Err p.2) c.in_ok-graph.ensures.read c.in_err-send_all.ensures.shown
 
 pub returns-clause-stays : goal.returns-clause-stays
-returns-clause-stays g c = stays_trans g.K.Keeper.contents g.K.Keeper.leaves g.K.Keeper.faults _ _ _ c.graph.ensures.stays c.send_all.ensures.stays
+returns-clause-stays g c = stays_trans g.K.Keeper.contents g.K.Keeper.leaves g.K.Keeper.faults _ _ _ c.graph.ensures.asks.stays c.send_all.ensures.stays
 
 pub returns-clause-found : goal.returns-clause-found
 returns-clause-found g c = λ f k s at draft.

@@ -9,17 +9,11 @@ use Rattle.mtn_history.proofs.LogLemmas.{repeated, read_more, known, found_at, o
 use Rattle.mtn_history.proofs.MarkedLemmas.{graph_is}
 use Rattle.mtn_history.proofs.draft.Draft.graph.Goals as goal
 
-pub returns-in_err-log-clause-stays : goal.returns-in_err-log-clause-stays
-returns-in_err-log-clause-stays g c = let a = asks_within g.K.Keeper.contents g.K.Keeper.leaves g.K.Keeper.faults g.K.Keeper.reads (c.loop-at.at + 1) (c.args.self.now.pending.count + 1) c.args.self.now c.logged.new.self (omega (arith, c.loop-at-test.true, c.count-at-end.ensures)) (asks_on g.K.Keeper.contents g.K.Keeper.leaves g.K.Keeper.faults g.K.Keeper.reads c.loop-at.at 1 c.args.self.now c.loop-at.self c.logged.new.self c.loop-at.invariant.asks c.logged.ensures.asks) in a.stays
+pub returns-in_err-log-clause-asks : goal.returns-in_err-log-clause-asks
+returns-in_err-log-clause-asks g c = asks_within g.K.Keeper.contents g.K.Keeper.leaves g.K.Keeper.faults g.K.Keeper.reads (c.loop-at.at + 1) (c.args.self.now.pending.count + 1) c.args.self.now c.logged.new.self (omega (arith, c.loop-at-test.true, c.count-at-end.ensures)) (asks_on g.K.Keeper.contents g.K.Keeper.leaves g.K.Keeper.faults g.K.Keeper.reads c.loop-at.at 1 c.args.self.now c.loop-at.self c.logged.new.self c.loop-at.invariant.asks c.logged.ensures.asks)
 
-pub returns-in_err-log-clause-reads : goal.returns-in_err-log-clause-reads
-returns-in_err-log-clause-reads g c = let a = asks_within g.K.Keeper.contents g.K.Keeper.leaves g.K.Keeper.faults g.K.Keeper.reads (c.loop-at.at + 1) (c.args.self.now.pending.count + 1) c.args.self.now c.logged.new.self (omega (arith, c.loop-at-test.true, c.count-at-end.ensures)) (asks_on g.K.Keeper.contents g.K.Keeper.leaves g.K.Keeper.faults g.K.Keeper.reads c.loop-at.at 1 c.args.self.now c.loop-at.self c.logged.new.self c.loop-at.invariant.asks c.logged.ensures.asks) in a.reads
-
-pub returns-then-is_some-clause-stays : goal.returns-then-is_some-clause-stays
-returns-then-is_some-clause-stays g c = let a = asks_within g.K.Keeper.contents g.K.Keeper.leaves g.K.Keeper.faults g.K.Keeper.reads (c.loop-at.at + 1 + 1) (c.args.self.now.pending.count + 1) c.args.self.now c.log_held.new.self (omega (arith, c.loop-at-test.true, c.count-at-end.ensures)) (asks_on g.K.Keeper.contents g.K.Keeper.leaves g.K.Keeper.faults g.K.Keeper.reads (c.loop-at.at + 1) 1 c.args.self.now c.logged.new.self c.log_held.new.self (asks_on g.K.Keeper.contents g.K.Keeper.leaves g.K.Keeper.faults g.K.Keeper.reads c.loop-at.at 1 c.args.self.now c.loop-at.self c.logged.new.self c.loop-at.invariant.asks c.logged.ensures.asks) c.log_held.ensures.asks) in a.stays
-
-pub returns-then-is_some-clause-reads : goal.returns-then-is_some-clause-reads
-returns-then-is_some-clause-reads g c = let a = asks_within g.K.Keeper.contents g.K.Keeper.leaves g.K.Keeper.faults g.K.Keeper.reads (c.loop-at.at + 1 + 1) (c.args.self.now.pending.count + 1) c.args.self.now c.log_held.new.self (omega (arith, c.loop-at-test.true, c.count-at-end.ensures)) (asks_on g.K.Keeper.contents g.K.Keeper.leaves g.K.Keeper.faults g.K.Keeper.reads (c.loop-at.at + 1) 1 c.args.self.now c.logged.new.self c.log_held.new.self (asks_on g.K.Keeper.contents g.K.Keeper.leaves g.K.Keeper.faults g.K.Keeper.reads c.loop-at.at 1 c.args.self.now c.loop-at.self c.logged.new.self c.loop-at.invariant.asks c.logged.ensures.asks) c.log_held.ensures.asks) in a.reads
+pub returns-then-is_some-clause-asks : goal.returns-then-is_some-clause-asks
+returns-then-is_some-clause-asks g c = asks_within g.K.Keeper.contents g.K.Keeper.leaves g.K.Keeper.faults g.K.Keeper.reads (c.loop-at.at + 1 + 1) (c.args.self.now.pending.count + 1) c.args.self.now c.log_held.new.self (omega (arith, c.loop-at-test.true, c.count-at-end.ensures)) (asks_on g.K.Keeper.contents g.K.Keeper.leaves g.K.Keeper.faults g.K.Keeper.reads (c.loop-at.at + 1) 1 c.args.self.now c.logged.new.self c.log_held.new.self (asks_on g.K.Keeper.contents g.K.Keeper.leaves g.K.Keeper.faults g.K.Keeper.reads c.loop-at.at 1 c.args.self.now c.loop-at.self c.logged.new.self c.loop-at.invariant.asks c.logged.ensures.asks) c.log_held.ensures.asks)
 
 pub returns-then-is_some-clause-damaged : goal.returns-then-is_some-clause-damaged
 returns-then-is_some-clause-damaged g c =
@@ -33,11 +27,8 @@ returns-then-is_some-clause-damaged g c =
 pub push-requires-clause-known : goal.push-requires-clause-known
 push-requires-clause-known g c = known c.loop-at.at c.loop-at.graph c.in_ok-log.log c.in_ok-log.ensures.below c.loop-at.invariant.long
 
-pub returns-in_err-push-clause-stays : goal.returns-in_err-push-clause-stays
-returns-in_err-push-clause-stays g c = let a = asks_within g.K.Keeper.contents g.K.Keeper.leaves g.K.Keeper.faults g.K.Keeper.reads (c.loop-at.at + 1) (c.args.self.now.pending.count + 1) c.args.self.now c.logged.new.self (omega (arith, c.loop-at-test.true, c.count-at-end.ensures)) (asks_on g.K.Keeper.contents g.K.Keeper.leaves g.K.Keeper.faults g.K.Keeper.reads c.loop-at.at 1 c.args.self.now c.loop-at.self c.logged.new.self c.loop-at.invariant.asks c.logged.ensures.asks) in a.stays
-
-pub returns-in_err-push-clause-reads : goal.returns-in_err-push-clause-reads
-returns-in_err-push-clause-reads g c = let a = asks_within g.K.Keeper.contents g.K.Keeper.leaves g.K.Keeper.faults g.K.Keeper.reads (c.loop-at.at + 1) (c.args.self.now.pending.count + 1) c.args.self.now c.logged.new.self (omega (arith, c.loop-at-test.true, c.count-at-end.ensures)) (asks_on g.K.Keeper.contents g.K.Keeper.leaves g.K.Keeper.faults g.K.Keeper.reads c.loop-at.at 1 c.args.self.now c.loop-at.self c.logged.new.self c.loop-at.invariant.asks c.logged.ensures.asks) in a.reads
+pub returns-in_err-push-clause-asks : goal.returns-in_err-push-clause-asks
+returns-in_err-push-clause-asks g c = asks_within g.K.Keeper.contents g.K.Keeper.leaves g.K.Keeper.faults g.K.Keeper.reads (c.loop-at.at + 1) (c.args.self.now.pending.count + 1) c.args.self.now c.logged.new.self (omega (arith, c.loop-at-test.true, c.count-at-end.ensures)) (asks_on g.K.Keeper.contents g.K.Keeper.leaves g.K.Keeper.faults g.K.Keeper.reads c.loop-at.at 1 c.args.self.now c.loop-at.self c.logged.new.self c.loop-at.invariant.asks c.logged.ensures.asks)
 
 pub loop-at-preserved : goal.loop-at-preserved
 loop-at-preserved g c = record {
@@ -47,11 +38,8 @@ loop-at-preserved g c = record {
       (subst (λ (p : Pending). IfSome (g.K.Keeper.contents c.logged.new.self.keeper.now) (λ d. IsLogged (with_all d p.batch) c.loop-at.at c.in_ok-log.log)) c.loop-at.invariant.asks.pending c.in_ok-log.ensures.read) c.in_ok-push.ensures.ok;
 }
 
-pub returns-clause-stays : goal.returns-clause-stays
-returns-clause-stays g c = let a = asks_within g.K.Keeper.contents g.K.Keeper.leaves g.K.Keeper.faults g.K.Keeper.reads c.loop-at.at (c.args.self.now.pending.count + 1) c.args.self.now c.loop-at.self (omega (arith, c.loop-at.auto, c.count-at-end.ensures)) c.loop-at.invariant.asks in a.stays
-
-pub returns-clause-reads : goal.returns-clause-reads
-returns-clause-reads g c = let a = asks_within g.K.Keeper.contents g.K.Keeper.leaves g.K.Keeper.faults g.K.Keeper.reads c.loop-at.at (c.args.self.now.pending.count + 1) c.args.self.now c.loop-at.self (omega (arith, c.loop-at.auto, c.count-at-end.ensures)) c.loop-at.invariant.asks in a.reads
+pub returns-clause-asks : goal.returns-clause-asks
+returns-clause-asks g c = asks_within g.K.Keeper.contents g.K.Keeper.leaves g.K.Keeper.faults g.K.Keeper.reads c.loop-at.at (c.args.self.now.pending.count + 1) c.args.self.now c.loop-at.self (omega (arith, c.loop-at.auto, c.count-at-end.ensures)) c.loop-at.invariant.asks
 
 pub returns-clause-found : goal.returns-clause-found
 returns-clause-found g c f s d =
