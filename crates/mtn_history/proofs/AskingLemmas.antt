@@ -19,3 +19,7 @@ module _ {K : Type 0} (contents : K → Option Contents) (leaves : K → Content
 
   pub asks_within : (m n : ℕ) (a b : DraftValue K) → m ≤ n → OnlyAsks contents leaves faults asked m a b → OnlyAsks contents leaves faults asked n a b
   asks_within m n a b le x = record { same_reference = x.same_reference; stays = x.stays; pending = x.pending; reads = omega (arith, x.reads, le) }
+
+  -- the same where fewer were asked for
+  pub asks_fewer : (m n : ℕ) (a b : DraftValue K) → OnlyAsks contents leaves faults asked m a b → asked b.keeper.now ≤ asked a.keeper.now + n → OnlyAsks contents leaves faults asked n a b
+  asks_fewer m n a b x le = record { same_reference = x.same_reference; stays = x.stays; pending = x.pending; reads = le }

@@ -1,5 +1,5 @@
 -- What is remembered goes from draft to draft.
-use Rattle.std.specs.Prelude.{IfSome, OnOk, OnErr, MatchBool, MatchOption, Contains}
+use Rattle.std.specs.Prelude.{IfSome, OnOk, OnErr, MatchOption, Contains}
 use Rattle.std.specs.BTreeMap.{get as get_noted}
 use Rattle.std.specs.FinMap.{get, insert}
 use Rattle.std.specs.Int.{w64, to_be_bytes, from_be_bytes}
@@ -7,7 +7,7 @@ use Rattle.std.specs.Ordering.{nat_cmp}
 use Rattle.std.proofs.Common.{◌≡◌, ◌<◌, ◌+◌, ◌^◌, ℕ, Bool, true, false, List, [], ◌∷◌, ◌++◌, Option, Some, None, Result, Ok, Err, refl, sym, ap, ◌∙◌, subst, arith}
 use Rattle.std.proofs.lemmas.Nat.{from_be_bytes-to_be_bytes_8}
 use Rattle.mtn_model.specs.State.{Logged}
-use Rattle.mtn_model.specs.Table.{Table, Contents, body_at}
+use Rattle.mtn_model.specs.Table.{Table, Contents}
 use Rattle.mtn_ports.specs.Kept.{with_all}
 use Rattle.mtn_ports.proofs.KeptLemmas.{with_all-append}
 use Rattle.mtn_ports.specs.declared.batch.Put.{Put}

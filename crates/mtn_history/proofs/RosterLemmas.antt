@@ -1,10 +1,11 @@
 -- Rosters, rebuilt along their chains.
 use Rattle.std.specs.Prelude.{IfSome, IsTrue, nat_lt, not, reverse, slice_get, option_and_then, ◌==◌, ◌&&◌}
 use Rattle.std.specs.Option.{option_map_or}
-use Rattle.std.proofs.Common.{◌≡◌, ◌≤◌, ◌<◌, ◌+◌, ℕ, zero, suc, Bool, true, false, cond, List, [], ◌∷◌, ◌++◌, length, Option, Some, None, refl, sym, ap, ◌∙◌, subst, ◌⊎◌, ⊎_elim, inl, inr, arith}
+use Rattle.std.proofs.Common.{◌≡◌, ◌≤◌, ◌<◌, ◌+◌, ℕ, zero, suc, Bool, true, false, cond, List, [], ◌∷◌, ◌++◌, length, take, drop, Option, Some, None, refl, sym, ap, ◌∙◌, subst, ◌⊎◌, ⊎_elim, inl, inr, arith}
 use Rattle.std.proofs.lemmas.List.{length-append, length-reverse, append-nil, reverse-append, reverse-reverse}
 use mathlib.Core.List.{reverse-cons}
 use Rattle.std.proofs.lemmas.Bool.Decides.{nat_tests}
+use Rattle.std.proofs.Math.Nat.{eq-or-lt_of_le}
 use Rattle.mtn_roster_deltas.specs.Chain.{Entries, applied, after_record, after_all, rebuilt, deepest, ascend}
 use Rattle.mtn_roster_deltas.specs.Difference.{IsDifference}
 use Rattle.mtn_roster_deltas.specs.Spelled.{Spells}
@@ -27,8 +28,11 @@ use Rattle.mtn_history.specs.declared.errors.StoreError.TheVariants.{Failed, Dam
 use Rattle.mtn_history.specs.declared.errors.Damage.{Damage}
 use Rattle.mtn_history.specs.declared.errors.Damage.TheVariants.{Bad, Missing}
 use Rattle.mtn_history.specs.Revisions.{Kept, AreKept, AreRosters, IsRosterOf}
-use Rattle.mtn_history.specs.Rosters.{IsRostered, IsChainDown, IsPathDown, IsChainOf, AreDeltasOn, IsRosterHeld, GivesNoTree, UnrosteredAt, UnrebuiltAt, UnmadeBelow, IsRebuilt, Rebuilds, base_of}
-use Rattle.mtn_history.specs.declared.rosters.Chain.{Chain}
+use Rattle.mtn_history.specs.Rosters.{IsRostered, IsChainDown, IsPathDown, IsChainOf, AreDeltasOn, AreEntriesAt, EndsAt, IsWalk, IsWalkOf, MeetsNoEarlier, AsksAlong, AsksOnce, IsRosterHeld, GivesNoTree, UnrosteredAt, UnrebuiltAt, UnmadeBelow, IsRebuilt, Rebuilds, base_of, places}
+use Rattle.mtn_history.specs.declared.chains.Base.{Base}
+use Rattle.mtn_history.specs.declared.chains.Chain.{Chain}
+use Rattle.mtn_history.specs.declared.chains.End.{End}
+use Rattle.mtn_history.specs.declared.chains.End.TheVariants.{ToWhole, ToBase, ToMeeting}
 use Rattle.mtn_history.specs.declared.rosters.Rebuilt.{Rebuilt}
 use Rattle.mtn_history.proofs.LogLemmas.{told_on}
 use Rattle.mtn_roster_deltas.proofs.Differing.{chain_grows, rebuilt_on}
@@ -42,6 +46,12 @@ one_body o a b x y = cc
 -- a body is that of one record
 one_roster : (r : ℕ) (a b : List ℕ) (x y : RosterRecord) → a ≡ b → IsRosterAt r a x → IsRosterAt r b y → x ≡ y
 one_roster r a b x y same s t = let both = roster_apart x y [] [] s.formed t.formed (append-nil (roster_text x) ∙ sym s.whole ∙ same ∙ t.whole ∙ sym (append-nil (roster_text y))) in both.0
+
+below_or : (a b : ℕ) → (a < b) ⊎ (b ≤ a)
+below_or zero zero = inr (omega arith)
+below_or zero (suc b) = inl (omega arith)
+below_or (suc a) zero = inr (omega arith)
+below_or (suc a) (suc b) = ⊎_elim (λ less. inl (omega (arith, less))) (λ more. inr (omega (arith, more))) (below_or a b)
 
 module _ (c : Contents) where
   one_rostered : (r : ℕ) (x y : RosterRecord) → IsRostered c r x → IsRostered c r y → x ≡ y
@@ -94,6 +104,101 @@ module _ (c : Contents) where
       let more = longer base to rs chain p.1 (subst (λ k. IsChainDown c k chain) down q.1) in
       omega (arith, more)
 
+  -- paths of one length from one place lead to one place
+  path_one : (r m n : ℕ) (a b : List RosterRecord) → IsPathDown c r a m → IsPathDown c r b n → length a ≡ length b → m ≡ n
+  path_one r m n [] [] p q e = p ∙ sym q
+  path_one r m n [] (x ∷ b) p q e = absurd (omega (arith, e))
+  path_one r m n (x ∷ a) [] p q e = absurd (omega (arith, e))
+  path_one r m n (Whole es ∷ a) (y ∷ b) p q e = absurd p
+  path_one r m n (Delta base d g ch ∷ a) (Whole es ∷ b) p q e = absurd q
+  path_one r m n (Delta base d g ch ∷ a) (Delta base' d' g' ch' ∷ b) p q e =
+      let same = one_rostered r (Delta base d g ch) (Delta base' d' g' ch') p.0 q.0 in
+      let down : base' ≡ base = cc in
+      path_one base m n a b p.1 (subst (λ k. IsPathDown c k b n) down q.1) (omega (arith, e))
+
+  -- a shorter path leads to a place of a path, or of a chain
+  place_on_path : (r to m : ℕ) (xs a : List RosterRecord) → IsPathDown c r xs to → IsPathDown c r a m → length a < length xs → slice_get (places r xs) (length a) ≡ Some m
+  place_on_path r to m [] a p q lt = absurd (omega (arith, lt))
+  place_on_path r to m (Whole es ∷ xs) a p q lt = absurd p
+  place_on_path r to m (Delta base d g ch ∷ xs) [] p q lt = ap Some (sym q)
+  place_on_path r to m (Delta base d g ch ∷ xs) (Whole es ∷ a) p q lt = absurd q
+  place_on_path r to m (Delta base d g ch ∷ xs) (Delta base' d' g' ch' ∷ a) p q lt =
+      let same = one_rostered r (Delta base d g ch) (Delta base' d' g' ch') p.0 q.0 in
+      let down : base' ≡ base = cc in
+      place_on_path base to m xs a p.1 (subst (λ k. IsPathDown c k a m) down q.1) (omega (arith, lt))
+
+  place_on_chain : (r m : ℕ) (xs a : List RosterRecord) → IsChainDown c r xs → IsPathDown c r a m → length a < length xs → slice_get (places r xs) (length a) ≡ Some m
+  place_on_chain r m [] a p q lt = absurd p
+  place_on_chain r m (Whole es ∷ xs) [] p q lt = ap Some (sym q)
+  place_on_chain r m (Whole es ∷ xs) (Whole fs ∷ a) p q lt = absurd q
+  place_on_chain r m (Whole es ∷ xs) (Delta base d g ch ∷ a) p q lt = absurd (let same = one_rostered r (Whole es) (Delta base d g ch) p.0 q.0 in cc)
+  place_on_chain r m (Delta base d g ch ∷ xs) [] p q lt = ap Some (sym q)
+  place_on_chain r m (Delta base d g ch ∷ xs) (Whole es ∷ a) p q lt = absurd q
+  place_on_chain r m (Delta base d g ch ∷ xs) (Delta base' d' g' ch' ∷ a) p q lt =
+      let same = one_rostered r (Delta base d g ch) (Delta base' d' g' ch') p.0 q.0 in
+      let down : base' ≡ base = cc in
+      place_on_chain base m xs a p.1 (subst (λ k. IsPathDown c k a m) down q.1) (omega (arith, lt))
+
+  -- a place of a path, or of a chain, cuts it in two
+  split_path : (r to m i : ℕ) (xs : List RosterRecord) → IsPathDown c r xs to → slice_get (places r xs) i ≡ Some m → IsPathDown c r (take i xs) m × IsPathDown c m (drop i xs) to
+  split_path r to m i [] p at = absurd cc
+  split_path r to m i (Whole es ∷ xs) p at = absurd p
+  split_path r to m zero (Delta base d g ch ∷ xs) p at = let same : r ≡ m = cc in (sym same, subst (λ k. IsPathDown c k (Delta base d g ch ∷ xs) to) same p)
+  split_path r to m (suc i) (Delta base d g ch ∷ xs) p at = let rest = split_path base to m i xs p.1 at in ((p.0, rest.0), rest.1)
+
+  split_chain : (r m i : ℕ) (xs : List RosterRecord) → IsChainDown c r xs → slice_get (places r xs) i ≡ Some m → IsPathDown c r (take i xs) m × IsChainDown c m (drop i xs)
+  split_chain r m i [] p at = absurd p
+  split_chain r m zero (Whole es ∷ xs) p at = let same : r ≡ m = cc in (sym same, subst (λ k. IsChainDown c k (Whole es ∷ xs)) same p)
+  split_chain r m (suc i) (Whole es ∷ xs) p at = absurd cc
+  split_chain r m zero (Delta base d g ch ∷ xs) p at = let same : r ≡ m = cc in (sym same, subst (λ k. IsChainDown c k (Delta base d g ch ∷ xs)) same p)
+  split_chain r m (suc i) (Delta base d g ch ∷ xs) p at = let rest = split_chain base m i xs p.1 at in ((p.0, rest.0), rest.1)
+
+  -- the same of records by what they end at
+  place_on_end : (r top m : ℕ) (beside xs a : List RosterRecord) (end : End) → EndsAt c r top beside xs end → IsPathDown c r a m → length a < length xs → slice_get (places r xs) (length a) ≡ Some m
+  place_on_end r top m beside xs a ToWhole p q lt = place_on_chain r m xs a p q lt
+  place_on_end r top m beside xs a (ToBase known) p q lt = place_on_path r p.base m xs a p.path q lt
+  place_on_end r top m beside xs a (ToMeeting at) p q lt = place_on_path r at m xs a p.0 q lt
+
+  pub split_end : (r m i : ℕ) (xs : List RosterRecord) (end : End) → EndsAt c r r [] xs end → slice_get (places r xs) i ≡ Some m → IsPathDown c r (take i xs) m × EndsAt c m m [] (drop i xs) end
+  split_end r m i xs ToWhole p at = split_chain r m i xs p at
+  split_end r m i xs (ToBase known) p at = let two = split_path r p.base m i xs p.path at in (two.0, record { base = p.base; path = two.1; right = p.right })
+  split_end r m i xs (ToMeeting q) p at = absurd (let none = p.1.1 in cc)
+
+  -- records are no more than a chain from their place has
+  no_longer : (r top : ℕ) (beside xs chain : List RosterRecord) (end : End) → EndsAt c r top beside xs end → IsChainDown c r chain → length xs ≤ length chain
+  no_longer r top beside xs chain ToWhole p down = let same = ap length (one_chain r xs chain p down) in omega (arith, same)
+  no_longer r top beside xs chain (ToBase known) p down = let less = longer r p.base xs chain p.path down in omega (arith, less)
+  no_longer r top beside xs chain (ToMeeting at) p down = let less = longer r at xs chain p.0 down in omega (arith, less)
+
+  -- one record more comes to no place of the chain beside it, if its own place is none
+  first_next : (r to top : ℕ) (beside rs : List RosterRecord) (x : RosterRecord) → IsPathDown c r rs to → MeetsNoEarlier c r top beside rs → ((i : ℕ) → slice_get (places top beside) i ≡ Some to → ⊥) →
+      MeetsNoEarlier c r top beside (rs ++ x ∷ [])
+  first_next r to top beside rs x path first none above at i p q =
+      ⊎_elim (λ same. absurd (none i (q ∙ ap Some (path_one r at to above rs p path (sym same))))) (λ less. omega (arith, less, length-append rs (x ∷ []))) (eq-or-lt_of_le (first above at i p q))
+
+  -- what is at hand at the place that a path leads to is the path's end
+  ends_on : (r next top : ℕ) (beside rs : List RosterRecord) (end : End) → IsPathDown c r rs next → EndsAt c next top beside [] end → EndsAt c r top beside rs end
+  ends_on r next top beside rs ToWhole path here = absurd here
+  ends_on r next top beside rs (ToBase known) path here = record { base = here.base; path = subst (IsPathDown c r rs) (sym here.path) path; right = here.right }
+  ends_on r next top beside rs (ToMeeting at) path here = (subst (IsPathDown c r rs) (sym here.0) path, here.1)
+
+  -- records that two walks read, the second down to where it comes to the first
+  pub asks_once : (left right before after : ℕ) (xs ys : List RosterRecord) (one other : End) → EndsAt c left left [] xs one → IsWalk c right left xs ys other → after ≤ before + (length xs + length ys) → AsksOnce c left right before after
+  asks_once left right before after xs ys one other ours theirs few a b shared at pa pb down =
+      let long = no_longer left left [] xs (a ++ shared) one ours (path_on left at a shared pa down) in
+      let far = no_longer right left xs ys (b ++ shared) other theirs.ends (path_on right at b shared pb down) in
+      ⊎_elim
+      (λ less. let near = theirs.first b at (length a) pb (place_on_end left left at [] xs a one ours pa less) in omega (arith, few, long, near, length-append a shared))
+      (λ more. omega (arith, few, far, more, length-append b shared))
+      (below_or (length a) (length xs))
+
+  -- records of one of them alone
+  pub asks_alone : (left right before after : ℕ) → AsksAlong c left before after → AsksOnce c left right before after
+  asks_alone left right before after along a b shared at pa pb down = let few = along (a ++ shared) (path_on left at a shared pa down) in omega (arith, few, length-append a shared)
+
+  pub asks_alone_right : (left right before after : ℕ) → AsksAlong c right before after → AsksOnce c left right before after
+  asks_alone_right left right before after along a b shared at pa pb down = let few = along (b ++ shared) (path_on right at b shared pb down) in omega (arith, few, length-append b shared)
+
 -- a delta that may follow is within the deepest
 within_depth : (d depth : ℕ) (o : Option Entries) (fs : Entries) → cond ((d == depth) && not (nat_lt deepest depth)) o None ≡ Some fs → depth ≤ 15
 within_depth d depth o fs e = by ((d == depth) && not (nat_lt deepest depth)) refl e
@@ -114,7 +219,7 @@ after_short depth es fs (Delta base d g ch ∷ rs) e =
     let low = within_depth d depth (applied es g ch) t.0 t.1 in
     inr (⊎_elim (λ none. omega (arith, low, none)) (λ some. omega (arith, some)) (after_short (depth + 1) t.0 fs rs t.2))
 
-rebuilt_short : (rs : List RosterRecord) (es : Entries) → rebuilt rs ≡ Some es → length rs ≤ 16
+pub rebuilt_short : (rs : List RosterRecord) (es : Entries) → rebuilt rs ≡ Some es → length rs ≤ 16
 rebuilt_short [] es e = omega arith
 rebuilt_short (Delta base d g ch ∷ rs) es e = absurd cc
 rebuilt_short (Whole all ∷ rs) es e = by (ascend all) refl e
@@ -123,13 +228,18 @@ rebuilt_short (Whole all ∷ rs) es e = by (ascend all) refl e
     by true is h = ⊎_elim (λ none. omega (arith, none)) (λ some. omega (arith, some)) (after_short 1 all es rs h)
     by false is h = absurd cc
 
+-- nothing is rebuilt of no record
+pub rebuilt_some : (rs : List RosterRecord) (es : Entries) → rebuilt rs ≡ Some es → 0 < length rs
+rebuilt_some [] es e = absurd cc
+rebuilt_some (r ∷ rs) es e = omega arith
+
 -- deltas that give entries leave the depth a byte
 pub depth_fits : (depth : ℕ) (es fs : Entries) (rs : List RosterRecord) → depth < 256 → after_all (depth + 1) es rs ≡ Some fs → depth + length rs < 256
 depth_fits depth es fs rs lt made = ⊎_elim (λ none. omega (arith, none, lt)) (λ some. omega (arith, some)) (after_short (depth + 1) es fs rs made)
 
 -- sixteen records and no whole one are no chain that gives entries
-pub too_deep : (c : Contents) (r to : ℕ) (rs : List RosterRecord) → IsPathDown c r rs to → length rs ≡ 16 → IsChainOf c r None
-too_deep c r to rs path long chain es down made =
+too_deep : (c : Contents) (r to top : ℕ) (beside rs : List RosterRecord) → IsPathDown c r rs to → length rs ≡ 16 → IsWalkOf c r top beside None
+too_deep c r to top beside rs path long chain es down made =
     let short = rebuilt_short (reverse chain) es made in
     let more = longer c r to rs chain path down in
     omega (arith, short, more, long, length-reverse chain)
@@ -158,18 +268,31 @@ chain_whole_at : (c : Contents) (at next : ℕ) (rs : List RosterRecord) (x : Ro
 chain_whole_at c at next rs (Whole es) path here is = path_ends c at next es rs path here
 chain_whole_at c at next rs (Delta base d g ch) path here is = absurd cc
 
-pub chain_whole : (mid new : Option Contents) (ps : List Put) (at next : ℕ) (rs more turned : List RosterRecord) (x : RosterRecord) (depth : ℕ) → length rs ≡ depth → Same mid new → IfSome mid (λ c. IsPathDown (with_all c ps) at rs next) →
-    IfSome new (λ c. IsRostered (with_all c ps) next x) → base_of x ≡ None → more ≡ rs ++ x ∷ [] → turned ≡ reverse more → IfSome new (λ c. IsChainDown (with_all c ps) at (reverse turned) × (length turned ≡ depth + 1))
-chain_whole mid None ps at next rs more turned x depth long same path here is grown turns = tt
-chain_whole mid (Some c) ps at next rs more turned x depth long same path here is grown turns = (
-  subst (IsChainDown (with_all c ps) at) (sym (ap reverse (turns ∙ ap reverse grown) ∙ reverse-reverse (rs ++ x ∷ [])))
-      (chain_whole_at (with_all c ps) at next rs x (told_on mid (Some c) (λ d. IsPathDown (with_all d ps) at rs next) same path c refl) here is),
-  ap length (turns ∙ ap reverse grown) ∙ length-reverse (rs ++ x ∷ []) ∙ omega (arith, length-append rs (x ∷ []), long),
-)
+pub first_more : (mid new : Option Contents) (ps : List Put) (at next top : ℕ) (beside rs more : List RosterRecord) (x : RosterRecord) → Same mid new → IfSome mid (λ c. IsPathDown (with_all c ps) at rs next) →
+    IfSome mid (λ c. MeetsNoEarlier (with_all c ps) at top beside rs) → ((i : ℕ) → slice_get (places top beside) i ≡ Some next → ⊥) → more ≡ rs ++ x ∷ [] → IfSome new (λ c. MeetsNoEarlier (with_all c ps) at top beside more)
+first_more mid None ps at next top beside rs more x same path first none grown = tt
+first_more mid (Some c) ps at next top beside rs more x same path first none grown =
+    subst (MeetsNoEarlier (with_all c ps) at top beside) (sym grown)
+    (first_next (with_all c ps) at next top beside rs x (told_on mid (Some c) (λ d. IsPathDown (with_all d ps) at rs next) same path c refl)
+    (told_on mid (Some c) (λ d. MeetsNoEarlier (with_all d ps) at top beside rs) same first c refl) none)
 
-pub no_chain : (told : Option Contents) (ps : List Put) (at next : ℕ) (rs : List RosterRecord) → IfSome told (λ c. IsPathDown (with_all c ps) at rs next) → length rs ≡ 16 → IfSome told (λ c. IsChainOf (with_all c ps) at None)
-no_chain None ps at next rs path long = tt
-no_chain (Some c) ps at next rs path long = too_deep (with_all c ps) at next rs path long
+-- a walk that ends at a whole record, or at what is at hand there
+pub walk_whole : (mid new : Option Contents) (ps : List Put) (at next top : ℕ) (beside rs more : List RosterRecord) (x : RosterRecord) → Same mid new → IfSome mid (λ c. IsPathDown (with_all c ps) at rs next) →
+    IfSome new (λ c. IsRostered (with_all c ps) next x) → base_of x ≡ None → more ≡ rs ++ x ∷ [] → IfSome new (λ c. MeetsNoEarlier (with_all c ps) at top beside more) → IfSome new (λ c. IsWalk (with_all c ps) at top beside more ToWhole)
+walk_whole mid None ps at next top beside rs more x same path here is grown first = tt
+walk_whole mid (Some c) ps at next top beside rs more x same path here is grown first = record {
+  ends = subst (IsChainDown (with_all c ps) at) (sym grown) (chain_whole_at (with_all c ps) at next rs x (told_on mid (Some c) (λ d. IsPathDown (with_all d ps) at rs next) same path c refl) here is);
+  first = first;
+}
+
+pub walk_ends : (told : Option Contents) (ps : List Put) (at next top : ℕ) (beside rs : List RosterRecord) (end : End) → IfSome told (λ c. IsPathDown (with_all c ps) at rs next) →
+    IfSome told (λ c. MeetsNoEarlier (with_all c ps) at top beside rs) → IfSome told (λ c. EndsAt (with_all c ps) next top beside [] end) → IfSome told (λ c. IsWalk (with_all c ps) at top beside rs end)
+walk_ends None ps at next top beside rs end path first here = tt
+walk_ends (Some c) ps at next top beside rs end path first here = record { ends = ends_on (with_all c ps) at next top beside rs end path here; first = first }
+
+pub no_chain : (told : Option Contents) (ps : List Put) (at next top : ℕ) (beside rs : List RosterRecord) → IfSome told (λ c. IsPathDown (with_all c ps) at rs next) → length rs ≡ 16 → IfSome told (λ c. IsWalkOf (with_all c ps) at top beside None)
+no_chain None ps at next top beside rs path long = tt
+no_chain (Some c) ps at next top beside rs path long = too_deep (with_all c ps) at next top beside rs path long
 
 unrebuilt_at : (c : Contents) (at : ℕ) (e : StoreError) → ((chain : List RosterRecord) (es : Entries) (t : MarkedTree) → IsChainDown c at chain → rebuilt (reverse chain) ≡ Some es → Spells es t → ⊥) →
     IfDamage e (IsRosterHeld c at) → IfDamage e (UnmadeBelow (at + 1) c)
@@ -178,48 +301,64 @@ unrebuilt_at c at NoMemory none held = tt
 unrebuilt_at c at (Damaged d) none held = record { place = at; below = omega arith; wrong = inr (held, none) }
 
 -- no chain gives entries
-pub unrebuilt_none : (mid new : Option Contents) (ps : List Put) (at : ℕ) (e : StoreError) → Same mid new → IfSome mid (λ c. IsChainOf (with_all c ps) at None) →
+pub unrebuilt_none : (mid new : Option Contents) (ps : List Put) (at top : ℕ) (beside : List RosterRecord) (e : StoreError) → Same mid new → IfSome mid (λ c. IsWalkOf (with_all c ps) at top beside None) →
     IfSome new (λ c. IfDamage e (IsRosterHeld (with_all c ps) at)) → IfSome new (λ c. IfDamage e (UnmadeBelow (at + 1) (with_all c ps)))
-unrebuilt_none mid None ps at e same none held = tt
-unrebuilt_none mid (Some c) ps at e same none held =
-    unrebuilt_at (with_all c ps) at e (λ chain es t down made spelled. told_on mid (Some c) (λ d. IsChainOf (with_all d ps) at None) same none c refl chain es down made) held
+unrebuilt_none mid None ps at top beside e same none held = tt
+unrebuilt_none mid (Some c) ps at top beside e same none held =
+    unrebuilt_at (with_all c ps) at e (λ chain es t down made spelled. told_on mid (Some c) (λ d. IsWalkOf (with_all d ps) at top beside None) same none c refl chain es down made) held
 
 -- the chain gives no tree
-pub unrebuilt_bad : (mid new : Option Contents) (ps : List Put) (at : ℕ) (e : StoreError) (chain : Chain) → Same mid new → IfSome mid (λ c. IsChainOf (with_all c ps) at (Some chain)) →
-    ((c : Contents) (r : ℕ) → IsChainOf c r (Some chain) → GivesNoTree c r) →
+pub unrebuilt_bad : (mid new : Option Contents) (ps : List Put) (at : ℕ) (e : StoreError) (chain : Chain) → Same mid new → IfSome mid (λ c. IsWalk (with_all c ps) at at [] chain.records.items chain.end) →
+    ((c : Contents) (r : ℕ) → IsChainOf c r chain → GivesNoTree c r) →
     IfSome new (λ c. IfDamage e (IsRosterHeld (with_all c ps) at)) → IfSome new (λ c. IfDamage e (UnmadeBelow (at + 1) (with_all c ps)))
 unrebuilt_bad mid None ps at e chain same is bad held = tt
 unrebuilt_bad mid (Some c) ps at e chain same is bad held =
-    unrebuilt_at (with_all c ps) at e (bad (with_all c ps) at (told_on mid (Some c) (λ d. IsChainOf (with_all d ps) at (Some chain)) same is c refl)) held
+    unrebuilt_at (with_all c ps) at e (bad (with_all c ps) at (told_on mid (Some c) (λ d. IsWalk (with_all d ps) at at [] chain.records.items chain.end) same is c refl).ends) held
 
-pub is_rebuilt : (told : Option Contents) (ps : List Put) (at : ℕ) (chain : Chain) (found : Rebuilt) → IfSome told (λ c. IsChainOf (with_all c ps) at (Some chain)) →
-    ((c : Contents) (r : ℕ) → IsChainOf c r (Some chain) → Rebuilds c r found) → IfSome told (λ c. Rebuilds (with_all c ps) at found)
+pub is_rebuilt : (told : Option Contents) (ps : List Put) (at : ℕ) (chain : Chain) (found : Rebuilt) → IfSome told (λ c. IsWalk (with_all c ps) at at [] chain.records.items chain.end) →
+    ((c : Contents) (r : ℕ) → IsChainOf c r chain → Rebuilds c r found) → IfSome told (λ c. Rebuilds (with_all c ps) at found)
 is_rebuilt None ps at chain found is gives = tt
-is_rebuilt (Some c) ps at chain found is gives = gives (with_all c ps) at is
+is_rebuilt (Some c) ps at chain found is gives = gives (with_all c ps) at is.ends
 
-pub chain_known : (told : Option Contents) (ps : List Put) (at next : ℕ) (rs : List RosterRecord) (known : Rebuilt) (chain : Chain) → IfSome told (λ c. IsPathDown (with_all c ps) at rs next) → IfSome told (λ c. Rebuilds (with_all c ps) next known) →
-    ((c : Contents) (r to : ℕ) → IsPathDown c r rs to → Rebuilds c to known → IsChainOf c r (Some chain)) → IfSome told (λ c. IsChainOf (with_all c ps) at (Some chain))
-chain_known None ps at next rs known chain path found gives = tt
-chain_known (Some c) ps at next rs known chain path found gives = gives (with_all c ps) at next path found
+pub asks_along : (told : Option Contents) (ps : List Put) (at before after : ℕ) (chain : Chain) → IfSome told (λ c. IsWalk (with_all c ps) at at [] chain.records.items chain.end) → after ≤ before + length chain.records.items →
+    IfSome told (λ c. AsksAlong (with_all c ps) at before after)
+asks_along None ps at before after chain is few = tt
+asks_along (Some c) ps at before after chain is few = λ all down. let long = no_longer (with_all c ps) at at [] chain.records.items all chain.end is.ends down in omega (arith, few, long)
 
--- a chain that was read down to its whole record
-module _ (c : Contents) (at : ℕ) (records : List RosterRecord) (depth : ℕ) (down : IsChainDown c at (reverse records)) (long : length records ≡ depth + 1) where
-  pub rebuilt_whole : (es : Entries) (t : MarkedTree) → rebuilt records ≡ Some es → Spells es t → IsRebuilt c at es t depth
-  rebuilt_whole es t made spelled = record {
+-- the entries of a chain that was read down to its whole record
+module _ (c : Contents) (at : ℕ) (records : List RosterRecord) (down : IsChainDown c at (reverse records)) where
+  pub entries_whole : (es : Entries) (depth : ℕ) → rebuilt records ≡ Some es → ascend es ≡ true → length records ≡ depth + 1 → AreEntriesAt c at es depth
+  entries_whole es depth made rises long = record {
     chain = reverse records;
     down = down;
     entries = ap rebuilt (reverse-reverse records) ∙ made;
-    spelled = spelled;
+    ascending = rises;
     deltas = length-reverse records ∙ long;
   }
 
-  pub none_whole : ((es : Entries) (t : MarkedTree) → rebuilt records ≡ Some es → Spells es t → ⊥) → GivesNoTree c at
+  pub none_whole : rebuilt records ≡ None → GivesNoTree c at
   none_whole bad chain es t other made spelled =
       let one : chain ≡ reverse records = one_chain c at chain (reverse records) other down in
-      bad es t (sym (ap rebuilt (ap reverse one ∙ reverse-reverse records)) ∙ made) spelled
+      let none : None ≡ Some es = sym bad ∙ sym (ap rebuilt (ap reverse one ∙ reverse-reverse records)) ∙ made in
+      cc
 
--- and one that ends at a roster that is known
-module _ (c : Contents) (at : ℕ) (deltas : List RosterRecord) (known : Rebuilt) (up : AreDeltasOn c at (reverse deltas) known) where
+-- the tree that entries spell
+module _ (c : Contents) (at : ℕ) (es : Entries) (depth : ℕ) (are : AreEntriesAt c at es depth) where
+  pub rebuilt_spelled : (t : MarkedTree) → Spells es t → IsRebuilt c at es t depth
+  rebuilt_spelled t spelled = record { chain = are.chain; down = are.down; entries = are.entries; spelled = spelled; deltas = are.deltas }
+
+  pub none_spelled : ((t : MarkedTree) → Spells es t → ⊥) → GivesNoTree c at
+  none_spelled bad chain fs t other made spelled =
+      let one : chain ≡ are.chain = one_chain c at chain are.chain other are.down in
+      let same : Some fs ≡ Some es = sym made ∙ ap (λ l. rebuilt (reverse l)) one ∙ are.entries in
+      let is : fs ≡ es = cc in
+      bad t (subst (λ gs. Spells gs t) is spelled)
+
+pub entries_rebuilt : (c : Contents) (at : ℕ) (r : Rebuilt) → Rebuilds c at r → AreEntriesAt c at r.entries r.depth
+entries_rebuilt c at r is = record { chain = is.chain; down = is.down; entries = is.entries; ascending = is.spelled.ascending; deltas = is.deltas }
+
+-- and one that ends at known entries
+module _ (c : Contents) (at : ℕ) (deltas : List RosterRecord) (known : Base) (up : AreDeltasOn c at (reverse deltas) known) where
   all_down : IsChainDown c at (reverse deltas ++ up.right.chain)
   all_down = path_on c at up.base (reverse deltas) up.right.chain up.path up.right.down
 
@@ -242,7 +381,7 @@ module _ (c : Contents) (at : ℕ) (deltas : List RosterRecord) (known : Rebuilt
   none_above bad chain es t other made spelled =
       let one : chain ≡ reverse deltas ++ up.right.chain = one_chain c at chain (reverse deltas ++ up.right.chain) other all_down in
       let short : known.depth ≤ 15 = omega (arith, rebuilt_short (reverse up.right.chain) known.entries up.right.entries, length-reverse up.right.chain, up.right.deltas) in
-      bad short up.right.spelled.ascending es t (sym made_above ∙ sym (ap (λ l. rebuilt (reverse l)) one) ∙ made) spelled
+      bad short up.right.ascending es t (sym made_above ∙ sym (ap (λ l. rebuilt (reverse l)) one) ∙ made) spelled
 
 pub one_more_record : (rs more : List RosterRecord) (x : RosterRecord) (n : ℕ) → length rs ≡ n → more ≡ rs ++ x ∷ [] → length more ≡ n + 1
 one_more_record rs more x n long is = ap length is ∙ omega (arith, length-append rs (x ∷ []), long)

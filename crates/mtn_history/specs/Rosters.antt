@@ -1,6 +1,6 @@
 -- Rosters: what is read of table 5, and what is damage.
-use Rattle.std.specs.Prelude.{◌≡◌, ◌<◌, ◌+◌, ◌⊎◌, length, ℕ, List, [], ◌∷◌, reverse, Option, Some, None, IsSome}
-use Rattle.mtn_roster_deltas.specs.Chain.{Entries, rebuilt}
+use Rattle.std.specs.Prelude.{◌≡◌, ◌<◌, ◌≤◌, ◌+◌, ◌⊎◌, length, max, ℕ, true, List, [], ◌∷◌, reverse, Option, Some, None, IsSome, slice_get}
+use Rattle.mtn_roster_deltas.specs.Chain.{Entries, ascend, rebuilt}
 use Rattle.mtn_roster_deltas.specs.Spelled.{Spells}
 use Rattle.mtn_marking.specs.Marking.{MarkedTree}
 use Rattle.mtn_model.specs.Table.{Contents, body_at}
@@ -10,10 +10,14 @@ use Rattle.mtn_records.specs.declared.record.RosterRecord.{RosterRecord}
 use Rattle.mtn_records.specs.declared.record.RosterRecord.TheVariants.{Whole, Delta}
 use Rattle.mtn_history.specs.declared.errors.Damage.{Damage}
 use Rattle.mtn_history.specs.declared.errors.Damage.TheVariants.{Bad, Missing}
-use Rattle.mtn_history.specs.declared.rosters.Chain.{Chain}
-use Rattle.mtn_history.specs.declared.rosters.Chain.TheVariants.{ToWhole, ToKnown}
+use Rattle.mtn_history.specs.declared.chains.Base.{Base}
+use Rattle.mtn_history.specs.declared.chains.Chain.{Chain}
+use Rattle.mtn_history.specs.declared.chains.End.{End}
+use Rattle.mtn_history.specs.declared.chains.End.TheVariants.{ToWhole, ToBase, ToMeeting}
+use Rattle.mtn_history.specs.declared.chains.Unmade.{Unmade}
 use Rattle.mtn_history.specs.declared.rosters.Rebuilt.{Rebuilt}
 use Rattle.mtn_history.specs.Meta.{Counted}
+use Rattle.mtn_records.specs.declared.error.RecordError.TheVariants as record_error
 
 -- the record of table 5 at a position
 pub record IsRostered (c : Contents) (r : ℕ) (roster : RosterRecord) : Type 0 where
@@ -84,15 +88,68 @@ pub record RosterDamage (c : Contents) (d : Damage) : Type 0 where
   pub counted : Counted c count
   pub wrong : UnmadeBelow count c d
 
--- the deltas from a position down to one whose roster is known
-pub record AreDeltasOn (c : Contents) (r : ℕ) (deltas : List RosterRecord) (known : Rebuilt) : Type 0 where
+-- the positions of records from one down
+abbrev pub places : ℕ → List RosterRecord → List ℕ
+places r [] = []
+places r (Whole entries ∷ rest) = r ∷ []
+places r (Delta base depth gone changed ∷ rest) = r ∷ places base rest
+
+-- the entries at a position, which ascend, and how many deltas the chain has
+pub record AreEntriesAt (c : Contents) (r : ℕ) (es : Entries) (depth : ℕ) : Type 0 where
+  pub chain : List RosterRecord
+  pub down : IsChainDown c r chain
+  pub entries : rebuilt (reverse chain) ≡ Some es
+  pub ascending : ascend es ≡ true
+  pub deltas : length chain ≡ depth + 1
+
+-- the deltas from a position down to one whose entries are known
+pub record AreDeltasOn (c : Contents) (r : ℕ) (deltas : List RosterRecord) (known : Base) : Type 0 where
   pub base : ℕ
   pub path : IsPathDown c r deltas base
-  pub right : Rebuilds c base known
+  pub right : AreEntriesAt c base known.entries known.depth
 
--- The chain of a position, its lowest record first: down to a whole record, and how many deltas it has, or down to a roster that
--- is known; none where no chain from there gives entries
-abbrev pub IsChainOf : Contents → ℕ → Option Chain → Type 0
-IsChainOf c r (Some (ToWhole records depth)) = IsChainDown c r (reverse records.items) × (length records.items ≡ depth + 1)
-IsChainOf c r (Some (ToKnown deltas known)) = AreDeltasOn c r (reverse deltas.items) known.value
-IsChainOf c r None = (chain : List RosterRecord) (es : Entries) → IsChainDown c r chain → rebuilt (reverse chain) ≡ Some es → ⊥
+-- The records of a position, the highest first, by what they end at: a whole one, known entries, or a position of the chain
+-- `beside` from `top` down
+abbrev pub EndsAt : Contents → ℕ → ℕ → List RosterRecord → List RosterRecord → End → Type 0
+EndsAt c r top beside records ToWhole = IsChainDown c r records
+EndsAt c r top beside records (ToBase known) = AreDeltasOn c r records known
+EndsAt c r top beside records (ToMeeting at) = IsPathDown c r records at × ((i : ℕ) × (slice_get (places top beside) i ≡ Some at))
+
+-- the position at which it comes to the chain beside it
+abbrev pub meeting_of : End → Option ℕ
+meeting_of ToWhole = None
+meeting_of (ToBase known) = None
+meeting_of (ToMeeting at) = Some at
+
+-- a chain with no other one beside it
+abbrev pub IsChainOf : Contents → ℕ → Chain → Type 0
+IsChainOf c r chain = EndsAt c r r [] chain.records.items chain.end
+
+-- no position of the chain beside it is come to by fewer records
+abbrev pub MeetsNoEarlier : Contents → ℕ → ℕ → List RosterRecord → List RosterRecord → Type 0
+MeetsNoEarlier c r top beside records =
+    (above : List RosterRecord) (at i : ℕ) → IsPathDown c r above at → slice_get (places top beside) i ≡ Some at → length records ≤ length above
+
+-- the records from a position down to the first end
+pub record IsWalk (c : Contents) (r top : ℕ) (beside records : List RosterRecord) (end : End) : Type 0 where
+  pub ends : EndsAt c r top beside records end
+  pub first : MeetsNoEarlier c r top beside records
+
+-- the same of what a walk gives; none where no chain from there gives entries
+abbrev pub IsWalkOf : Contents → ℕ → ℕ → List RosterRecord → Option Chain → Type 0
+IsWalkOf c r top beside (Some chain) = IsWalk c r top beside chain.records.items chain.end
+IsWalkOf c r top beside None = (chain : List RosterRecord) (es : Entries) → IsChainDown c r chain → rebuilt (reverse chain) ≡ Some es → ⊥
+
+-- a position, not above both, that gives no tree, where no memory was wanting
+abbrev pub IsUnmade : Contents → ℕ → ℕ → Unmade → Type 0
+IsUnmade c left right unmade = unmade.error ≡ record_error.Bad → (unmade.at ≤ max left right) × GivesNoTree c unmade.at
+
+-- no more records were asked for than the chain of a position has
+abbrev pub AsksAlong : Contents → ℕ → ℕ → ℕ → Type 0
+AsksAlong c r before after = (chain : List RosterRecord) → IsChainDown c r chain → after ≤ before + length chain
+
+-- Where the chains of two positions come to one, no more records were asked for than stand above it on either and from it down:
+-- those that both share but once
+abbrev pub AsksOnce : Contents → ℕ → ℕ → ℕ → ℕ → Type 0
+AsksOnce c left right before after = (a b shared : List RosterRecord) (at : ℕ) → IsPathDown c left a at → IsPathDown c right b at → IsChainDown c at shared →
+    after ≤ before + (length a + length b + length shared)

@@ -11,12 +11,14 @@
 #![tactic(auto)]
 
 mod cache;
+mod chains;
 mod damaged;
 mod draft;
 mod errors;
 mod files;
 mod logs;
 mod marked;
+mod meeting;
 mod memory;
 mod meta;
 mod parents;

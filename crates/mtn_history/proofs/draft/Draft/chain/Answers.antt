@@ -1,26 +1,25 @@
-use Rattle.std.proofs.Common.{◌+◌, sym, ◌∙◌, subst, arith}
+use Rattle.std.proofs.Common.{◌+◌, [], Ok, sym, ap, ◌∙◌, subst, arith}
 use Rattle.std.specs.Prelude.{IfSome}
 use Rattle.std.proofs.lemmas.Result.{err_from_is_err_and}
 use Rattle.mtn_ports.specs.Kept.{with_all}
 use Rattle.mtn_history.specs.declared.pending.Pending.{Pending}
 use Rattle.mtn_history.specs.Errors.{IfDamage}
-use Rattle.mtn_history.specs.Rosters.{IsRostered, UnrosteredAt, Rebuilds}
+use Rattle.mtn_history.specs.Rosters.{EndsAt, IsRostered, UnrosteredAt}
 use Rattle.mtn_history.proofs.AskingLemmas.{asks_on, asks_within}
-use Rattle.mtn_history.proofs.RosterLemmas.{unmade, path_next, chain_known, chain_whole, no_chain, one_more_record, stays_low}
+use Rattle.mtn_history.proofs.RosterLemmas.{unmade, path_next, first_more, walk_ends, walk_whole, no_chain, one_more_record, stays_low}
 use Rattle.mtn_history.proofs.draft.Draft.chain.Goals as goal
 
-pub returns-in_err-known-clause-asks : goal.returns-in_err-known-clause-asks
-returns-in_err-known-clause-asks g c = asks_within g.K.Keeper.contents g.K.Keeper.leaves g.K.Keeper.faults g.K.Keeper.reads c.loop-depth.depth 16 c.args.self.now c.loop-depth.self (omega (arith, c.loop-depth-test.true)) c.loop-depth.invariant.asks
+pub returns-in_err-end-clause-asks : goal.returns-in_err-end-clause-asks
+returns-in_err-end-clause-asks g c = asks_within g.K.Keeper.contents g.K.Keeper.leaves g.K.Keeper.faults g.K.Keeper.reads c.loop-depth.depth 16 c.args.self.now c.loop-depth.self (omega (arith, c.loop-depth-test.true)) c.loop-depth.invariant.asks
 
 pub returns-in-Some-clause-asks : goal.returns-in-Some-clause-asks
 returns-in-Some-clause-asks g c = asks_within g.K.Keeper.contents g.K.Keeper.leaves g.K.Keeper.faults g.K.Keeper.reads c.loop-depth.depth 16 c.args.self.now c.loop-depth.self (omega (arith, c.loop-depth-test.true)) c.loop-depth.invariant.asks
 
 pub returns-in-Some-clause-read : goal.returns-in-Some-clause-read
 returns-in-Some-clause-read g c =
-    chain_known (g.K.Keeper.contents c.loop-depth.self.keeper.now) c.args.self.now.pending.batch c.args.at c.loop-depth.next c.loop-depth.chain.items c.in-Some.known.value c.above.result c.loop-depth.invariant.path
-    (subst (λ (p : Pending). IfSome (g.K.Keeper.contents c.loop-depth.self.keeper.now) (λ d. Rebuilds (with_all d p.batch) c.loop-depth.next c.in-Some.known.value)) c.loop-depth.invariant.asks.pending
-    (subst (λ o. IfSome (g.K.Keeper.contents c.loop-depth.self.keeper.now) (λ d. IfSome o (λ r. Rebuilds (with_all d c.loop-depth.self.pending.batch) c.loop-depth.next r.value))) c.in-Some.is c.in_ok-known.ensures))
-    c.above.ensures
+    walk_ends (g.K.Keeper.contents c.loop-depth.self.keeper.now) c.args.self.now.pending.batch c.args.at c.loop-depth.next c.args.top c.args.beside.now c.loop-depth.records.items c.in-Some.end c.loop-depth.invariant.path c.loop-depth.invariant.first
+    (subst (λ (p : Pending). IfSome (g.K.Keeper.contents c.loop-depth.self.keeper.now) (λ d. EndsAt (with_all d p.batch) c.loop-depth.next c.args.top c.args.beside.now [] c.in-Some.end)) c.loop-depth.invariant.asks.pending
+    (subst (λ o. IfSome (g.K.Keeper.contents c.loop-depth.self.keeper.now) (λ d. IfSome o (EndsAt (with_all d c.loop-depth.self.pending.batch) c.loop-depth.next c.args.top c.args.beside.now []))) c.in-Some.is c.in_ok-end.ensures.ends))
 
 pub returns-in_err-record-clause-asks : goal.returns-in_err-record-clause-asks
 returns-in_err-record-clause-asks g c = asks_within g.K.Keeper.contents g.K.Keeper.leaves g.K.Keeper.faults g.K.Keeper.reads (c.loop-depth.depth + 1) 16 c.args.self.now c.rostered.new.self (omega (arith, c.loop-depth-test.true)) (asks_on g.K.Keeper.contents g.K.Keeper.leaves g.K.Keeper.faults g.K.Keeper.reads c.loop-depth.depth 1 c.args.self.now c.loop-depth.self c.rostered.new.self c.loop-depth.invariant.asks c.rostered.ensures.asks)
@@ -39,20 +38,24 @@ returns-in-None-clause-asks g c = asks_within g.K.Keeper.contents g.K.Keeper.lea
 
 pub returns-in-None-clause-read : goal.returns-in-None-clause-read
 returns-in-None-clause-read g c =
-    chain_whole (g.K.Keeper.contents c.loop-depth.self.keeper.now) (g.K.Keeper.contents c.rostered.new.self.keeper.now) c.args.self.now.pending.batch c.args.at c.loop-depth.next c.loop-depth.chain.items c.push.new.self.items c.reverse.new.self.items c.in_ok-record.record c.loop-depth.depth c.loop-depth.invariant.long
-    c.rostered.ensures.asks.stays.same c.loop-depth.invariant.path
+    walk_whole (g.K.Keeper.contents c.loop-depth.self.keeper.now) (g.K.Keeper.contents c.rostered.new.self.keeper.now) c.args.self.now.pending.batch c.args.at c.loop-depth.next c.args.top c.args.beside.now c.loop-depth.records.items c.push.new.self.items c.in_ok-record.record c.rostered.ensures.asks.stays.same
+    c.loop-depth.invariant.path
     (subst (λ (p : Pending). IfSome (g.K.Keeper.contents c.rostered.new.self.keeper.now) (λ d. IsRostered (with_all d p.batch) c.loop-depth.next c.in_ok-record.record)) c.loop-depth.invariant.asks.pending c.in_ok-record.ensures.read)
-    (sym c.base_of-base.ensures ∙ c.in-None.is) c.in_ok-push.ensures.items c.reverse.ensures.items
+    (sym c.base_of-base.ensures ∙ c.in-None.is) c.in_ok-push.ensures.items
+    (first_more (g.K.Keeper.contents c.loop-depth.self.keeper.now) (g.K.Keeper.contents c.rostered.new.self.keeper.now) c.args.self.now.pending.batch c.args.at c.loop-depth.next c.args.top c.args.beside.now c.loop-depth.records.items c.push.new.self.items c.in_ok-record.record c.rostered.ensures.asks.stays.same
+    c.loop-depth.invariant.path c.loop-depth.invariant.first (c.in_ok-end.ensures.none (ap (λ o. Ok o) c.in_default.is)) c.in_ok-push.ensures.items)
 
 pub loop-depth-preserved : goal.loop-depth-preserved
 loop-depth-preserved g c = record {
   asks = asks_on g.K.Keeper.contents g.K.Keeper.leaves g.K.Keeper.faults g.K.Keeper.reads c.loop-depth.depth 1 c.args.self.now c.loop-depth.self c.rostered.new.self c.loop-depth.invariant.asks c.rostered.ensures.asks;
-  long = one_more_record c.loop-depth.chain.items c.push.new.self.items c.in_ok-record.record c.loop-depth.depth c.loop-depth.invariant.long c.in_ok-push.ensures.items;
+  long = one_more_record c.loop-depth.records.items c.push.new.self.items c.in_ok-record.record c.loop-depth.depth c.loop-depth.invariant.long c.in_ok-push.ensures.items;
   low = stays_low c.in_ok-record.record c.args.at c.loop-depth.next c.in-Some-base.base (sym c.base_of-base.ensures ∙ c.in-Some-base.is) c.in_ok-record.ensures.below c.loop-depth.invariant.low;
-  path = path_next (g.K.Keeper.contents c.loop-depth.self.keeper.now) (g.K.Keeper.contents c.rostered.new.self.keeper.now) c.args.self.now.pending.batch c.args.at c.loop-depth.next c.in-Some-base.base c.loop-depth.chain.items c.push.new.self.items c.in_ok-record.record
+  path = path_next (g.K.Keeper.contents c.loop-depth.self.keeper.now) (g.K.Keeper.contents c.rostered.new.self.keeper.now) c.args.self.now.pending.batch c.args.at c.loop-depth.next c.in-Some-base.base c.loop-depth.records.items c.push.new.self.items c.in_ok-record.record
       c.rostered.ensures.asks.stays.same c.loop-depth.invariant.path
       (subst (λ (p : Pending). IfSome (g.K.Keeper.contents c.rostered.new.self.keeper.now) (λ d. IsRostered (with_all d p.batch) c.loop-depth.next c.in_ok-record.record)) c.loop-depth.invariant.asks.pending c.in_ok-record.ensures.read)
       (sym c.base_of-base.ensures ∙ c.in-Some-base.is) c.in_ok-push.ensures.items;
+  first = first_more (g.K.Keeper.contents c.loop-depth.self.keeper.now) (g.K.Keeper.contents c.rostered.new.self.keeper.now) c.args.self.now.pending.batch c.args.at c.loop-depth.next c.args.top c.args.beside.now c.loop-depth.records.items c.push.new.self.items c.in_ok-record.record c.rostered.ensures.asks.stays.same
+      c.loop-depth.invariant.path c.loop-depth.invariant.first (c.in_ok-end.ensures.none (ap (λ o. Ok o) c.in_default.is)) c.in_ok-push.ensures.items;
 }
 
 pub returns-clause-asks : goal.returns-clause-asks
@@ -60,4 +63,4 @@ returns-clause-asks g c = asks_within g.K.Keeper.contents g.K.Keeper.leaves g.K.
 
 pub returns-clause-read : goal.returns-clause-read
 returns-clause-read g c =
-    no_chain (g.K.Keeper.contents c.loop-depth.self.keeper.now) c.args.self.now.pending.batch c.args.at c.loop-depth.next c.loop-depth.chain.items c.loop-depth.invariant.path (omega (arith, c.loop-depth.invariant.long, c.loop-depth.auto, c.loop-depth-test.false))
+    no_chain (g.K.Keeper.contents c.loop-depth.self.keeper.now) c.args.self.now.pending.batch c.args.at c.loop-depth.next c.args.top c.args.beside.now c.loop-depth.records.items c.loop-depth.invariant.path (omega (arith, c.loop-depth.invariant.long, c.loop-depth.auto, c.loop-depth-test.false))
