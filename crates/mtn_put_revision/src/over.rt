@@ -290,8 +290,7 @@ fn over_two<I: Ident, K: Keeper>(
         (IsFound (K.contents draft.new.keeper.now) draft.old.pending (with_all c draft.old.pending.batch)))) }
     ensures failed { result ≡ Err (HistoryError.Store StoreError.Failed) → Rose (K.faults draft.old.keeper.now) (K.faults draft.new.keeper.now) }
 {
-    let held_left = draft.roster_at(left)?;
-    let held_right = draft.roster_at(right)?;
+    let (held_left, held_right) = draft.rosters_at(left, right)?;
     let (only_left, only_right) = uncommon_of(alloc, draft, left, right)?;
     let first = held_left.as_ref();
     let second = held_right.as_ref();
