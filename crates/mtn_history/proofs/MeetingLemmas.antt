@@ -1,6 +1,6 @@
 -- Places along chains, and what two chains give that come to one position.
 use Rattle.std.specs.Prelude.{IfSome, OnOk, max, slice_get}
-use Rattle.std.proofs.Common.{◌≡◌, ◌≢◌, ◌≤◌, ◌<◌, ◌+◌, ℕ, zero, suc, List, [], ◌∷◌, length, get_or, drop, Option, Some, None, Result, Ok, Err, refl, sym, ap, ◌∙◌, subst, inr, arith, add-one}
+use Rattle.std.proofs.Common.{◌≡◌, ◌≢◌, ◌≤◌, ◌<◌, ◌+◌, ℕ, zero, suc, List, [], ◌∷◌, length, get_or, drop, Option, Some, None, Result, Ok, Err, refl, sym, ap, ◌∙◌, subst, arith, add-one}
 use Rattle.std.proofs.Math.Seq.{drop-cons}
 use Rattle.mtn_model.specs.Table.{Contents}
 use Rattle.mtn_ports.specs.Kept.{Same, with_all}
@@ -9,7 +9,7 @@ use Rattle.mtn_records.specs.declared.record.RosterRecord.{RosterRecord}
 use Rattle.mtn_records.specs.declared.record.RosterRecord.TheVariants.{Whole, Delta}
 use Rattle.mtn_records.specs.declared.error.RecordError.TheVariants as record_error
 use Rattle.mtn_history.specs.Errors.{IfDamage}
-use Rattle.mtn_history.specs.Rosters.{AreDeltasOn, AreEntriesAt, AsksAlong, AsksOnce, EndsAt, IsPathDown, IsRosterHeld, IsWalk, GivesNoTree, UnmadeBelow, IsUnmade, base_of, meeting_of, places}
+use Rattle.mtn_history.specs.Rosters.{AreDeltasOn, AreEntriesAt, AsksAlong, AsksOnce, EndsAt, IsPathDown, IsRosterHeld, IsWalk, UnmadeBelow, IsUnmade, base_of, meeting_of, places}
 use Rattle.mtn_history.specs.declared.chains.Base.{Base}
 use Rattle.mtn_history.specs.declared.chains.End.{End}
 use Rattle.mtn_history.specs.declared.chains.End.TheVariants.{ToWhole, ToBase, ToMeeting}
@@ -18,7 +18,7 @@ use Rattle.mtn_history.specs.declared.errors.StoreError.{StoreError}
 use Rattle.mtn_history.specs.declared.errors.StoreError.TheVariants.{Failed, Damaged, NoMemory}
 use Rattle.mtn_history.proofs.Knowing.{told_back}
 use Rattle.mtn_history.proofs.LogLemmas.{told_on}
-use Rattle.mtn_history.proofs.RosterLemmas.{asks_once, asks_alone, asks_alone_right}
+use Rattle.mtn_history.proofs.RosterLemmas.{asks_once, asks_alone, asks_alone_right, unrebuilt_below}
 
 first_of : (ys : List ℕ) (i n : ℕ) (rest : List ℕ) → drop i ys ≡ n ∷ rest → slice_get ys i ≡ Some n
 first_of [] zero n rest e = absurd cc
@@ -74,22 +74,11 @@ none_more ys i next at k here other none lt is = none k (omega (arith, lt, apart
 pub none_behind : (r next i k a : ℕ) (xs : List RosterRecord) → drop i xs ≡ [] → drop i (places r xs) ≡ places next (drop i xs) → slice_get (places r xs) k ≡ Some a → k < i
 none_behind r next i k a xs end along at = all_before (places r xs) i k a (along ∙ ap (places next) end) at
 
--- a record that gives no tree is shown
-held_unmade : (c : Contents) (at n : ℕ) (e : StoreError) → at < n → GivesNoTree c at → IfDamage e (IsRosterHeld c at) → IfDamage e (UnmadeBelow n c)
-held_unmade c at n Failed lt none held = tt
-held_unmade c at n NoMemory lt none held = tt
-held_unmade c at n (Damaged d) lt none held = record { place = at; below = lt; wrong = inr (held, none) }
-
+-- a position that gives no tree is shown
 pub shown_unmade : (told : Option Contents) (ps : List Put) (left right : ℕ) (u : Unmade) (e : StoreError) → u.error ≡ record_error.Bad → IfSome told (λ c. IfDamage e (IsRosterHeld (with_all c ps) u.at)) →
     IfSome told (λ c. IsUnmade (with_all c ps) left right u → IfDamage e (UnmadeBelow (max left right + 1) (with_all c ps)))
 shown_unmade None ps left right u e bad held = tt
-shown_unmade (Some c) ps left right u e bad held = λ unmade. let is = unmade bad in held_unmade (with_all c ps) u.at (max left right + 1) e (omega (arith, is.0)) is.1 held
-
-pub drop_none : {X : Type 0} (xs : List X) (i : ℕ) → length xs ≤ i → drop i xs ≡ []
-drop_none [] zero le = refl
-drop_none [] (suc i) le = refl
-drop_none (x ∷ xs) zero le = absurd (omega (arith, le))
-drop_none (x ∷ xs) (suc i) le = drop_none xs i (omega (arith, le))
+shown_unmade (Some c) ps left right u e bad held = λ unmade. let is = unmade bad in unrebuilt_below (with_all c ps) u.at (max left right + 1) e (omega (arith, is.0)) is.1 held
 
 -- what two chains give
 pub met_at : (c : Contents) (r top at : ℕ) (beside xs : List RosterRecord) (end : End) → EndsAt c r top beside xs end → Some at ≡ meeting_of end → IsPathDown c r xs at × ((i : ℕ) × (slice_get (places top beside) i ≡ Some at))

@@ -4,6 +4,7 @@ use Rattle.std.specs.Option.{option_map_or}
 use Rattle.std.proofs.Common.{◌≡◌, ◌≤◌, ◌<◌, ◌+◌, ℕ, zero, suc, Bool, true, false, cond, List, [], ◌∷◌, ◌++◌, length, take, drop, Option, Some, None, refl, sym, ap, ◌∙◌, subst, ◌⊎◌, ⊎_elim, inl, inr, arith}
 use Rattle.std.proofs.lemmas.List.{length-append, length-reverse, append-nil, reverse-append, reverse-reverse}
 use mathlib.Core.List.{reverse-cons}
+use Rattle.std.proofs.lemmas.Bool.{cases_lt}
 use Rattle.std.proofs.lemmas.Bool.Decides.{nat_tests}
 use Rattle.std.proofs.Math.Nat.{eq-or-lt_of_le}
 use Rattle.mtn_roster_deltas.specs.Chain.{Entries, applied, after_record, after_all, rebuilt, deepest, ascend}
@@ -46,12 +47,6 @@ one_body o a b x y = cc
 -- a body is that of one record
 one_roster : (r : ℕ) (a b : List ℕ) (x y : RosterRecord) → a ≡ b → IsRosterAt r a x → IsRosterAt r b y → x ≡ y
 one_roster r a b x y same s t = let both = roster_apart x y [] [] s.formed t.formed (append-nil (roster_text x) ∙ sym s.whole ∙ same ∙ t.whole ∙ sym (append-nil (roster_text y))) in both.0
-
-below_or : (a b : ℕ) → (a < b) ⊎ (b ≤ a)
-below_or zero zero = inr (omega arith)
-below_or zero (suc b) = inl (omega arith)
-below_or (suc a) zero = inr (omega arith)
-below_or (suc a) (suc b) = ⊎_elim (λ less. inl (omega (arith, less))) (λ more. inr (omega (arith, more))) (below_or a b)
 
 module _ (c : Contents) where
   one_rostered : (r : ℕ) (x y : RosterRecord) → IsRostered c r x → IsRostered c r y → x ≡ y
@@ -190,7 +185,7 @@ module _ (c : Contents) where
       ⊎_elim
       (λ less. let near = theirs.first b at (length a) pb (place_on_end left left at [] xs a one ours pa less) in omega (arith, few, long, near, length-append a shared))
       (λ more. omega (arith, few, far, more, length-append b shared))
-      (below_or (length a) (length xs))
+      (cases_lt (length a) (length xs))
 
   -- records of one of them alone
   pub asks_alone : (left right before after : ℕ) → AsksAlong c left before after → AsksOnce c left right before after
@@ -294,18 +289,18 @@ pub no_chain : (told : Option Contents) (ps : List Put) (at next top : ℕ) (bes
 no_chain None ps at next top beside rs path long = tt
 no_chain (Some c) ps at next top beside rs path long = too_deep (with_all c ps) at next top beside rs path long
 
-unrebuilt_at : (c : Contents) (at : ℕ) (e : StoreError) → ((chain : List RosterRecord) (es : Entries) (t : MarkedTree) → IsChainDown c at chain → rebuilt (reverse chain) ≡ Some es → Spells es t → ⊥) →
-    IfDamage e (IsRosterHeld c at) → IfDamage e (UnmadeBelow (at + 1) c)
-unrebuilt_at c at Failed none held = tt
-unrebuilt_at c at NoMemory none held = tt
-unrebuilt_at c at (Damaged d) none held = record { place = at; below = omega arith; wrong = inr (held, none) }
+-- a record that gives no tree is shown
+pub unrebuilt_below : (c : Contents) (at n : ℕ) (e : StoreError) → at < n → GivesNoTree c at → IfDamage e (IsRosterHeld c at) → IfDamage e (UnmadeBelow n c)
+unrebuilt_below c at n Failed lt none held = tt
+unrebuilt_below c at n NoMemory lt none held = tt
+unrebuilt_below c at n (Damaged d) lt none held = record { place = at; below = lt; wrong = inr (held, none) }
 
 -- no chain gives entries
 pub unrebuilt_none : (mid new : Option Contents) (ps : List Put) (at top : ℕ) (beside : List RosterRecord) (e : StoreError) → Same mid new → IfSome mid (λ c. IsWalkOf (with_all c ps) at top beside None) →
     IfSome new (λ c. IfDamage e (IsRosterHeld (with_all c ps) at)) → IfSome new (λ c. IfDamage e (UnmadeBelow (at + 1) (with_all c ps)))
 unrebuilt_none mid None ps at top beside e same none held = tt
 unrebuilt_none mid (Some c) ps at top beside e same none held =
-    unrebuilt_at (with_all c ps) at e (λ chain es t down made spelled. told_on mid (Some c) (λ d. IsWalkOf (with_all d ps) at top beside None) same none c refl chain es down made) held
+    unrebuilt_below (with_all c ps) at (at + 1) e (omega arith) (λ chain es t down made spelled. told_on mid (Some c) (λ d. IsWalkOf (with_all d ps) at top beside None) same none c refl chain es down made) held
 
 -- the chain gives no tree
 pub unrebuilt_bad : (mid new : Option Contents) (ps : List Put) (at : ℕ) (e : StoreError) (chain : Chain) → Same mid new → IfSome mid (λ c. IsWalk (with_all c ps) at at [] chain.records.items chain.end) →
@@ -313,7 +308,7 @@ pub unrebuilt_bad : (mid new : Option Contents) (ps : List Put) (at : ℕ) (e : 
     IfSome new (λ c. IfDamage e (IsRosterHeld (with_all c ps) at)) → IfSome new (λ c. IfDamage e (UnmadeBelow (at + 1) (with_all c ps)))
 unrebuilt_bad mid None ps at e chain same is bad held = tt
 unrebuilt_bad mid (Some c) ps at e chain same is bad held =
-    unrebuilt_at (with_all c ps) at e (bad (with_all c ps) at (told_on mid (Some c) (λ d. IsWalk (with_all d ps) at at [] chain.records.items chain.end) same is c refl).ends) held
+    unrebuilt_below (with_all c ps) at (at + 1) e (omega arith) (bad (with_all c ps) at (told_on mid (Some c) (λ d. IsWalk (with_all d ps) at at [] chain.records.items chain.end) same is c refl).ends) held
 
 pub is_rebuilt : (told : Option Contents) (ps : List Put) (at : ℕ) (chain : Chain) (found : Rebuilt) → IfSome told (λ c. IsWalk (with_all c ps) at at [] chain.records.items chain.end) →
     ((c : Contents) (r : ℕ) → IsChainOf c r chain → Rebuilds c r found) → IfSome told (λ c. Rebuilds (with_all c ps) at found)

@@ -1,7 +1,8 @@
 use Rattle.std.proofs.Common.{Some, sym, ap, ◌∙◌}
+use Rattle.std.proofs.lemmas.List.{drop_all}
 use Rattle.std.proofs.lemmas.Bool.{eq-eqb, eqb-true, true≢false}
 use Rattle.mtn_history.specs.Rosters.{places}
-use Rattle.mtn_history.proofs.MeetingLemmas.{drop_none, none_behind, none_more, place_here, place_last, place_next}
+use Rattle.mtn_history.proofs.MeetingLemmas.{none_behind, none_more, place_here, place_last, place_next}
 use Rattle.mtn_history.proofs.chains.place_of.Goals as goal
 
 pub returns-then-eq-clause-found : goal.returns-then-eq-clause-found
@@ -20,4 +21,4 @@ loop-place-preserved c = record {
 
 pub returns-clause-none : goal.returns-clause-none
 returns-clause-none c = λ e k at.
-    c.loop-place.invariant.none k (none_behind c.args.top c.loop-place.next c.loop-place.place k c.args.at c.args.records.now (drop_none c.args.records.now c.loop-place.place c.loop-place-test.false) c.loop-place.invariant.along at) at
+    c.loop-place.invariant.none k (none_behind c.args.top c.loop-place.next c.loop-place.place k c.args.at c.args.records.now (drop_all c.loop-place.place c.args.records.now c.loop-place-test.false) c.loop-place.invariant.along at) at
