@@ -7,3 +7,4 @@
 
 pub mod history;
 pub mod keeper;
+pub mod rosters;

@@ -11,7 +11,7 @@ ghost use Rattle.mtn_history.specs.Asking.{OnlyAsks};
 ghost use Rattle.mtn_history.specs.Damage.{IsDamage};
 ghost use Rattle.mtn_history.specs.Errors.{IfDamage, IfStoreDamage};
 ghost use Rattle.mtn_history.specs.Marked.{AreHeld, FindsRoster, IsCounted};
-ghost use Rattle.mtn_history.specs.Rosters.{IsRosterThere, Rebuilds, UnmadeBelow};
+ghost use Rattle.mtn_history.specs.Rosters.{AsksAlong, IsRosterThere, Rebuilds, UnmadeBelow};
 ghost use Rattle.mtn_history.specs.Stands.{IsFounded};
 
 use mtn_ancestry::Pos;
@@ -26,6 +26,7 @@ pub fn roster_at<K: Keeper>(draft: &mut Draft<'_, K>, at: Pos) -> Result<Rc<Rebu
     ensures found { (f : List ℕ → List ℕ) (s : State) (d : IsFounded f (K.contents draft.new.keeper.now) draft.old.pending s) → at < draft.old.pending.count → IfOk result (λ r. IsMarkedAt d.stands.history at r.value.roster) }
     ensures rebuilt { IfSome (K.contents draft.new.keeper.now) (λ c. IfOk result (λ r. Rebuilds (with_all c draft.old.pending.batch) at r.value)) }
     ensures few { OnOk result (K.reads draft.new.keeper.now ≤ K.reads draft.old.keeper.now + MAX_CHAIN) }
+    ensures along { IfSome (K.contents draft.new.keeper.now) (λ c. OnOk result (AsksAlong (with_all c draft.old.pending.batch) at (K.reads draft.old.keeper.now) (K.reads draft.new.keeper.now))) }
     ensures damaged { IfSome (K.contents draft.new.keeper.now) (λ c. IfErr result (λ e. IfDamage e (UnmadeBelow (at + 1) (with_all c draft.old.pending.batch)))) }
     ensures failed { result ≡ Err StoreError.Failed → Rose (K.faults draft.old.keeper.now) (K.faults draft.new.keeper.now) }
 {

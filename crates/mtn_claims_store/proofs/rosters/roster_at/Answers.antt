@@ -13,6 +13,9 @@ returns-clause-rebuilt g c = search rules
 pub returns-clause-few : goal.returns-clause-few
 returns-clause-few g c = search rules
 
+pub returns-clause-along : goal.returns-clause-along
+returns-clause-along g c = search rules
+
 pub returns-clause-damaged : goal.returns-clause-damaged
 returns-clause-damaged g c = search rules
 
