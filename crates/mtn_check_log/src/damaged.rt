@@ -31,13 +31,15 @@ pub fn missing(alloc: Global, table: u8, key: &[u8]) -> StoreError
     }
 }
 
-/// What was found, or none where there is damage.
+/// What was found, or none where there is damage. An error that is no damage is passed on as it is.
 pub fn undamaged<T: Drop>(found: Result<T, StoreError>) -> Result<Option<T>, StoreError>
     ensures value { IfOk found (λ x. result ≡ Ok (Some x)) }
     ensures damaged { IfErr found (λ e. IfDamage e (λ _. result ≡ Ok None)) }
     ensures found { IfOk result (λ o. IfSome o (λ x. found ≡ Ok x)) }
     ensures sound { IfErr result (λ e. IfDamage e (λ _. ⊥)) }
     ensures failed { result ≡ Err StoreError.Failed → found ≡ Err StoreError.Failed }
+    ensures failure { found ≡ Err StoreError.Failed → result ≡ Err StoreError.Failed }
+    ensures memory { found ≡ Err StoreError.NoMemory → result ≡ Err StoreError.NoMemory }
 {
     match found {
         Ok(value) => Ok(Some(value)),

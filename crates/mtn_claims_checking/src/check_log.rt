@@ -76,6 +76,8 @@ pub fn undamaged<T: Drop>(found: Result<T, StoreError>) -> Result<Option<T>, Sto
     ensures found { IfOk result (λ o. IfSome o (λ x. found ≡ Ok x)) }
     ensures sound { IfErr result (λ e. IfDamage e (λ _. ⊥)) }
     ensures failed { result ≡ Err StoreError.Failed → found ≡ Err StoreError.Failed }
+    ensures failure { found ≡ Err StoreError.Failed → result ≡ Err StoreError.Failed }
+    ensures memory { found ≡ Err StoreError.NoMemory → result ≡ Err StoreError.NoMemory }
 {
     mtn_check_log::undamaged(found)
 }
