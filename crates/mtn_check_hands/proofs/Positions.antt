@@ -7,7 +7,7 @@ use Rattle.mtn_history_laws.specs.History.{Revision}
 use Rattle.mtn_model.specs.Table.{Contents}
 use Rattle.mtn_ports.proofs.KeptLemmas.{if_same}
 use Rattle.mtn_ports.specs.Kept.{Same}
-use Rattle.mtn_check_records.specs.Reading.{ids_of, places_of}
+use Rattle.mtn_check_records.specs.Reading.{ids_of, places_of, IsGivenAt}
 use Rattle.mtn_check_hands.specs.Hands.{IsHandRead}
 use Rattle.mtn_check_hands.specs.Putting.{read_of}
 use Rattle.mtn_check_hands.specs.Reading.{AreApart, AreKinAt, AreRecordsAt, IsNextAt, IsReadWith}
@@ -24,8 +24,8 @@ apart_in h (p ∷ q ∷ []) job is = is
 apart_in h (p ∷ q ∷ r ∷ ps) job is = tt
 
 read_with : (c : Contents) (at : ℕ) (hands : Hands) (records : Records) (next : ℕ) (kin : Kin) (stored : Stored) → AreRecordsAt c at records → IsNextAt c at hands next → AreKinAt c at hands kin → ids_of kin.parents ≡ records.mentions.parents →
-    IsReadWith c at hands (read_of at records next kin stored)
-read_with c at hands records next kin stored are is_next are_kin named = λ f n front begun walked right.
+    IsGivenAt at records.roster.items kin.parents kin.records stored.entries stored.depth → IsReadWith c at hands (read_of at records next kin stored)
+read_with c at hands records next kin stored are is_next are_kin named given = λ f n front begun walked right.
     let related = are_kin f n front begun walked right in
     record {
       here = refl;
@@ -40,14 +40,16 @@ read_with c at hands records next kin stored are is_next are_kin named = λ f n 
       named = λ v read. are.mentions.named v read ∙ sym named;
       files = are.mentions.files;
       unheld = are.mentions.unheld;
+      stored = (stored.entries, refl, given);
     }
 
 pub told_read : (first second told : Option Contents) (at : ℕ) (hands : Hands) (records : Records) (next : ℕ) (kin : Kin) (stored : Stored) (read : Read) → Same first second → Same second told → read ≡ read_of at records next kin stored →
-    IfSome first (λ c. AreRecordsAt c at records) → IfSome second (λ c. IsNextAt c at hands next) → IfSome told (λ c. AreKinAt c at hands kin) → ids_of kin.parents ≡ records.mentions.parents → IfSome told (λ c. IsReadWith c at hands read)
-told_read first second None at hands records next kin stored read same later is are is_next are_kin named = tt
-told_read first second (Some c) at hands records next kin stored read same later is are is_next are_kin named =
+    IfSome first (λ c. AreRecordsAt c at records) → IfSome second (λ c. IsNextAt c at hands next) → IfSome told (λ c. AreKinAt c at hands kin) → ids_of kin.parents ≡ records.mentions.parents →
+    IsGivenAt at records.roster.items kin.parents kin.records stored.entries stored.depth → IfSome told (λ c. IsReadWith c at hands read)
+told_read first second None at hands records next kin stored read same later is are is_next are_kin named given = tt
+told_read first second (Some c) at hands records next kin stored read same later is are is_next are_kin named given =
     subst (IsReadWith c at hands) (sym is) (read_with c at hands records next kin stored
-    (if_same first (Some c) (λ d. AreRecordsAt d at records) (λ d told. same d (later d told)) are) (if_same second (Some c) (λ d. IsNextAt d at hands next) later is_next) are_kin named)
+    (if_same first (Some c) (λ d. AreRecordsAt d at records) (λ d told. same d (later d told)) are) (if_same second (Some c) (λ d. IsNextAt d at hands next) later is_next) are_kin named given)
 
 pub hand_read : (at : ℕ) (records : Records) (next : ℕ) (kin : Kin) (stored : Stored) (read : Read) → read ≡ read_of at records next kin stored → IsHandRead read.position read.job read.hand
 hand_read at records next kin stored read is =

@@ -11,11 +11,12 @@ use Rattle.mtn_check_pieces_laws.specs.Behind.{AreApartIn}
 use Rattle.mtn_history.specs.Revisions.{next_of}
 use Rattle.mtn_history_laws.specs.History.{Revision}
 use Rattle.mtn_model.specs.Table.{Contents, body_at}
-use Rattle.mtn_records.specs.Bounds.{IsLogAt}
+use Rattle.mtn_records.specs.Bounds.{IsLogAt, IsRosterAt}
 use Rattle.mtn_records.specs.Fields.{number_text}
 use Rattle.mtn_records.specs.declared.record.RosterRecord.{RosterRecord}
-use Rattle.mtn_records.specs.declared.record.RosterRecord.TheVariants.{Whole}
+use Rattle.mtn_records.specs.declared.record.RosterRecord.TheVariants.{Whole, Delta}
 use Rattle.mtn_replay.specs.Making.{unknown_file}
+use Rattle.mtn_roster_deltas.specs.Chain.{Entries, applied}
 use Rattle.mtn_check_records.specs.declared.hand.Hand.{Hand}
 use Rattle.mtn_check_records.specs.declared.hand.Parent.{Parent}
 use Rattle.mtn_check_records.specs.declared.hand.Position.{Position}
@@ -45,7 +46,26 @@ ids_of parents = map (λ (p : Parent). p.id) parents
 abbrev pub named_in : List Edge → List Id
 named_in edges = filter_map (λ (e : Edge). e.parent) edges
 
--- what stands at r, and a job for its roster, over the front below: the parents are those that the text names
+-- the entries after a delta on those of the first record
+pub record IsAfterFirst (records : List RosterRecord) (gone : List ℕ) (changed entries : Entries) : Type 0 where
+  pub below : Entries
+  pub first : slice_get records 0 ≡ Some (Whole below)
+  pub after : applied below gone changed ≡ Some entries
+
+-- what the record of a roster gives over its parents, and how many deltas it stands above a whole one: its own entries, or those that
+-- its delta on the first parent makes of the first of their records
+abbrev pub IsGivenBy : List Parent → List RosterRecord → RosterRecord → Entries → ℕ → Type 0
+IsGivenBy parents records (Whole own) entries depth = (entries ≡ own) × (depth ≡ 0)
+IsGivenBy parents records (Delta base deep gone changed) entries depth = (slice_get (places_of parents) 0 ≡ Some base) × (depth ≡ deep) × IsAfterFirst records gone changed entries
+
+-- the same of the record under r with this body
+pub record IsGivenAt (r : ℕ) (body : List ℕ) (parents : List Parent) (records : List RosterRecord) (entries : Entries) (depth : ℕ) : Type 0 where
+  pub roster : RosterRecord
+  pub text : IsRosterAt r body roster
+  pub given : IsGivenBy parents records roster entries depth
+
+-- what stands at r, and a job for its roster, over the front below: the parents are those that the text names, and the stored entries are
+-- what the roster's record gives
 pub record IsReadAt (c : Contents) (r : ℕ) (front : Front) (x : Position) (job : CheckJob) : Type 0 where
   pub here : job.at ≡ r
   pub log : body_at c 4 (number_text r) ≡ Some x.log.items
@@ -59,6 +79,7 @@ pub record IsReadAt (c : Contents) (r : ℕ) (front : Front) (x : Position) (job
   pub named : (v : Spelled) → IsRevisionOf job.text v → named_in v.edges ≡ ids_of x.parents
   pub files : (v : Spelled) → IsRevisionOf job.text v → IsTrue x.held → unknown_file (c 2) v.edges ≡ None
   pub unheld : (v : Spelled) → IsRevisionOf job.text v → x.held ≡ false → IsSome (unknown_file (c 2) v.edges)
+  pub stored : (entries : Entries) × (job.stored ≡ Whole entries) × IsGivenAt r x.roster.items x.parents job.parents entries x.depth
 
 -- one revision more, of which that is kept which was read
 pub record IsStepOf (f : List ℕ → List ℕ) (c : Contents) (r : ℕ) (front : Front) (x : Position) (job : CheckJob) : Type 0 where

@@ -1,9 +1,10 @@
 use Rattle.std.proofs.Common.{◌≡◌, subst}
 use Rattle.std.specs.Prelude.{IfSome}
 use Rattle.mtn_ports.proofs.KeptLemmas.{stays_trans}
-use Rattle.mtn_check_records.specs.Reading.{ids_of}
+use Rattle.mtn_check_records.specs.Reading.{ids_of, IsGivenAt}
 use Rattle.mtn_check_hands.specs.Reading.{AreKinAt, AreRecordsAt, IsNextAt}
 use Rattle.mtn_check_hands.specs.declared.kin.Kin.{Kin}
+use Rattle.mtn_check_hands.specs.declared.stored.Stored.{Stored}
 use Rattle.mtn_check_hands.proofs.Positions.{told_read}
 use Rattle.mtn_check_hands.proofs.read.read_at.Goals as goal
 
@@ -42,3 +43,4 @@ returns-in_ok-put_together-in-Some-4-clause-found g c =
     (subst (λ o. IfSome two (λ k. IfSome o (IsNextAt k c.args.at c.args.hands.now))) c.in-Some-2.is c.in_ok-next.ensures.found)
     (subst (λ o. IfSome told (λ k. IfSome o (AreKinAt k c.args.at c.args.hands.now))) c.in-Some-3.is c.in_ok-kin.ensures.found)
     (subst (λ o. IfSome o (λ (k : Kin). ids_of k.parents ≡ c.in-Some.records.mentions.parents)) c.in-Some-3.is c.in_ok-kin.ensures.named)
+    (subst (λ o. IfSome o (λ (s : Stored). IsGivenAt c.args.at c.in-Some.records.roster.items c.in-Some-3.kin.parents c.in-Some-3.kin.records s.entries s.depth)) c.in-Some-4.is c.in_ok-stored.ensures)
