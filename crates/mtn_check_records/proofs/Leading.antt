@@ -1,7 +1,7 @@
 -- The records of a position whose job agrees lead to one revision more, or the first that is not as it should be is its damage.
-use Rattle.std.specs.Prelude.{IsSome, IsTrue, take}
+use Rattle.std.specs.Prelude.{All, IsSome, IsTrue, take}
 use Rattle.std.specs.List.{AllZip}
-use Rattle.std.proofs.Common.{◌≡◌, ◌<◌, ◌≤◌, ◌+◌, ◌⊎◌, ℕ, false, List, [], ◌∷◌, ◌++◌, length, drop, Option, Some, None, refl, sym, ap, ◌∙◌, subst, inl, inr, arith}
+use Rattle.std.proofs.Common.{◌≡◌, ◌<◌, ◌≤◌, ◌+◌, ◌*◌, ◌⊎◌, ℕ, false, List, [], ◌∷◌, ◌++◌, length, drop, Option, Some, None, refl, sym, ap, ◌∙◌, subst, inl, inr, arith}
 use Rattle.std.proofs.lemmas.List.{drop_at}
 use Rattle.mtn_base.specs.Hex.{id_of}
 use Rattle.mtn_base.specs.declared.id.Id.{Id}
@@ -18,43 +18,54 @@ use Rattle.mtn_check_laws.specs.Sets.{HaveSets}
 use Rattle.mtn_check_laws.proofs.Due.{due_sets, front_sets, one_due}
 use Rattle.mtn_check_laws.proofs.Rosters.{one_kept}
 use Rattle.mtn_check_laws.proofs.Standing.{front_stands}
+use Rattle.mtn_check_laws.proofs.Walks.{one_roster}
 use Rattle.mtn_check_pieces.specs.Verdict.{IsAgreeing, IsRevisionOf, IsWholeOf}
 use Rattle.mtn_check_pieces.specs.declared.job.CheckJob.{CheckJob}
 use Rattle.mtn_check_pieces.proofs.Answering.{one_whole}
 use Rattle.mtn_check_pieces_laws.specs.Behind.{IsJobBehind, IsKeptUnnumbered, logged_of}
 use Rattle.mtn_check_pieces_laws.proofs.Behind.{agreeing_is_kept, agreeing_is_lawful}
+use Rattle.mtn_entry_laws.specs.Entries.{HasLawfulEntries}
+use Rattle.mtn_entry_laws.proofs.LawfulEntries.{all_spell}
 use Rattle.mtn_history.specs.Revisions.{Kept, next_of, all_entries, depth_on, IsRosterOf}
 use Rattle.mtn_history.specs.declared.errors.Damage.TheVariants.{Bad}
-use Rattle.mtn_history_laws.specs.History.{Revision, IsGrown}
+use Rattle.mtn_history_laws.specs.History.{Revision, revision_tree, IsGrown}
+use Rattle.mtn_marking.specs.Graph.{IsMarkedAt}
 use Rattle.mtn_marking.specs.Marking.{MarkedTree}
 use Rattle.mtn_marking.proofs.Zips.{take_past}
 use Rattle.mtn_model.specs.State.{Logged}
 use Rattle.mtn_model.specs.Table.{Contents}
 use Rattle.mtn_put_revision.specs.Keeping.{AreKeptAt, IsFirstDepth, IsRecordOn}
 use Rattle.mtn_put_revision.proofs.Deciding.{has_room}
-use Rattle.mtn_put_revision.proofs.Numbers.{parents_known}
+use Rattle.mtn_put_revision.proofs.Numbers.{few_nodes, next_low, parents_known}
 use Rattle.mtn_put_revision.proofs.Putting.{known_ascend}
+use Rattle.mtn_put_revision.specs.Writing.{AllAscend, IsNextTree}
 use Rattle.mtn_records.specs.Bounds.{IsRosterAt}
 use Rattle.mtn_records.specs.Fields.{number_text}
 use Rattle.mtn_records.specs.Records.{roster_text}
 use Rattle.mtn_records.specs.declared.record.RosterRecord.{RosterRecord}
-use Rattle.mtn_replay.specs.Lawful.{IsNext}
+use Rattle.mtn_records.specs.declared.record.RosterRecord.TheVariants.{Whole}
+use Rattle.mtn_replay.specs.Lawful.{IsHistory, IsNext}
 use Rattle.mtn_replay.specs.Making.{bad_change, bad_join, log_full, made, parents_of, place_of, refusal_of, too_many, too_long, tree_refusal, unknown_file, unknown_parent}
-use Rattle.mtn_replay.proofs.Histories.{history_is_grown, history_more}
+use Rattle.mtn_replay.proofs.Histories.{history_is_grown, history_more, last_at}
 use Rattle.mtn_replay.proofs.Steps.{both_none, join_none}
 use Rattle.mtn_roster.specs.Tree.{entry_of}
 use Rattle.mtn_roster_deltas.specs.Chain.{Entries}
 use Rattle.mtn_roster_deltas.specs.Numbering.{all_of, fresh, number_among, AreKnown, IsNumbering}
 use Rattle.mtn_roster_deltas.proofs.Known.{numbering_over, same_fresh}
-use Rattle.mtn_check_records.specs.Due.{first_depth, HasEntries, IsDueOver, IsFound, IsFoundBeside, IsFoundOver, IsFoundUnder, IsFoundWith, IsNumberedOn, IsOtherNext, IsOtherOver, IsSound, IsTextFit, IsTextUnfit, IsToldParents, IsUnderId, IsUnsound}
+use Rattle.mtn_check_records.specs.Due.{first_depth, HasEntries, HasNoNumbers, HasNoRecord, IsDueOver, IsFound, IsFoundOver, IsFoundUnder, IsFoundWith, IsNumberedOn, IsOtherNext, IsOtherOver, IsSound, IsTextFit, IsTextUnfit, IsToldParents, IsUnderId, IsUnsound}
 use Rattle.mtn_check_records.specs.Fitting.{IsFitting}
 use Rattle.mtn_check_records.specs.Reading.{places_of, IsReadAt, IsStepOf}
 use Rattle.mtn_check_records.specs.declared.hand.Fit.{Fit}
 use Rattle.mtn_check_records.specs.declared.hand.Fit.TheVariants.{Fits, OtherText, OtherLog, OtherRoster, Undecided}
 use Rattle.mtn_check_records.specs.declared.hand.Position.{Position}
+use Rattle.mtn_check_records.proofs.Given.{given_is}
 use Rattle.mtn_check_records.proofs.Numbering.{same_number}
-use Rattle.mtn_check_records.proofs.Parents.{behind as behind_of, first_is, fresh as fresh_of, grown as grown_of, kept_are, long as long_of, parents_are}
+use Rattle.mtn_check_records.proofs.Parents.{are_low, are_whole, behind as behind_of, first_is, fresh as fresh_of, grown as grown_of, kept_are, long as long_of, parents_are}
 use Rattle.mtn_check_records.proofs.Records.{deep_is, roster_on}
+
+-- the next number of a log within its limit is at most the last one
+within_numbers : (n next m : ℕ) → n ≡ next → next ≤ 1 + 100000 * m → m < 2147483648 → n ≤ 214748364800001
+within_numbers n next m is low few = omega (arith, is, low, few)
 
 module _ (f : List ℕ → List ℕ) (x : Position) (job : CheckJob) (c : Contents) (r : ℕ) (front : Front) (walked : IsFrontAt f c r front) (low : r < 2147483648)
     (at : IsReadAt c r front x job) (g : IsAgreeing job) where
@@ -180,6 +191,23 @@ module _ (f : List ℕ → List ℕ) (x : Position) (job : CheckJob) (c : Conten
     lawful : IsNext f (c 2) h (logged_of job) v
     lawful = agreeing_is_lawful f c r front job stands g behind fit.under.short fit.under.id (has_room h r (sym long) low) fine
 
+    more : IsHistory f (c 2) (front.log ++ logged_of job ∷ []) (h ++ v ∷ [])
+    more = history_more f (c 2) front.log h (logged_of job) v stands.spelled lawful
+
+    grown : IsGrown (h ++ v ∷ [])
+    grown = history_is_grown f (c 2) (front.log ++ logged_of job ∷ []) (h ++ v ∷ []) more
+
+    -- the history may have the stored tree next
+    next_tree : IsNextTree h v t
+    next_tree = record {
+      grown = grown;
+      marked = subst (IsMarkedAt (h ++ v ∷ []) (length h)) (sym own_tree) kept.marked;
+      few = few_nodes t.tree (both_none (too_many t.tree) (too_long t.tree) fit.sound.limits).0;
+      entries =
+          subst (λ (u : MarkedTree). HasLawfulEntries u.tree) (sym own_tree)
+          (subst (λ o. HasLawfulEntries (revision_tree o)) (last_at h v) (all_spell f (c 2) (front.log ++ logged_of job ∷ []) (h ++ v ∷ []) more (length h)));
+    }
+
     text_at : IsTextAt f c r front x.entry.id (logged_of job) v
     text_at = record { same = ap (λ (i : Id). i.0) at.id; held = at.text; lawful = lawful }
 
@@ -210,6 +238,23 @@ module _ (f : List ℕ → List ℕ) (x : Position) (job : CheckJob) (c : Conten
 
       other_next : IsOtherNext x t known → IsDamageAt f c r front (Bad 4 (number_text r) x.log.items)
       other_next never = telling (λ told. never are_known (told.next ∙ sym next_is))
+
+      up : AllAscend known
+      up = known_ascend h ks stands.revisions places known kept_places
+
+      -- behind a front numbers are due
+      some_numbers : HasNoNumbers x known → ⊥
+      some_numbers none =
+          let most = next_low f (c 2) front.log h ks stands.spelled stands.revisions in
+          let next = at.next in
+          let kept_long = stands.revisions.long in
+          none (within_numbers x.next (next_of ks) (length ks) next most (let l = long in omega (arith, l, kept_long, low))) are_known
+
+      -- and the record that is due can be written
+      some_record : HasNoRecord x job t places known → ⊥
+      some_record n =
+          n.none (subst (λ m. All (λ p. p < m) places) (long ∙ sym at.here) (are_low front (grown_of f c r front x job stands low at) x.parents job.parents at.parents)) up
+          h v t next_tree (n.numbered.numbers are_known).spells (long ∙ sym at.here) (subst (λ m. m < 2147483648) (sym at.here) low)
 
       first_deep : IsFirstDepth ks places (first_depth x.parents)
       first_deep = first_is front (grown_of f c r front x job stands low at) x.parents job.parents at.parents
@@ -247,7 +292,7 @@ module _ (f : List ℕ → List ℕ) (x : Position) (job : CheckJob) (c : Conten
         on : (s : RosterRecord) × IsRosterOf ks places new s × IsRosterAt job.at body s
         on =
             roster_on ks places known job.at body (first_depth x.parents) new kept_places first_deep
-            (known_ascend h ks stands.revisions places known kept_places) numbered.ascending written
+            up numbered.ascending written
 
         of : IsRosterOf ks v.parents new on.0
         of = subst (λ ps. IsRosterOf ks ps new on.0) (sym stand) on.1
@@ -256,9 +301,6 @@ module _ (f : List ℕ → List ℕ) (x : Position) (job : CheckJob) (c : Conten
         formed = subst (λ n. IsRosterAt n body on.0) at.here on.2
 
         -- another record that is due is this one
-        grown : IsGrown (h ++ v ∷ [])
-        grown = history_is_grown f (c 2) (front.log ++ logged_of job ∷ []) (h ++ v ∷ []) (history_more f (c 2) front.log h (logged_of job) v stands.spelled lawful)
-
         sets_of : (k : Kept) (b : List ℕ) (s : RosterRecord) → IsRosterAt r b s → IsRosterOf ks v.parents k s → HaveSets k.entries
         sets_of k b s is there = due_sets ks v.parents k s (front_sets f c r front walked) there is.formed
 
@@ -271,29 +313,43 @@ module _ (f : List ℕ → List ℕ) (x : Position) (job : CheckJob) (c : Conten
         other_roster : (x.roster.items ≡ body → ⊥) → IsDamageAt f c r front (Bad 5 (number_text r) x.roster.items)
         other_roster never = at_roster x.entry (logged_of job) v entered text_at is_told (refl, refl, at.roster, never_due never)
 
+      -- the stored entries and the depth are those of the record that is due
+      module _ (told : IsToldParents x) (due : IsDueOver x job t places known (first_depth x.parents)) where
+        abbrev own_kept : Kept
+        own_kept = new told due.entries due.numbered x.roster.items due.deep due.written
+
+        abbrev own_on : (s : RosterRecord) × IsRosterOf ks places own_kept s × IsRosterAt job.at x.roster.items s
+        own_on = on told due.entries due.numbered x.roster.items due.deep due.written
+
+        own_given : (at.stored.0 ≡ due.entries) × (x.depth ≡ due.deep)
+        own_given =
+            let g = at.stored.2 in
+            let one : own_on.0 ≡ g.roster = one_roster r x.roster.items x.roster.items own_on.0 g.roster refl (subst (λ n. IsRosterAt n x.roster.items own_on.0) at.here own_on.2) g.text in
+            given_is ks x.parents job.parents known own_kept g.roster at.stored.0 x.depth kept_places whole up due.numbered.ascending (subst (IsRosterOf ks places own_kept) one own_on.1) g.given
+
       pub leads_to : IsToldParents x → IsDueOver x job t places known (first_depth x.parents) → IsStepOf f c r front x job
       leads_to told due = record {
-        step = record { logged = logged_of job; revision = v; kept = new told due.entries due.numbered x.roster.items x.depth due.written };
+        step = record { logged = logged_of job; revision = v; kept = own_kept told due };
         is = record {
           entry = x.entry;
           entered = entered;
           text = text_at;
-          told = is_told told due.entries due.numbered x.roster.items x.depth due.written;
+          told = is_told told due.entries due.numbered x.roster.items due.deep due.written;
           roster = record {
-            kept = is_kept told due.entries due.numbered x.roster.items x.depth due.written;
+            kept = is_kept told due.entries due.numbered x.roster.items due.deep due.written;
             body = x.roster.items;
             held = at.roster;
             is = record {
-              roster = (on told due.entries due.numbered x.roster.items x.depth due.written).0;
-              is = of told due.entries due.numbered x.roster.items x.depth due.written;
-              text = formed told due.entries due.numbered x.roster.items x.depth due.written;
+              roster = (own_on told due).0;
+              is = of told due.entries due.numbered x.roster.items due.deep due.written;
+              text = formed told due.entries due.numbered x.roster.items due.deep due.written;
             };
           };
         };
         id = at.id;
-        entries = due.stored;
+        entries = at.stored.1 ∙ ap Whole (own_given told due).0;
         next = refl;
-        depth = refl;
+        depth = sym (own_given told due).1;
       }
 
       pub roster_unfit : IsToldParents x → IsOtherOver x job t places known (first_depth x.parents) → IsDamageAt f c r front (Bad 5 (number_text r) x.roster.items)
@@ -303,39 +359,31 @@ module _ (f : List ℕ → List ℕ) (x : Position) (job : CheckJob) (c : Conten
     log_unfit (inl never) = other_parents never
     log_unfit (inr other) = other_next other.1.0 other.1.1 other.1.2
 
+    -- so nothing is left undecided
+    pub decided : IsFoundWith x job t places job.parents Undecided → ⊥
+    decided (inl never) = never (are_whole front (grown_of f c r front x job stands low at) x.parents job.parents at.parents)
+    decided (inr (known, whole, inl none)) = some_numbers known whole none
+    decided (inr (known, whole, inr none)) = some_record known whole none
+
 pub found_fits : (f : List ℕ → List ℕ) (x : Position) (job : CheckJob) (fit : Fit) → IsFound f x job fit → IsFitting f x job fit
 found_fits f x job Fits is = λ c r front walked low at g. leads_to f x job c r front walked low at g is.0 is.1.1.0 is.1.1.1 is.1.0 is.1.1.2
 found_fits f x job OtherText is = λ c r front walked low at g. text_unfit f x job c r front walked low at g is
 found_fits f x job OtherLog is = λ c r front walked low at g. log_unfit f x job c r front walked low at g is.0 is.1
 found_fits f x job OtherRoster is = λ c r front walked low at g. roster_unfit f x job c r front walked low at g is.0 is.1.1.0 is.1.1.1 is.1.0 is.1.1.2
-found_fits f x job Undecided is = tt
+found_fits f x job Undecided is = λ c r front walked low at g. decided f x job c r front walked low at g is.0 is.1.1
 
--- what is found beside a sound roster, or that it is not
-pub found_under : (f : List ℕ → List ℕ) (x : Position) (job : CheckJob) (manifest : Id) (stored : MarkedTree) → IsWholeOf job.stored stored → IsSound f stored.tree manifest → (fit : Fit) → IsFoundBeside x job stored fit → IsFoundUnder f x job manifest fit
-found_under f x job manifest stored spelled sound Fits is = (stored, spelled, sound, is)
-found_under f x job manifest stored spelled sound OtherText is = absurd is
-found_under f x job manifest stored spelled sound OtherLog is = (stored, spelled, sound, is)
-found_under f x job manifest stored spelled sound OtherRoster is = (stored, spelled, sound, is)
-found_under f x job manifest stored spelled sound Undecided is = tt
-
+-- what is found under the text that was read
 pub found_all : (f : List ℕ → List ℕ) (x : Position) (job : CheckJob) (read : Spelled) → IsUnderId f job → IsRevisionOf job.text read → IsTrue x.held → (fit : Fit) → IsFoundUnder f x job read.manifest fit → IsFound f x job fit
 found_all f x job read under reads held Fits is = (record { under = under; read = read; reads = reads; held = held; stored = is.0; spelled = is.1; sound = is.2 }, is.3)
 found_all f x job read under reads held OtherText is = inr (inr (record { read = read; reads = reads; stored = is.0; spelled = is.1; unsound = is.2 }))
 found_all f x job read under reads held OtherLog is = (record { under = under; read = read; reads = reads; held = held; stored = is.0; spelled = is.1; sound = is.2 }, is.3)
 found_all f x job read under reads held OtherRoster is = (record { under = under; read = read; reads = reads; held = held; stored = is.0; spelled = is.1; sound = is.2 }, is.3)
-found_all f x job read under reads held Undecided is = tt
+found_all f x job read under reads held Undecided is = (record { under = under; read = read; reads = reads; held = held; stored = is.0; spelled = is.1; sound = is.2 }, is.3)
 
--- what is found over the parents that the text names
-pub found_beside : (x : Position) (job : CheckJob) (t : MarkedTree) → IsToldParents x → (fit : Fit) → IsFoundWith x job t (places_of x.parents) job.parents fit → IsFoundBeside x job t fit
-found_beside x job t told Fits is = (told, is)
-found_beside x job t told OtherText is = is.2
-found_beside x job t told OtherLog is = inr (told, is)
-found_beside x job t told OtherRoster is = (told, is)
-found_beside x job t told Undecided is = tt
-
+-- what is found over the whole records of the parents
 pub found_with : (x : Position) (job : CheckJob) (t : MarkedTree) (places : List ℕ) (records : List RosterRecord) (known : List Entries) → AllZip HasEntries records known → (fit : Fit) → IsFoundOver x job t places known (first_depth x.parents) fit → IsFoundWith x job t places records fit
 found_with x job t places records known whole Fits is = (known, whole, is)
 found_with x job t places records known whole OtherText is = (known, whole, is)
 found_with x job t places records known whole OtherLog is = (known, whole, is)
 found_with x job t places records known whole OtherRoster is = (known, whole, is)
-found_with x job t places records known whole Undecided is = tt
+found_with x job t places records known whole Undecided is = inr (known, whole, is)

@@ -1,7 +1,8 @@
 -- The parents that were read are those that the edges name in the history of the front.
-use Rattle.std.specs.Prelude.{filter_map, find, is_none, option_and_then, option_map}
-use Rattle.std.specs.List.{AllZip, cons_option}
+use Rattle.std.specs.Prelude.{filter_map, find, is_none, option_and_then, option_map, All}
+use Rattle.std.specs.List.{AllByRecursion, AllZip, cons_option}
 use Rattle.std.proofs.Common.{◌≡◌, ◌<◌, ◌^◌, ℕ, cond, List, [], ◌∷◌, ◌++◌, length, Option, Some, None, refl, sym, ap, ◌∙◌, subst, arith}
+use Rattle.std.proofs.lemmas.List.Elements.{All-from_recursion}
 use Rattle.mtn_base.specs.declared.id.Id.{Id}
 use Rattle.mtn_base.specs.declared.refusal.Cause.TheVariants.{UnknownParent}
 use Rattle.mtn_changes.specs.declared.change.Edge.{Edge}
@@ -11,16 +12,16 @@ use Rattle.mtn_check_pieces.specs.declared.job.CheckJob.{CheckJob}
 use Rattle.mtn_check_pieces_laws.specs.Behind.{IsKeptRecord, AreApartIn, IsJobBehind}
 use Rattle.mtn_history_laws.specs.History.{Revision, IsGrown, IsPlaceOf}
 use Rattle.mtn_model.specs.Table.{Contents, body_at}
-use Rattle.mtn_put_revision.specs.Keeping.{AreKeptAt, IsFirstDepth}
+use Rattle.mtn_put_revision.specs.Keeping.{AreKeptAt, IsFirstDepth, IsWhole}
 use Rattle.mtn_records.specs.Apart.{number_apart}
 use Rattle.mtn_records.specs.Fields.{number_text}
 use Rattle.mtn_records.specs.declared.record.RosterRecord.{RosterRecord}
 use Rattle.mtn_records.specs.declared.record.RosterRecord.TheVariants.{Whole}
 use Rattle.mtn_replay.specs.Making.{place_of, parents_of}
 use Rattle.mtn_replay.proofs.Histories.{history_is_grown}
-use Rattle.mtn_replay.proofs.Places.{no_place, place_has, place_within, within}
+use Rattle.mtn_replay.proofs.Places.{inside, no_place, place_has, place_within, within}
 use Rattle.mtn_roster_deltas.specs.Chain.{Entries}
-use Rattle.mtn_check_records.specs.Due.{first_depth, HasEntries}
+use Rattle.mtn_check_records.specs.Due.{first_depth, AreWholeAt, HasEntries}
 use Rattle.mtn_check_records.specs.Reading.{ids_of, named_in, places_of, IsParentIn, IsReadAt}
 use Rattle.mtn_check_records.specs.declared.hand.Parent.{Parent}
 use Rattle.mtn_check_records.specs.declared.hand.Position.{Position}
@@ -91,6 +92,21 @@ module _ (front : Front) (grown : IsGrown front.history) where
     ),
     kept_are qs rs known are.1 z.1,
   )
+
+  -- they stand below, and their records are whole
+  low_each : (qs : List Parent) (rs : List RosterRecord) → AllZip (IsParentIn front) qs rs → AllByRecursion (λ p. p < length h) (places_of qs)
+  low_each [] rs are = tt
+  low_each (q ∷ qs) [] are = absurd are
+  low_each (q ∷ qs) (r ∷ rs) are = (inside h q.at are.0.is.revision are.0.is.made, low_each qs rs are.1)
+
+  pub are_low : (qs : List Parent) (rs : List RosterRecord) → AllZip (IsParentIn front) qs rs → All (λ p. p < length h) (places_of qs)
+  are_low qs rs are = All-from_recursion (λ p. p < length h) (places_of qs) (low_each qs rs are)
+
+  pub are_whole : (qs : List Parent) (rs : List RosterRecord) → AllZip (IsParentIn front) qs rs → AreWholeAt (places_of qs) rs
+  are_whole [] [] are = tt
+  are_whole [] (r ∷ rs) are = absurd are
+  are_whole (q ∷ qs) [] are = absurd are
+  are_whole (q ∷ qs) (r ∷ rs) are = (subst IsWhole (sym are.0.whole) tt, are_whole qs rs are.1)
 
   pub first_is : (qs : List Parent) (rs : List RosterRecord) → AllZip (IsParentIn front) qs rs → IsFirstDepth front.kept (places_of qs) (first_depth qs)
   first_is [] rs are = tt

@@ -1,15 +1,16 @@
 -- What is looked at of a position: its text, its parents, its tree, the numbers of its nodes, and the record that is due of them.
-use Rattle.std.specs.Prelude.{◌≡◌, ◌≤◌, ◌+◌, ◌⊎◌, ℕ, false, List, [], ◌∷◌, length, All, Contains, IsTrue, None}
+use Rattle.std.specs.Prelude.{◌≡◌, ◌<◌, ◌≤◌, ◌+◌, ◌⊎◌, ℕ, false, List, [], ◌∷◌, length, All, Contains, IsTrue, None}
 use Rattle.std.specs.List.{AllZip}
 use Rattle.mtn_ancestry.specs.Log.{list_of}
 use Rattle.mtn_base.specs.declared.id.Id.{Id}
-use Rattle.mtn_base.specs.declared.limits.TheConstants.{MAX_TEXT}
+use Rattle.mtn_base.specs.declared.limits.TheConstants.{LAST_NUMBER, MAX_TEXT}
 use Rattle.mtn_changes.specs.declared.change.Revision.{Revision as Spelled}
 use Rattle.mtn_changeset_laws.specs.Changes.{or_else}
 use Rattle.mtn_check_pieces.specs.Verdict.{IsRevisionOf, IsWholeOf}
 use Rattle.mtn_check_pieces.specs.declared.job.CheckJob.{CheckJob}
 use Rattle.mtn_marking.specs.Marking.{MarkedTree}
-use Rattle.mtn_put_revision.specs.Keeping.{IsRecordOn}
+use Rattle.mtn_put_revision.specs.Keeping.{IsRecordOn, IsWhole}
+use Rattle.mtn_put_revision.specs.Writing.{AllAscend, NoneHas}
 use Rattle.mtn_records.specs.declared.entry.NumberedEntry.{NumberedEntry}
 use Rattle.mtn_records.specs.declared.record.RosterRecord.{RosterRecord}
 use Rattle.mtn_records.specs.declared.record.RosterRecord.TheVariants.{Whole, Delta}
@@ -37,11 +38,6 @@ pub record IsUnderId (f : List ℕ → List ℕ) (job : CheckJob) : Type 0 where
 pub record IsSound (f : List ℕ → List ℕ) (t : Tree) (manifest : Id) : Type 0 where
   pub limits : or_else (too_many t) (too_long t) ≡ None
   pub named : other_manifest f t manifest ≡ None
-
--- a delta without a change
-abbrev pub SaysNothing : RosterRecord → Type 0
-SaysNothing (Whole entries) = ⊥
-SaysNothing (Delta base depth gone changed) = (gone ≡ []) × (changed ≡ [])
 
 -- the record is whole, and has these entries
 abbrev pub HasEntries : RosterRecord → Entries → Type 0
@@ -78,12 +74,12 @@ pub record IsNumberedOn (x : Position) (t : MarkedTree) (known : List Entries) (
   pub numbers : AreKnown known x.next → IsNumbering known x.next t entries
   pub next : AreKnown known x.next → TellsNext x t known
 
--- over parents with these positions and entries the stored entries and the roster's record are those that are due
+-- over parents with these positions and entries the roster's record is the one that is due
 pub record IsDueOver (x : Position) (job : CheckJob) (t : MarkedTree) (places : List ℕ) (known : List Entries) (depth : ℕ) : Type 0 where
   pub entries : Entries
-  pub stored : HasEntries job.stored entries
   pub numbered : IsNumberedOn x t known entries
-  pub written : IsRecordOn places known depth entries job.at x.roster.items x.depth
+  pub deep : ℕ
+  pub written : IsRecordOn places known depth entries job.at x.roster.items deep
 
 -- another record of the roster is due
 pub record IsOtherOver (x : Position) (job : CheckJob) (t : MarkedTree) (places : List ℕ) (known : List Entries) (depth : ℕ) : Type 0 where
@@ -98,17 +94,31 @@ pub record IsOtherOver (x : Position) (job : CheckJob) (t : MarkedTree) (places 
 abbrev pub IsOtherNext : Position → MarkedTree → List Entries → Type 0
 IsOtherNext x t known = AreKnown known x.next → TellsNext x t known → ⊥
 
+-- no numbers are due: the next one is past the last, or those of some entries clash
+abbrev pub HasNoNumbers : Position → List Entries → Type 0
+HasNoNumbers x known = x.next ≤ LAST_NUMBER → AreKnown known x.next → ⊥
+
+-- no record is due of entries that have theirs: none of them can be written
+pub record HasNoRecord (x : Position) (job : CheckJob) (t : MarkedTree) (places : List ℕ) (known : List Entries) : Type 0 where
+  pub entries : Entries
+  pub numbered : IsNumberedOn x t known entries
+  pub none : All (λ p. p < job.at) places → AllAscend known → NoneHas job.at entries
+
 -- what is found of the records over parents with these positions and entries
 abbrev pub IsFoundOver : Position → CheckJob → MarkedTree → List ℕ → List Entries → ℕ → Fit → Type 0
 IsFoundOver x job t places known depth Fits = IsDueOver x job t places known depth
 IsFoundOver x job t places known depth OtherText = ⊥
 IsFoundOver x job t places known depth OtherLog = IsOtherNext x t known
 IsFoundOver x job t places known depth OtherRoster = IsOtherOver x job t places known depth
-IsFoundOver x job t places known depth Undecided = Unit {0}
+IsFoundOver x job t places known depth Undecided = HasNoNumbers x known ⊎ HasNoRecord x job t places known
 
--- the same over parents with these whole records, or nothing
+-- each of the records is whole, and they are as many as the places
+abbrev pub AreWholeAt : List ℕ → List RosterRecord → Type 0
+AreWholeAt places records = AllZip (λ p r. IsWhole r) places records
+
+-- what is found over parents with these positions and whole records
 abbrev pub IsFoundWith : Position → CheckJob → MarkedTree → List ℕ → List RosterRecord → Fit → Type 0
-IsFoundWith x job t places records Undecided = Unit {0}
+IsFoundWith x job t places records Undecided = (AreWholeAt places records → ⊥) ⊎ ((known : List Entries) × AllZip HasEntries records known × IsFoundOver x job t places known (first_depth x.parents) Undecided)
 IsFoundWith x job t places records fit = (known : List Entries) × AllZip HasEntries records known × IsFoundOver x job t places known (first_depth x.parents) fit
 
 -- the text is within its limit and under its id, its contents are held, and the stored roster is sound beside it
@@ -138,20 +148,16 @@ IsToldParents x = list_of x.entry.parents ≡ places_of x.parents
 
 -- what is found of the records beside a text that is fit
 abbrev pub IsFoundBeside : Position → CheckJob → MarkedTree → Fit → Type 0
-IsFoundBeside x job t Fits = IsToldParents x × IsFoundWith x job t (places_of x.parents) job.parents Fits
 IsFoundBeside x job t OtherText = ⊥
 IsFoundBeside x job t OtherLog = (IsToldParents x → ⊥) ⊎ (IsToldParents x × IsFoundWith x job t (places_of x.parents) job.parents OtherLog)
-IsFoundBeside x job t OtherRoster = IsToldParents x × IsFoundWith x job t (places_of x.parents) job.parents OtherRoster
-IsFoundBeside x job t Undecided = Unit {0}
+IsFoundBeside x job t fit = IsToldParents x × IsFoundWith x job t (places_of x.parents) job.parents fit
 
 -- All that is found
 abbrev pub IsFound : (List ℕ → List ℕ) → Position → CheckJob → Fit → Type 0
 IsFound f x job OtherText = IsTextUnfit f x job
-IsFound f x job Undecided = Unit {0}
 IsFound f x job fit = (text : IsTextFit f x job) × IsFoundBeside x job text.stored fit
 
 -- the stored roster is sound beside a text with this manifest, and this is found of the records; or it is not
 abbrev pub IsFoundUnder : (List ℕ → List ℕ) → Position → CheckJob → Id → Fit → Type 0
 IsFoundUnder f x job manifest OtherText = (stored : MarkedTree) × IsWholeOf job.stored stored × (IsSound f stored.tree manifest → ⊥)
-IsFoundUnder f x job manifest Undecided = Unit {0}
 IsFoundUnder f x job manifest fit = (stored : MarkedTree) × IsWholeOf job.stored stored × IsSound f stored.tree manifest × IsFoundBeside x job stored fit

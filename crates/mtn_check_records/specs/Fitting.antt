@@ -23,12 +23,16 @@ Leads f x job = (c : Contents) (r : ℕ) (front : Front) → IsFrontAt f c r fro
 abbrev pub Shows : (List ℕ → List ℕ) → Position → CheckJob → (ℕ → Damage) → Type 0
 Shows f x job d = (c : Contents) (r : ℕ) (front : Front) → IsFrontAt f c r front → r < MAX_LOG → IsReadAt c r front x job → IsAgreeing job → IsDamageAt f c r front (d r)
 
+-- and there no such job agrees: it differs wherever the position was read behind a front
+abbrev pub DiffersBehind : (List ℕ → List ℕ) → Position → CheckJob → Type 0
+DiffersBehind f x job = (c : Contents) (r : ℕ) (front : Front) → IsFrontAt f c r front → r < MAX_LOG → IsReadAt c r front x job → IsAgreeing job → ⊥
+
 abbrev pub IsFitting : (List ℕ → List ℕ) → Position → CheckJob → Fit → Type 0
 IsFitting f x job Fits = Leads f x job
 IsFitting f x job OtherText = Shows f x job (λ r. Bad 3 x.entry.id.0 (number_text r ++ job.text))
 IsFitting f x job OtherLog = Shows f x job (λ r. Bad 4 (number_text r) x.log.items)
 IsFitting f x job OtherRoster = Shows f x job (λ r. Bad 5 (number_text r) x.roster.items)
-IsFitting f x job Undecided = Unit {0}
+IsFitting f x job Undecided = DiffersBehind f x job
 
 -- Both answers on a position
 pub record AreAnswers (f : List ℕ → List ℕ) (x : Position) (job : CheckJob) (a : JobAnswer) : Type 0 where

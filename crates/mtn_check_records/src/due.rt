@@ -9,7 +9,7 @@ ghost use Rattle.mtn_check_records.specs.Due.{first_depth as depth_of, HasEntrie
 ghost use Rattle.mtn_check_records.specs.Reading.{places_of};
 
 use crate::hand::{Fit, Parent, Position};
-use crate::numbers::{are_stored, numbers_due};
+use crate::numbers::numbers_due;
 use mtn_ancestry::{ParentList, Pos};
 use mtn_base::NoMemory;
 use mtn_check_pieces::CheckJob;
@@ -49,14 +49,7 @@ fn over(
     if written.body.as_slice() != position.roster.as_slice() {
         return Ok(Fit::OtherRoster);
     }
-    if written.depth != position.depth {
-        return Ok(Fit::Undecided);
-    }
-    if are_stored(alloc, &written.entries, job.stored.as_record())? {
-        Ok(Fit::Fits)
-    } else {
-        Ok(Fit::Undecided)
-    }
+    Ok(Fit::Fits)
 }
 
 // The same over the whole records of the parents, which are kept so.
@@ -168,7 +161,7 @@ fn over_two(
     over_known(alloc, position, job, stored, &known)
 }
 
-// The same over the parents that the text names.
+// The same over the parents that the record of the log has.
 fn over_parents(
     alloc: Global,
     position: &Position,
@@ -177,13 +170,12 @@ fn over_parents(
 ) -> Result<Fit, NoMemory>
     requires nodes { length stored.now.tree ≤ MAX_NODES }
     requires spelled { IsWholeOf job.now.stored stored.now }
-    ensures { IfOk result (IsFoundWith position.now job.now stored.now (places_of position.now.parents) job.now.parents) }
+    ensures { IfOk result (IsFoundWith position.now job.now stored.now (list_of position.now.entry.parents) job.now.parents) }
 {
-    match position.parents.as_slice() {
-        [] => over_none(alloc, position, job, stored),
-        [one] => over_one(alloc, position, job, stored, one.at),
-        [first, second] => over_two(alloc, position, job, stored, first.at, second.at),
-        _ => Ok(Fit::Undecided),
+    match position.entry.parents {
+        ParentList::Zero => over_none(alloc, position, job, stored),
+        ParentList::One(at) => over_one(alloc, position, job, stored, at),
+        ParentList::Two(first, second) => over_two(alloc, position, job, stored, first, second),
     }
 }
 

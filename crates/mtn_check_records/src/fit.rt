@@ -54,8 +54,8 @@ fn found<I: Ident>(
 }
 
 // Where the job of a position agrees, whether its records are those of the revision that its text makes, or which of them is the
-// first that is not; beside what its text and its stored record spell. `Undecided` says nothing; it is no answer where the job has
-// what the roster's record gives.
+// first that is not; beside what its text and its stored record spell. `Undecided` is no answer where the position was read behind a
+// front.
 fn fits<I: Ident>(
     alloc: Global,
     ident: &I,

@@ -38,7 +38,7 @@ pub struct Position {
 }
 
 /// What is said of the records of a position whose job agrees: that they are those that are due; or which of them is the first that
-/// is not: the text's, the log's, the roster's. Or nothing is said.
+/// is not: the text's, the log's, the roster's. `Undecided` where the job differs, or where what was read is of no position of the log.
 #[derive(Clone, Copy)]
 pub enum Fit {
     Fits,

@@ -1,16 +1,15 @@
 // The numbers of the nodes.
-ghost use Rattle.std.specs.Prelude.{◌≡◌, ◌≤◌, All, length, IfOk, IfSome, IsTrue};
-ghost use Rattle.mtn_base.specs.declared.limits.TheConstants.{MAX_NODES};
-ghost use Rattle.mtn_roster_deltas.specs.Chain.{ascend, Entries};
-ghost use Rattle.mtn_roster_deltas.specs.Numbering.{shown};
+ghost use Rattle.std.specs.Prelude.{◌≡◌, ◌≤◌, All, length, IfOk, IfSome, IsTrue, None, Ok};
+ghost use Rattle.mtn_base.specs.declared.limits.TheConstants.{LAST_NUMBER, MAX_NODES};
+ghost use Rattle.mtn_put_revision.specs.Keeping.{IsWhole};
+ghost use Rattle.mtn_roster_deltas.specs.Numbering.{AreKnown, shown};
 ghost use Rattle.mtn_check_pieces.specs.Verdict.{IsWholeOf};
-ghost use Rattle.mtn_check_records.specs.Due.{HasEntries, IsKnownIn, IsNumberedBy, KeepsBelow, KeepsNumbers, SaysNothing};
+ghost use Rattle.mtn_check_records.specs.Due.{HasEntries, IsKnownIn, IsNumberedBy, KeepsBelow, KeepsNumbers};
 
-use mtn_ancestry::Pos;
 use mtn_base::{LAST_NUMBER, NoMemory};
 use mtn_marking::MarkedRoster;
 use mtn_records::{Numbered, NumberedEntry, RosterRecord};
-use mtn_roster_deltas::{NumberError, delta, number};
+use mtn_roster_deltas::{NumberError, number};
 use std::alloc::Global;
 
 // Whether two entries have one number and one node.
@@ -45,44 +44,6 @@ fn are_known(below: &[NumberedEntry], entries: &[NumberedEntry]) -> bool
     true
 }
 
-// Whether a difference is a delta without a change.
-fn says_nothing(difference: &RosterRecord) -> bool
-    ensures { IsTrue result → SaysNothing difference.now }
-{
-    match difference {
-        RosterRecord::Whole(_) => false,
-        RosterRecord::Delta { gone, changed, .. } => {
-            gone.as_slice().is_empty() && changed.entries.as_slice().is_empty()
-        }
-    }
-}
-
-// Whether entries are the same: so is each that a delta from the ones to the others need not tell.
-fn are_same(alloc: Global, first: &Numbered, second: &Numbered) -> Result<bool, NoMemory>
-    requires first { IsTrue (ascend first.now) }
-    requires second { IsTrue (ascend second.now) }
-    ensures { IfOk result (λ b. IsTrue b → first.now ≡ second.now) }
-{
-    let difference = delta(alloc, first, Pos(0), 0, second)?;
-    Ok(says_nothing(&difference))
-}
-
-/// Whether a record is whole, and has these entries.
-pub fn are_stored(
-    alloc: Global,
-    entries: &Numbered,
-    stored: &RosterRecord,
-) -> Result<bool, NoMemory>
-    requires entries { IsTrue (ascend entries.now) }
-    requires stored { (es : Entries) → HasEntries stored.now es → IsTrue (ascend es) }
-    ensures { IfOk result (λ b. IsTrue b → HasEntries stored.now entries.now) }
-{
-    match stored {
-        RosterRecord::Whole(others) => are_same(alloc, others, entries),
-        RosterRecord::Delta { .. } => Ok(false),
-    }
-}
-
 // Whether the record is whole, and the node of each of its entries has its number among others.
 fn keeps_below(stored: &RosterRecord, below: &Numbered) -> bool
     ensures { IsTrue result → KeepsBelow stored.now below.now }
@@ -107,17 +68,19 @@ fn keeps_numbers(stored: &RosterRecord, known: &[&Numbered]) -> bool
 }
 
 // A copy of the entries of a whole record.
-fn entries_in(alloc: Global, held: &RosterRecord) -> Result<Option<Numbered>, NoMemory>
-    ensures { IfOk result (λ o. IfSome o (HasEntries held.now)) }
+fn entries_in(alloc: Global, held: &RosterRecord) -> Result<Numbered, NoMemory>
+    requires { IsWhole held.now }
+    ensures { IfOk result (HasEntries held.now) }
 {
     match held {
-        RosterRecord::Whole(entries) => Ok(Some(entries.copy(alloc)?)),
-        RosterRecord::Delta { .. } => Ok(None),
+        RosterRecord::Whole(entries) => entries.copy(alloc),
+        RosterRecord::Delta { .. } => unreachable!(),
     }
 }
 
-/// The entries of a stored roster under the numbers that are due behind those of some lists, with the number that is free then. Where
-/// none of its nodes is new they are those of its record, and no walk is made.
+/// The entries of a stored roster under the numbers that are due behind those of some lists, with the number that is free then; none
+/// where `next` is past the last number, or numbers of those lists clash. Where no node of the roster is new they are those of its
+/// record, and no walk is made.
 pub fn numbers_due(
     alloc: Global,
     held: &RosterRecord,
@@ -127,12 +90,11 @@ pub fn numbers_due(
 ) -> Result<Option<(Numbered, u64)>, NoMemory>
     requires nodes { length stored.now.tree ≤ MAX_NODES }
     requires spelled { IsWholeOf held.now stored.now }
-    ensures { IfOk result (λ o. IfSome o (λ r. IsNumberedBy stored.now (shown known.now) next r.0 r.1)) }
+    ensures numbered { IfOk result (λ o. IfSome o (λ r. IsNumberedBy stored.now (shown known.now) next r.0 r.1)) }
+    ensures none { result ≡ Ok None → next ≤ LAST_NUMBER → AreKnown (shown known.now) next → ⊥ }
 {
     if keeps_numbers(held, known) {
-        let Some(entries) = entries_in(alloc, held)? else {
-            return Ok(None);
-        };
+        let entries = entries_in(alloc, held)?;
         return Ok(Some((entries, next)));
     }
     new_numbers(alloc, stored, known, next)
@@ -146,7 +108,8 @@ fn new_numbers(
     next: u64,
 ) -> Result<Option<(Numbered, u64)>, NoMemory>
     requires { length stored.now.tree ≤ MAX_NODES }
-    ensures { IfOk result (λ o. IfSome o (λ r. IsNumberedBy stored.now (shown known.now) next r.0 r.1)) }
+    ensures numbered { IfOk result (λ o. IfSome o (λ r. IsNumberedBy stored.now (shown known.now) next r.0 r.1)) }
+    ensures none { result ≡ Ok None → next ≤ LAST_NUMBER → AreKnown (shown known.now) next → ⊥ }
 {
     if next > LAST_NUMBER {
         return Ok(None);
