@@ -8,7 +8,8 @@
 //!
 //! The crates above rely on this: where the job of a position agrees and [`judge_one`] says that its records are those that are due, they
 //! lead behind the front of those below to one revision more (`specs/Reading.antt`); and where it says which of them is not, that
-//! record is the first damage of the position (`specs/Fitting.antt`). So no text is applied again to find it. [`judge_pieces`] gives
+//! record is the first damage of the position (`specs/Fitting.antt`). It says one or the other of each position whose job agrees and
+//! that was read behind such a front. So no text is applied again to find it. [`judge_pieces`] gives
 //! the jobs of some positions their verdicts, as `check_pieces` does, in lots of at most four jobs beside one another, and looks there
 //! at the rest of the records too, beside what was rebuilt.
 //!
