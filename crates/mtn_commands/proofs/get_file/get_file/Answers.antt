@@ -9,11 +9,11 @@ pub returns-clause-drafts : goal.returns-clause-drafts
 returns-clause-drafts g c =
     let f = g.I.Ident.meaning c.args.ident.now in
     record {
-      stays = c.in_ok-file.ensures.stays;
+      stays = c.in_ok-file.ensures.asks.stays;
       done = λ k s told draft. (
         s,
         ap (done s) c.from_vec.ensures ∙ sym (ap (found (UnknownFile c.args.id) s) (c.in_ok-file.ensures.finds f k s told draft)),
-        subst (λ (p : Pending). IsDraft f k p s) (sym c.in_ok-file.ensures.pending) draft,
+        subst (λ (p : Pending). IsDraft f k p s) (sym c.in_ok-file.ensures.asks.pending) draft,
       );
       reason = λ counted. tt;
     }

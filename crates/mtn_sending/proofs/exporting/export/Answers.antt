@@ -56,7 +56,7 @@ returns-in_err-send_all-clause-found g c = λ f k s at draft.
       d.stands.history,
       d.stands.spelled,
       store_ends s d.stands.history c.args.id c.args.have.now c.from_residual-in_err-send_all.result c.in_err-send_all.field-0.0 (p.1 ∙ ap Err p.2)
-          (sent_of told now before c.graph.new.self.pending c.in_ok-graph.graph c.args.id c.args.have.now c.in_ok-ids.ids c.send_all.ensures.stays.same c.in_ok-graph.ensures.pending c.in_ok-graph.ensures.found
+          (sent_of told now before c.graph.new.self.pending c.in_ok-graph.graph c.args.id c.args.have.now c.in_ok-ids.ids c.send_all.ensures.stays.same c.in_ok-graph.ensures.asks.pending c.in_ok-graph.ensures.found
           c.in_ok-ids.ensures.found {X = Unit {0}} (Err c.in_err-send_all.field-0.0) c.new-text.result.items c.send_all.new.out.items (subst (λ l. FindsAll {X = Unit {0}} (g.K.Keeper.contents c.send_all.new.draft.keeper.now) c.graph.new.self.pending l c.new-text.result.items c.send_all.new.out.items (Err c.in_err-send_all.field-0.0)) c.as_slice.ensures c.in_err-send_all.ensures.found) f s d),
     )
 
@@ -64,7 +64,7 @@ pub returns-in_err-send_all-clause-damaged : goal.returns-in_err-send_all-clause
 returns-in_err-send_all-clause-damaged g c =
     let p = err_from_is_err_and c.from_residual-in_err-send_all.result c.from_residual-in_err-send_all.ensures.1 in
     sending_damages (g.K.Keeper.contents c.graph.new.self.keeper.now) (g.K.Keeper.contents c.send_all.new.draft.keeper.now) c.args.draft.now.pending c.graph.new.self.pending c.in_ok-graph.graph c.args.id c.args.have.now c.in_ok-ids.ids
-    c.send_all.ensures.stays.same c.in_ok-graph.ensures.pending c.in_ok-graph.ensures.found c.in_ok-ids.ensures.found
+    c.send_all.ensures.stays.same c.in_ok-graph.ensures.asks.pending c.in_ok-graph.ensures.found c.in_ok-ids.ensures.found
     c.in_err-send_all.field-0.0 c.new-text.result.items c.send_all.new.out.items (subst (λ l. FindsAll {X = Unit {0}} (g.K.Keeper.contents c.send_all.new.draft.keeper.now) c.graph.new.self.pending l c.new-text.result.items c.send_all.new.out.items (Err c.in_err-send_all.field-0.0)) c.as_slice.ensures c.in_err-send_all.ensures.found) c.from_residual-in_err-send_all.result (p.1 ∙ ap Err p.2) c.in_ok-graph.ensures.read c.in_err-send_all.ensures.shown
 
 pub returns-clause-stays : goal.returns-clause-stays
@@ -78,7 +78,7 @@ returns-clause-found g c = λ f k s at draft.
     let d = founded f now k before s at draft in
     let h = d.stands.history in
     let asked = c.in_ok-ids.ensures.found h (c.in_ok-graph.ensures.found f s (back f told now before s c.send_all.ensures.stays.same d)) in
-    let all = sent_of told now before c.graph.new.self.pending c.in_ok-graph.graph c.args.id c.args.have.now c.in_ok-ids.ids c.send_all.ensures.stays.same c.in_ok-graph.ensures.pending c.in_ok-graph.ensures.found
+    let all = sent_of told now before c.graph.new.self.pending c.in_ok-graph.graph c.args.id c.args.have.now c.in_ok-ids.ids c.send_all.ensures.stays.same c.in_ok-graph.ensures.asks.pending c.in_ok-graph.ensures.found
     c.in_ok-ids.ensures.found {X = Unit {0}} (Ok tt) c.new-text.result.items c.send_all.new.out.items (subst (λ l. FindsAll {X = Unit {0}} (g.K.Keeper.contents c.send_all.new.draft.keeper.now) c.graph.new.self.pending l c.new-text.result.items c.send_all.new.out.items (Ok tt)) c.as_slice.ensures c.in_ok-send_all.ensures.found) f s d in (
       h,
       d.stands.spelled,
