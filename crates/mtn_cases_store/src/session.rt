@@ -149,7 +149,7 @@ impl Session {
         let status = run(
             threads,
             alloc,
-            &words,
+            words.as_slice(),
             &self.ids,
             &mut source,
             &mut sink,
