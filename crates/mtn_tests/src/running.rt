@@ -2,7 +2,7 @@
 use crate::watched::Watched;
 use mtn_base::Bytes;
 use mtn_cli::run;
-use mtn_ports::{Batch, MemKeeper, MemSink, MemSource};
+use mtn_ports::{Batch, Ident, MemKeeper, MemSink, MemSource};
 use std::alloc::Global;
 use std::test::Fail;
 use std::thread::Threads;
@@ -21,10 +21,10 @@ fn words_of(alloc: Global, texts: &[&[u8]]) -> Option<Vec<Bytes>> {
 }
 
 /// The status of a command, and what it prints, over a store in memory.
-pub fn answer<R: Threads + Sync>(
+pub fn answer<R: Threads + Sync, I: Ident>(
     rt: &R,
     alloc: Global,
-    ident: &Watched<'_>,
+    ident: &I,
     command: &[&[u8]],
     payload: &[u8],
     store: &mut MemKeeper,
