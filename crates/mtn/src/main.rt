@@ -7,7 +7,6 @@
 #![tactic(auto)]
 
 mod help;
-mod keeper;
 mod line;
 mod store;
 

@@ -1,10 +1,9 @@
 // A command over the store that the first word names.
-use crate::keeper::StoreKeeper;
 use mtn_base::Bytes;
 use mtn_cli::{Status, run};
-use mtn_keeper::{DatabaseFile, LazyKeeper};
+use mtn_keeper::{DatabaseFile, LazyKeeper, Opener};
 use mtn_pieces::{FreeGate, Sha1Many};
-use mtn_ports::{Batch, KeepError, MemKeeper, StdSink, StdSource};
+use mtn_ports::{Batch, KeepError, Keeper, MemKeeper, StdSink, StdSource};
 use std::fs;
 use std::thread::Threads;
 
@@ -15,7 +14,7 @@ const PIECES: usize = 4;
 pub fn in_memory<T: Threads + Sync>(threads: &T, rt: &HostRuntime, words: &[Bytes]) -> Status {
     let alloc = rt.alloc();
     match MemKeeper::new(Batch::new(alloc), Vec::new(alloc)) {
-        Ok(keeper) => over(threads, rt, words, &mut StoreKeeper::Memory(keeper)),
+        Ok(mut keeper) => over(threads, rt, words, &mut keeper),
         Err(_) => Status::NoMemory,
     }
 }
@@ -28,36 +27,25 @@ pub fn in_file<T: Threads + Sync>(
     path: &str,
     words: &[Bytes],
 ) -> Status {
-    let mut keeper = match keeper_at(rt, path) {
-        Ok(keeper) => StoreKeeper::File(keeper),
+    let file = DatabaseFile { rt, path };
+    let mut keeper = match keeper_of(file, is_missing(rt, path)) {
+        Ok(keeper) => keeper,
         Err(KeepError::NoMemory) => return Status::NoMemory,
         Err(KeepError::Failed) => return Status::StoreFault,
     };
     let status = over(threads, rt, words, &mut keeper);
-    close(keeper);
-    status
-}
-
-// Closes the file, if there is one.
-fn close(keeper: StoreKeeper<'_>) {
-    let StoreKeeper::File(keeper) = keeper else {
-        return;
-    };
     if let Some(connection) = keeper.into_connection() {
         let _ = connection.close();
     }
+    status
 }
 
-// The keeper over a file, which is opened at once where it may be there.
-fn keeper_at<'a>(
-    rt: &'a HostRuntime,
-    path: &'a str,
-) -> Result<LazyKeeper<DatabaseFile<'a>>, KeepError> {
-    let file = DatabaseFile { rt, path };
-    if is_missing(rt, path) {
-        Ok(LazyKeeper::missing(file))
+// The keeper over a database, which is opened at once where it may be there.
+fn keeper_of<O: Opener + Drop>(opener: O, is_missing: bool) -> Result<LazyKeeper<O>, KeepError> {
+    if is_missing {
+        Ok(LazyKeeper::missing(opener))
     } else {
-        LazyKeeper::open(file)
+        LazyKeeper::open(opener)
     }
 }
 
@@ -66,11 +54,11 @@ fn is_missing(rt: &HostRuntime, path: &str) -> bool {
     matches!(fs::exists(rt, path), Ok(false))
 }
 
-fn over<T: Threads + Sync>(
+fn over<T: Threads + Sync, K: Keeper>(
     threads: &T,
     rt: &HostRuntime,
     words: &[Bytes],
-    keeper: &mut StoreKeeper<'_>,
+    keeper: &mut K,
 ) -> Status {
     let mut source = StdSource::new(rt.stdin());
     let mut sink = StdSink::new(rt.stdout());
