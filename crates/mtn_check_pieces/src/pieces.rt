@@ -8,8 +8,8 @@ use mtn_pieces::Gate;
 use std::alloc::Global;
 use std::thread::{Threads, join};
 
-// The greatest number of pieces.
-const MAX_PIECES: usize = 64;
+/// The greatest number of pieces.
+pub const MAX_PIECES: usize = 64;
 
 // The verdict on each job, one after the other.
 fn check_all(alloc: Global, jobs: &[CheckJob]) -> Result<Vec<Verdict>, NoMemory>
@@ -75,9 +75,9 @@ fn check_in_runs<R: Threads, G: Gate>(
 }
 
 /// The verdict on each job, in order, in at most so many pieces, each of which passes the gate. A number below 1 is taken as 1,
-/// one above 64 as 64. The jobs are cut by position into as many runs as there are pieces, or jobs where these are fewer, and
-/// each run is a piece on a thread of its own, numbered from 0. It takes memory for the verdicts, and for what each piece has
-/// at hand of one job.
+/// one above [`MAX_PIECES`] as that. The jobs are cut by position into as many runs as there are pieces, or jobs where these are
+/// fewer, and each run is a piece on a thread of its own, numbered from 0. It takes memory for the verdicts, and for what each
+/// piece has at hand of one job.
 pub fn check_pieces<R: Threads + Sync, G: Gate>(
     rt: &R,
     alloc: Global,

@@ -1,12 +1,11 @@
 // Many positions, in pieces beside one another, each of which goes in lots.
-ghost use Rattle.std.specs.Prelude.{◌≡◌, length, IfOk};
-ghost use Rattle.std.specs.Thread.{IsSync};
+ghost use Rattle.std.specs.Prelude.{◌≡◌, ◌<◌, ◌+◌, ◌^◌, length, IfOk};
 ghost use Rattle.mtn_check_records.specs.Fitting.{AnswersAll, AreAnswered};
 
 use crate::fit::judge_one;
 use crate::hand::{JobAnswer, Position};
 use mtn_base::NoMemory;
-use mtn_check_pieces::CheckJob;
+use mtn_check_pieces::{CheckJob, MAX_PIECES};
 use mtn_ports::Ident;
 use std::alloc::Global;
 use std::thread::{Threads, join};
@@ -54,36 +53,51 @@ fn judge_piece<I: Ident>(
     Ok(answers)
 }
 
-// The same in pieces of at most so many jobs, each on a thread of its own. Its number as a piece is the place of its first job.
-#[cycle(halves)]
-fn judge_halves<R: Threads + Sync, I: Ident>(
-    rt: &R,
+// The same of one run, which has this number as a piece.
+fn judge_run<I: Ident>(
     alloc: Global,
     ident: &I,
-    size: usize,
-    first: usize,
+    piece: usize,
     positions: &[Position],
     jobs: &[CheckJob],
 ) -> Result<Vec<JobAnswer>, NoMemory>
     requires same { length positions.now ≡ length jobs.now }
     ensures { IfOk result (λ v. AnswersAll (I.meaning ident.now) positions.now jobs.now v.items) }
 {
-    if jobs.len() <= size.max(1) {
-        ident.pass(first);
-        return judge_piece(alloc, ident, positions, jobs);
+    ident.pass(piece);
+    judge_piece(alloc, ident, positions, jobs)
+}
+
+// The same in so many runs, which are numbered from `piece`. No run is empty where there are as many jobs as runs. The first runs
+// on another thread and the others from this one, so that no thread shares the handle.
+#[cycle(runs)]
+fn judge_in_runs<R: Threads, I: Ident>(
+    rt: &R,
+    alloc: Global,
+    ident: &I,
+    piece: usize,
+    runs: usize,
+    positions: &[Position],
+    jobs: &[CheckJob],
+) -> Result<Vec<JobAnswer>, NoMemory>
+    requires same { length positions.now ≡ length jobs.now }
+    requires pieces { piece + runs < 2 ^ 64 }
+    ensures { IfOk result (λ v. AnswersAll (I.meaning ident.now) positions.now jobs.now v.items) }
+{
+    if runs < 2 {
+        return judge_run(alloc, ident, piece, positions, jobs);
     }
-    let half = jobs.len() / 2;
-    let (low, high) = positions.split_at(half);
-    let (left, right) = jobs.split_at(half);
-    let next = first.saturating_add(half);
+    let size = jobs.len() / runs;
+    let (low, high) = positions.split_at(size);
+    let (left, right) = jobs.split_at(size);
     let near = || -> Result<Vec<JobAnswer>, NoMemory>
-        requires { IsSync R.row × IsSync I.row × (length low.now ≡ length left.now) }
+        requires { length low.now ≡ length left.now }
         ensures { IfOk result (λ v. AnswersAll (I.meaning ident.entry.now) low.entry.now left.entry.now v.items) }
-    { judge_halves(rt, alloc, ident, size, first, low, left) };
+    { judge_run(alloc, ident, piece, low, left) };
     let far = || -> Result<Vec<JobAnswer>, NoMemory>
-        requires { IsSync R.row × IsSync I.row × (length high.now ≡ length right.now) }
+        requires { (length high.now ≡ length right.now) × (1 < runs) × (piece + runs < 2 ^ 64) }
         ensures { IfOk result (λ v. AnswersAll (I.meaning ident.entry.now) high.entry.now right.entry.now v.items) }
-    { judge_halves(rt, alloc, ident, size, next, high, right) };
+    { judge_in_runs(rt, alloc, ident, piece + 1, runs - 1, high, right) };
     let (before, behind) = join(rt, near, far);
     let mut answers = before?;
     let mut more = behind?;
@@ -91,8 +105,9 @@ fn judge_halves<R: Threads + Sync, I: Ident>(
     Ok(answers)
 }
 
-/// Both answers on each position, in order. They are worked on in at most so many pieces, or the next power of two, each on a thread
-/// of its own, which passes the ident with the place of its first job and goes in lots of at most [`MAX_JOBS`] jobs. It takes memory
+/// Both answers on each position, in order, in at most so many pieces, each of which passes the ident. A number below 1 is taken as
+/// 1, one above [`MAX_PIECES`] as that. The positions are cut into as many runs as there are pieces, or positions where these are
+/// fewer; each run is a piece on a thread of its own, numbered from 0, and goes in lots of at most [`MAX_JOBS`] jobs. It takes memory
 /// for the answers, and for what each piece has at hand of one position.
 pub fn judge_pieces<R: Threads + Sync, I: Ident>(
     rt: &R,
@@ -105,6 +120,9 @@ pub fn judge_pieces<R: Threads + Sync, I: Ident>(
     requires same { length positions.now ≡ length jobs.now }
     ensures { IfOk result (λ v. AnswersAll (I.meaning ident.now) positions.now jobs.now v.items) }
 {
-    let size = jobs.len().div_ceil(pieces.max(1));
-    judge_halves(rt, alloc, ident, size, 0, positions, jobs)
+    if jobs.is_empty() {
+        return Ok(Vec::new(alloc));
+    }
+    let runs = pieces.max(1).min(MAX_PIECES).min(jobs.len());
+    judge_in_runs(rt, alloc, ident, 0, runs, positions, jobs)
 }

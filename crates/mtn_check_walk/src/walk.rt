@@ -84,8 +84,7 @@ fn read_and_go<K: Keeper, E: Errand>(
     Ok(stretch)
 }
 
-// Judges a stretch, and reads the one behind it; with more pieces than one beside each other, and in twice as many, since a thread
-// that ends before the others leaves a processor without work.
+// Judges a stretch, and reads the one behind it; with more pieces than one beside each other.
 fn judge_and_read<R: Threads + Sync, I: Ident, K: Keeper, E: Errand>(
     rt: &R,
     alloc: Global,
@@ -117,7 +116,7 @@ fn judge_and_read<R: Threads + Sync, I: Ident, K: Keeper, E: Errand>(
         &mut || -> Result<Judged, NoMemory>
             requires { length stretch.now.positions.items ≡ length stretch.now.jobs.items }
             ensures { IfOk result (IsJudged (I.meaning ident.entry.now) stretch.entry.now) }
-        { judge(rt, alloc, ident, pieces.saturating_mul(2), stretch) },
+        { judge(rt, alloc, ident, pieces, stretch) },
         &mut || -> Result<Stretch, StoreError>
             requires { NoneFrom from hands.now × (from ≤ count) × IfSome (K.contents keeper.now) (E.holds errand.now count) }
             ensures { IsNextStretch K.contents K.leaves K.faults (E.holds errand.exit.now count) from count keeper.entry.now keeper.exit.now hands.entry.now hands.exit.now result }

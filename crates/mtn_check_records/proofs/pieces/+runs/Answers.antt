@@ -1,9 +1,9 @@
--- The answers of both halves are those of the whole.
+-- The answers of the first run, and behind them those of the others.
 use Rattle.std.proofs.Common.{◌∙◌, sym}
 use Rattle.std.proofs.lemmas.Result.{IfOk-at_ok}
 use Rattle.mtn_check_records.specs.Fitting.{AnswersAll}
 use Rattle.mtn_check_records.proofs.Answers.{both_answered}
-use Rattle.mtn_check_records.proofs.pieces.+halves.Goals as goal
+use Rattle.mtn_check_records.proofs.pieces.+runs.Goals as goal
 
 pub returns : goal.returns
 returns g t c =
