@@ -1,7 +1,7 @@
 """Runs the walks in the documents: each line that begins with `$ ` in a block is typed, what stands under it has to be printed.
 
 The lines of a document are run in one empty folder with the built program in it, which is on the PATH as `mtn` too. Rust in a
-document has to stand in the source of `mtn_tests`. Prints 'N passed, M failed', what fails to standard error.
+document has to stand in the source of `mtn_cases_store`. Prints 'N passed, M failed', what fails to standard error.
 """
 import os, re, shutil, subprocess, sys, tempfile
 
@@ -37,8 +37,8 @@ def walk(document):
         told = dict(os.environ, PATH=folder + ':' + os.environ['PATH'])
         for kind, block in blocks(os.path.join(TOP, document)):
             if kind == 'rust':
-                with open(os.path.join(TOP, 'crates', 'mtn_tests', 'src', 'running.rt')) as source:
-                    verdict(block in source.read(), f'{document}: its Rust stands in mtn_tests')
+                with open(os.path.join(TOP, 'crates', 'mtn_cases_store', 'src', 'running.rt')) as source:
+                    verdict(block in source.read(), f'{document}: its Rust stands in mtn_cases_store')
             for line, printed in steps(block):
                 ran = subprocess.run(['bash', '-c', line], cwd=folder, env=told, stdout=subprocess.PIPE, stderr=subprocess.STDOUT)
                 verdict(ran.stdout.decode(errors='replace') == printed, f'{document}: {line}\n{ran.stdout.decode(errors="replace")}')

@@ -9,6 +9,8 @@
 //! - `give TEXT`, `fill COUNT`: the payload of the next command; so many `a`.
 //! - `source FAILING..`, `sink ROOM FAILING..`: which calls of its source and its sink fail, and the room of the sink.
 //! - `run WORD..`: does a command, and answers its status and what it wrote.
+//! - `meet`, `met`: pieces of work wait for one another from then on; which of them met, a bit each: 3 where 0 and 1 did.
+//! - `hashed`: how often one text was hashed, how often many were, and how many these are.
 //! - `next TABLE KEY`, `body TABLE KEY`, `reads`: what the keeper holds then, and how often it was read.
 //! - `rosters ID COUNT`: how many reads a draft takes that is asked so often for a revision's roster.
 //! - `parts WORD..`: how words are parted.
@@ -19,6 +21,7 @@
 mod held;
 mod ids;
 mod parts;
+mod running;
 mod session;
 
 use mtn_case_records::{chains, records, text};
@@ -52,6 +55,7 @@ fn answer<T: Threads + Sync>(
     match word {
         "run" => session.run(threads, alloc, rest, out)?,
         "next" | "body" | "reads" | "rosters" => session.ask(alloc, word, rest, out)?,
+        "met" | "hashed" => session.ask_ids(alloc, word, out)?,
         _ => alone(alloc, word, rest, out)?,
     }
     out.push(b'\n').ok()

@@ -1,38 +1,15 @@
 // Sessions of commands over a keeper in memory.
 use crate::held::Held;
-use crate::ids::Ids;
+use crate::ids::{Ids, Kind};
+use crate::running::{Given, answer};
 use mtn_base::{Bytes, Id};
 use mtn_case_records::text::{
     first_word, number_of, numbers_of, plain, put_escaped, put_hex, put_number, words_of,
 };
-use mtn_cli::run;
 use mtn_history::{Draft, Memory, Pending};
-use mtn_ports::{Batch, Keeper, MemKeeper, MemSink, MemSource};
+use mtn_ports::{Batch, Keeper, MemKeeper};
 use std::alloc::Global;
 use std::thread::Threads;
-
-/// The room of a sink for which none is named.
-const ROOM: usize = 10_000;
-
-/// What the next command is given.
-#[derive(Drop)]
-struct Given {
-    payload: Vec<u8>,
-    source: Vec<u64>,
-    room: usize,
-    sink: Vec<u64>,
-}
-
-impl Given {
-    fn new(alloc: Global) -> Given {
-        Given {
-            payload: Vec::new(alloc),
-            source: Vec::new(alloc),
-            room: ROOM,
-            sink: Vec::new(alloc),
-        }
-    }
-}
 
 /// A keeper, which ids texts get, and what the next command is given.
 #[derive(Drop)]
@@ -46,7 +23,7 @@ pub struct Session {
 pub fn sets(word: &str) -> bool {
     matches!(
         word,
-        "store" | "record" | "give" | "fill" | "source" | "sink"
+        "store" | "meet" | "record" | "give" | "fill" | "source" | "sink"
     )
 }
 
@@ -80,7 +57,7 @@ impl Session {
     pub fn new(alloc: Global) -> Option<Session> {
         Some(Session {
             held: Held::new(alloc, b"plain", Vec::new(alloc))?,
-            ids: Ids::Sha1,
+            ids: Ids::new(Kind::Sha1),
             given: Given::new(alloc),
         })
     }
@@ -90,11 +67,11 @@ impl Session {
         let (kind, rest) = first_word(rest);
         let (ident, failing) = first_word(rest);
         self.held = Held::new(alloc, kind, numbers_of(alloc, failing)?)?;
-        self.ids = if ident == b"toy".as_slice() {
-            Ids::Toys
+        self.ids = Ids::new(if ident == b"toy".as_slice() {
+            Kind::Toys
         } else {
-            Ids::Sha1
-        };
+            Kind::Sha1
+        });
         self.given = Given::new(alloc);
         Some(())
     }
@@ -125,6 +102,7 @@ impl Session {
     pub fn set(&mut self, alloc: Global, word: &str, rest: &[u8]) -> Option<()> {
         match word {
             "store" => self.begin(alloc, rest)?,
+            "meet" => self.ids.meet(),
             "record" => self.put(alloc, rest)?,
             "give" => self.given.payload = plain(alloc, rest)?,
             "fill" => self.given.payload = filled(alloc, rest)?,
@@ -144,20 +122,17 @@ impl Session {
     ) -> Option<()> {
         let words = words_of(alloc, rest)?;
         let given = std::mem::replace(&mut self.given, Given::new(alloc));
-        let mut source = MemSource::new(given.payload, given.source);
-        let mut sink = MemSink::new(alloc, given.room, given.sink).ok()?;
-        let status = run(
+        let (status, printed) = answer(
             threads,
             alloc,
-            words.as_slice(),
             &self.ids,
-            &mut source,
-            &mut sink,
+            words.as_slice(),
+            given,
             &mut self.held,
-        );
-        put_number(alloc, u64::from(status.number()), out)?;
+        )?;
+        put_number(alloc, u64::from(status), out)?;
         out.push(b' ').ok()?;
-        put_escaped(sink.written(), out)
+        put_escaped(&printed, out)
     }
 
     // The body under a key, or the next key.
@@ -199,5 +174,18 @@ impl Session {
             reads_of(alloc, keeper, Id::read_hex(id)?, number_of(count)?)?
         };
         put_number(alloc, reads, out)
+    }
+
+    /// Appends which pieces of work met, or how often its ids were asked for.
+    pub fn ask_ids(&self, alloc: Global, word: &str, out: &mut Vec<u8>) -> Option<()> {
+        if word == "met" {
+            return put_number(alloc, self.ids.met()?, out);
+        }
+        let [single, calls, texts] = self.ids.hashed();
+        put_number(alloc, single, out)?;
+        out.push(b' ').ok()?;
+        put_number(alloc, calls, out)?;
+        out.push(b' ').ok()?;
+        put_number(alloc, texts, out)
     }
 }

@@ -1,11 +1,11 @@
 // That the pieces of one call run at the same time. No clause says so: a call that does one piece after the other
 // meets them all.
-use crate::gate::{Meeting, MeetingGate};
+use crate::gate::MeetingGate;
 use mtn_base::Text;
+use mtn_case_records::meeting::Meeting;
 use mtn_pieces::Sha1Many;
 use mtn_ports::{Ident, Sha1One};
 use std::alloc::Global;
-use std::sync::atomic::Ordering;
 use std::test::Fail;
 use std::thread::Threads;
 
@@ -29,6 +29,6 @@ fn agrees<R: Threads + Sync>(rt: &R, alloc: Global, meeting: &Meeting) -> Option
 fn pieces_meet(rt: HostRuntime) -> Result<(), Fail> {
     let meeting = Meeting::new();
     assert_eq!(rt; agrees(&rt, rt.alloc(), &meeting), Some(true));
-    assert_eq!(rt; meeting.met.load(Ordering::SeqCst), 0b11);
+    assert_eq!(rt; meeting.met(), 0b11);
     Ok(())
 }

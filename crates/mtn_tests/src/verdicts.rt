@@ -1,10 +1,10 @@
 // Verdicts on two jobs by hand, and that the pieces of one call run at the same time, which no clause says.
-use crate::gate::{Meeting, MeetingGate};
+use crate::gate::MeetingGate;
 use crate::jobs::job;
 use mtn_ancestry::Pos;
+use mtn_case_records::meeting::Meeting;
 use mtn_check_pieces::{CheckJob, Verdict, check_one, check_pieces};
 use std::alloc::Global;
-use std::sync::atomic::Ordering;
 use std::test::Fail;
 use std::thread::Threads;
 
@@ -47,6 +47,6 @@ fn a_root_agrees(rt: HostRuntime) -> Result<(), Fail> {
 fn verdicts_meet(rt: HostRuntime) -> Result<(), Fail> {
     let meeting = Meeting::new();
     assert_eq!(rt; in_pieces(&rt, rt.alloc(), &meeting), Some((true, false)));
-    assert_eq!(rt; meeting.met.load(Ordering::SeqCst), 0b11);
+    assert_eq!(rt; meeting.met(), 0b11);
     Ok(())
 }
