@@ -14,7 +14,7 @@ use Rattle.mtn_marking.specs.Graph.{IsMarkedAt}
 use Rattle.mtn_marking.specs.Marking.{MarkedTree}
 use Rattle.mtn_model.specs.State.{State}
 use Rattle.mtn_model.specs.Table.{Contents, body_at}
-use Rattle.mtn_ports.specs.Kept.{Same, with_all}
+use Rattle.mtn_ports.specs.Kept.{with_all}
 use Rattle.mtn_records.specs.declared.record.LogRecord.{LogRecord}
 use Rattle.mtn_ancestry.specs.declared.pos.LogEntry.{LogEntry}
 use Rattle.mtn_replay.specs.Graphs.{IsGraphOf}
@@ -25,12 +25,12 @@ use Rattle.mtn_replay.specs.Texts.{text_under}
 use Rattle.mtn_history.specs.declared.errors.StoreError.{StoreError}
 use Rattle.mtn_history.specs.declared.errors.StoreError.TheVariants.{Failed, Damaged, NoMemory}
 use Rattle.mtn_history.specs.declared.errors.HistoryError.{HistoryError}
-use Rattle.mtn_history.specs.declared.errors.HistoryError.TheVariants.{Store}
+use Rattle.mtn_history.specs.declared.errors.HistoryError.TheVariants.{Refused, Store}
 use Rattle.mtn_history.specs.declared.pending.Pending.{Pending}
 use Rattle.mtn_history.specs.Damage.{IsBad, IsDamage}
 use Rattle.mtn_history.specs.Errors.{IfDamage, IfStoreDamage}
 use Rattle.mtn_history.specs.Logs.{IsHeldAt, IsLogged, IsLogOf, IsReadTo, UnloggedAt}
-use Rattle.mtn_history.specs.Marked.{AreHeld, IsCounted}
+use Rattle.mtn_history.specs.Marked.{AreHeld, FindsPlace, FindsPlaces, FindsRoster, FindsRosters, IsCounted}
 use Rattle.mtn_history.specs.Meta.{Counted, HasOldVersion, IsMetaOf, count_key, version_key}
 use Rattle.mtn_history.specs.Places.{IsFoundAt, IsPlaced, UnplacedBelow}
 use Rattle.mtn_history.specs.Rosters.{IsChainDown, IsRebuilt, IsRosterHeld, IsRosterThere, Rebuilds, UnmadeBelow}
@@ -115,11 +115,6 @@ module _ (f : List ℕ → List ℕ) (told : Option Contents) (p : Pending) (s :
   roster_found at (Err e) value read lt = tt
   roster_found at (Ok x) value read lt = marked_is at (value x).entries (value x).roster (value x).depth lt read
 
--- the place of a revision is below the count
-pub below_count : (told : Option Contents) (f : List ℕ → List ℕ) (p : Pending) (s : State) (d : IsFounded f told p s) (id : Id) (r : ℕ) (text : List ℕ) →
-    IfSome told (λ c. IsPlaced (with_all c p.batch) p.count id (Some r) text) → r < p.count
-below_count told f p s d id r text found = (told_of told d.records (λ c. IsPlaced (with_all c p.batch) p.count id (Some r) text) d.tells found).1
-
 -- records that count some revisions have both records of table 1
 pub counted_some : (b : Bool) (c : Contents) (n : ℕ) → IsMetaOf c (record { count = n; is_new = b }) → n ≢ 0 → Counted c n
 counted_some true c n meta some = absurd (some meta.1)
@@ -134,26 +129,20 @@ unplaced_damage (Some c) p NoMemory some wrong = λ counts. tt
 unplaced_damage (Some c) p (Damaged d) some wrong = λ counts.
     inr (inr (inr (inr (inl (record { meta = record { count = p.count; is_new = p.is_new }; read = counts; wrong = wrong })))))
 
--- a fact of told records, after calls that only read
-on_same : (mid new : Option Contents) (P : Contents → Type 0) → Same mid new → IfSome mid P → (c : Contents) → new ≡ Some c → P c
-on_same mid new P same holds c at = subst (λ o. IfSome o P) (same c at) holds
-
-pub unmade_damage : (mid told : Option Contents) (p : Pending) (id : Id) (r : ℕ) (text : List ℕ) (e : StoreError) → p.count ≢ 0 → Same mid told →
-    IfSome mid (λ c. IsPlaced (with_all c p.batch) p.count id (Some r) text) → IfSome told (λ c. IfDamage e (UnmadeBelow (r + 1) (with_all c p.batch))) →
-    IfSome told (λ c. IsCounted p c → IfDamage e (IsDamage (with_all c p.batch)))
-unmade_damage mid None p id r text e some same placed wrong = tt
-unmade_damage mid (Some c) p id r text Failed some same placed wrong = λ counts. tt
-unmade_damage mid (Some c) p id r text NoMemory some same placed wrong = λ counts. tt
-unmade_damage mid (Some c) p id r text (Damaged d) some same placed wrong = λ counts.
-    let low : r < p.count = (on_same mid (Some c) (λ x. IsPlaced (with_all x p.batch) p.count id (Some r) text) same placed c refl).1 in
-    inr (inr (inr (inl (record {
-      count = p.count;
-      counted = counted_some p.is_new (with_all c p.batch) p.count counts some;
-      wrong = record { place = wrong.place; below = omega (arith, wrong.below, low); wrong = wrong.wrong };
-    }))))
-
 not_none : (n at : ℕ) → at < n → n ≢ 0
 not_none n at lt e = omega (arith, lt, e)
+
+pub unmade_damage : (told : Option Contents) (p : Pending) (at : ℕ) (e : StoreError) → at < p.count → IfSome told (λ c. IfDamage e (UnmadeBelow (at + 1) (with_all c p.batch))) →
+    IfSome told (λ c. IsCounted p c → IfDamage e (IsDamage (with_all c p.batch)))
+unmade_damage None p at e lt wrong = tt
+unmade_damage (Some c) p at Failed lt wrong = λ counts. tt
+unmade_damage (Some c) p at NoMemory lt wrong = λ counts. tt
+unmade_damage (Some c) p at (Damaged d) lt wrong = λ counts.
+    inr (inr (inr (inl (record {
+      count = p.count;
+      counted = counted_some p.is_new (with_all c p.batch) p.count counts (not_none p.count at lt);
+      wrong = record { place = wrong.place; below = omega (arith, wrong.below, lt); wrong = wrong.wrong };
+    }))))
 
 pub unlogged_damage : (told : Option Contents) (p : Pending) (at : ℕ) (e : StoreError) → at < p.count → IfSome told (λ c. IfDamage e (UnloggedAt (with_all c p.batch) at)) →
     IfSome told (λ c. IsCounted p c → IfDamage e (IsDamage (with_all c p.batch)))
@@ -229,6 +218,23 @@ draft_counts f c p s draft = by p.is_new p.count (with_all c p.batch) draft.coun
 pub as_error : {T : Type 0} (told : Option Contents) (p : Pending) (r : Result T HistoryError) (e : StoreError) → r ≡ Err (Store e) → IfSome told (λ c. IsCounted p c → IfDamage e (IsDamage (with_all c p.batch))) →
     IfSome told (λ c. IsCounted p c → IfErr r (λ x. IfStoreDamage x (IsDamage (with_all c p.batch))))
 as_error told p r e is fact = subst (λ y. IfSome told (λ c. IsCounted p c → IfErr y (λ x. IfStoreDamage x (IsDamage (with_all c p.batch))))) (sym is) fact
+
+-- a call that finds no place goes no further
+pub lost_roster : (h : List Revision) (id : Id) (e : HistoryError) → FindsPlace h id (Err e) → FindsRoster h id (Err e)
+lost_roster h id (Refused cause) lost = lost
+lost_roster h id (Store e) lost = tt
+
+pub first_lost : (h : List Revision) (a b : Id) (e : HistoryError) → FindsPlace h a (Err e) → FindsPlaces h a b (Err e)
+first_lost h a b (Refused cause) lost = inl lost
+first_lost h a b (Store e) lost = tt
+
+pub second_lost : (h : List Revision) (a b : Id) (at : ℕ) (e : HistoryError) → place_of h a ≡ Some at → FindsPlace h b (Err e) → FindsPlaces h a b (Err e)
+second_lost h a b at (Refused cause) place lost = inr (at, place, lost)
+second_lost h a b at (Store e) place lost = tt
+
+pub lost_rosters : (h : List Revision) (a b : Id) (e : HistoryError) → FindsPlaces h a b (Err e) → FindsRosters h a b (Err e)
+lost_rosters h a b (Refused cause) lost = lost
+lost_rosters h a b (Store e) lost = tt
 
 -- the same of an error within this crate, where a state's log has these positions
 pub held_error : {T : Type 0} (told : Option Contents) (p : Pending) (places : List ℕ) (r : Result T StoreError) (e : StoreError) → r ≡ Err e → IfSome told (λ c. IsCounted p c → AreHeld told p places → IfDamage e (IsDamage (with_all c p.batch))) →

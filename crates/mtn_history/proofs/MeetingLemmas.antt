@@ -137,6 +137,12 @@ pub once_left : (told : Option Contents) (ps : List Put) (left right before afte
 once_left None ps left right before after along = tt
 once_left (Some c) ps left right before after along = asks_alone (with_all c ps) left right before after along
 
+-- as much more was asked for before
+pub once_later : (told : Option Contents) (batch : List Put) (left right before later after : ℕ) → before ≤ later → IfSome told (λ c. AsksOnce (with_all c batch) left right before after) →
+    IfSome told (λ c. AsksOnce (with_all c batch) left right later after)
+once_later None batch left right before later after le once = tt
+once_later (Some c) batch left right before later after le once = λ a b shared at down also rest. let few = once a b shared at down also rest in omega (arith, few, le)
+
 pub once_right : (told : Option Contents) (ps : List Put) (left right before after : ℕ) → IfSome told (λ c. AsksAlong (with_all c ps) right before after) → IfSome told (λ c. AsksOnce (with_all c ps) left right before after)
 once_right None ps left right before after along = tt
 once_right (Some c) ps left right before after along = asks_alone_right (with_all c ps) left right before after along

@@ -30,7 +30,7 @@ mod texts;
 
 pub use draft::{Draft, just_below};
 pub use errors::{Damage, HistoryError, StoreError};
-pub use marked::SharedRoster;
+pub use marked::{BothRosters, SharedRoster};
 pub use memory::Memory;
 pub use meta::Meta;
 pub use pending::Pending;

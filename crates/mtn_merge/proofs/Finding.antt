@@ -1,32 +1,20 @@
 -- What a draft finds of the sides.
-use Rattle.std.proofs.Common.{◌≡◌, ℕ, List, Some, Result, Ok, Err, sym, ap, ◌∙◌, subst}
+use Rattle.std.proofs.Common.{◌≡◌, ℕ, List, Some, Result, Ok, Err, sym, ap, ◌∙◌, subst, inl, inr}
 use Rattle.mtn_base.specs.declared.id.Id.{Id}
-use Rattle.mtn_history.specs.Marked.{FindsRoster}
+use Rattle.mtn_history.specs.Marked.{FindsRosters}
 use Rattle.mtn_history.specs.declared.errors.HistoryError.{HistoryError}
 use Rattle.mtn_history.specs.declared.errors.HistoryError.TheVariants.{Refused, Store}
 use Rattle.mtn_history_laws.specs.History.{Revision}
 use Rattle.mtn_plans.specs.Sides.{left_of, related, right_of, side_refusal}
-use Rattle.mtn_replay.specs.Making.{place_of}
-use Rattle.mtn_merge.specs.Sides.{AreCompared, Compares, FindsSide, FindsSides, IsSideOf}
+use Rattle.mtn_merge.specs.Sides.{AreCompared, Compares, FindsSides}
 use Rattle.mtn_merge.specs.declared.sides.Compared.{Compared}
-use Rattle.mtn_merge.specs.declared.sides.Side.{Side}
 use Rattle.mtn_merge.proofs.Comparing.{unknown_first, unknown_second}
 
-pub not_here : (h : List Revision) (id : Id) (e : HistoryError) → FindsRoster h id (Err e) → FindsSide h id (Err e)
-not_here h id (Refused cause) found = found
-not_here h id (Store e) found = tt
-
-pub first_lost : (h : List Revision) (a b : Id) (e : HistoryError) → FindsSide h a (Err e) → FindsSides h a b (Err e)
-first_lost h a b (Refused cause) found = unknown_first h a b found.1 ∙ ap Some (sym found.0)
-first_lost h a b (Store e) found = tt
-
-pub second_lost : (h : List Revision) (a b : Id) (p : ℕ) → place_of h a ≡ Some p → (e : HistoryError) → FindsSide h b (Err e) → FindsSides h a b (Err e)
-second_lost h a b p ia (Refused cause) found = unknown_second h a b p ia found.1 ∙ ap Some (sym found.0)
-second_lost h a b p ia (Store e) found = tt
-
--- where the side of an id stands
-pub side_place : (h : List Revision) (id : Id) (side : Side) → (side.id ≡ id) × IsSideOf h side → place_of h id ≡ Some side.at
-side_place h id side found = ap (place_of h) (sym found.0) ∙ found.1.place
+-- a side that is not there
+pub lost_sides : (h : List Revision) (a b : Id) (e : HistoryError) → FindsRosters h a b (Err e) → FindsSides h a b (Err e)
+lost_sides h a b (Refused cause) (inl u) = unknown_first h a b u.1 ∙ ap Some (sym u.0)
+lost_sides h a b (Refused cause) (inr u) = let is = u.2 in unknown_second h a b u.0 u.1 is.1 ∙ ap Some (sym is.0)
+lost_sides h a b (Store e) u = tt
 
 -- what was compared, under the names that the words have
 pub compared_sides : (h : List Revision) (a b l r : Id) → left_of a b ≡ l → right_of a b ≡ r → side_refusal h a b ≡ related h (left_of a b) (right_of a b) → (res : Result Compared HistoryError) →

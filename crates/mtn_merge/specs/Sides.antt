@@ -1,7 +1,6 @@
 -- The sides that are merged, as a draft finds them.
 use Rattle.std.specs.Prelude.{◌≡◌, List, Some, None, Result, Ok, Err, ⊤}
 use Rattle.mtn_base.specs.declared.id.Id.{Id}
-use Rattle.mtn_base.specs.declared.refusal.Cause.TheVariants.{UnknownRevision}
 use Rattle.mtn_history.specs.declared.errors.HistoryError.{HistoryError}
 use Rattle.mtn_history.specs.declared.errors.HistoryError.TheVariants.{Refused, Store}
 use Rattle.mtn_history_laws.specs.History.{Revision}
@@ -15,12 +14,6 @@ use Rattle.mtn_merge.specs.declared.sides.Side.{Side}
 pub record IsSideOf (h : List Revision) (side : Side) : Type 0 where
   pub place : place_of h side.id ≡ Some side.at
   pub marked : IsMarkedAt h side.at side.roster
-
--- the side of an id, or that it is not held
-abbrev pub FindsSide : List Revision → Id → Result Side HistoryError → Type 0
-FindsSide h id (Ok side) = (side.id ≡ id) × IsSideOf h side
-FindsSide h id (Err (Refused cause)) = (cause ≡ UnknownRevision id) × (place_of h id ≡ None)
-FindsSide h id (Err (Store e)) = ⊤
 
 -- both sides, and what the history decides of them
 pub record AreCompared (h : List Revision) (l r : Id) (x : Compared) : Type 0 where

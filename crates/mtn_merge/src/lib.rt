@@ -11,7 +11,7 @@
 //! record. The first and the last step of a plan stand alone as well: [`sides_of`] finds the sides and what is decided of them, and
 //! [`revision_text`] spells a tree over its two parents.
 //!
-//! Cost: each side's roster is read once, and the draft remembers it; one walk between the sides; linear in
+//! Cost: each side's roster is read once, what both their chains share but once, and the draft remembers them; one walk between the sides; linear in
 //! both trees. The manifest is printed and hashed once, and so is the text. The resulting tree is built once; where a node is
 //! reborn its births are the text's own id, so that it is built again under that id from the same decisions.
 #![tactic(auto)]

@@ -13,7 +13,7 @@ ghost use Rattle.mtn_mark_laws.specs.Rule.{AreUncommon};
 ghost use Rattle.mtn_model.specs.State.{State};
 ghost use Rattle.mtn_ports.specs.Causes.{Rose};
 ghost use Rattle.mtn_ports.specs.Kept.{Stays, with_all};
-ghost use Rattle.mtn_merge.specs.Sides.{Compares, FindsSide, FindsSides, IsSideOf};
+ghost use Rattle.mtn_merge.specs.Sides.{Compares, FindsSides, IsSideOf};
 
 use mtn_ancestry::{Pos, PosSet, WalkError, uncommon};
 use mtn_base::{Cause, Id};
@@ -46,22 +46,6 @@ fn order_of(a: Id, b: Id) -> Ordering
     ensures { result ≡ by_id a b }
 {
     a.as_slice().cmp(b.as_slice())
-}
-
-// The side of an id; UnknownRevision where it is not held.
-fn side_of<K: Keeper>(draft: &mut Draft<'_, K>, id: Id) -> Result<Side, HistoryError>
-    ensures same_reference { draft.new.keeper.ghost_name ≡ draft.old.keeper.ghost_name }
-    ensures stays { Stays K.contents K.leaves K.faults draft.old.keeper.now draft.new.keeper.now }
-    ensures pending { draft.new.pending ≡ draft.old.pending }
-    ensures found { (f : List ℕ → List ℕ) (s : State) (d : IsFounded f (K.contents draft.new.keeper.now) draft.old.pending s) → FindsSide d.stands.history id result }
-    ensures below { IfOk result (λ side. side.at < draft.old.pending.count) }
-    ensures named { IfOk result (λ side. side.id ≡ id) }
-    ensures there { IfSome (K.contents draft.new.keeper.now) (λ c. IfOk result (λ side. IsRosterThere (with_all c draft.old.pending.batch) side.at)) }
-    ensures damaged { IfSome (K.contents draft.new.keeper.now) (λ c. IsCounted draft.old.pending c → IfErr result (λ e. IfStoreDamage e (IsDamage (with_all c draft.old.pending.batch)))) }
-    ensures failed { result ≡ Err (HistoryError.Store StoreError.Failed) → Rose (K.faults draft.old.keeper.now) (K.faults draft.new.keeper.now) }
-{
-    let (at, roster) = draft.roster_of(id)?;
-    Ok(Side { id, at, roster })
 }
 
 // What each of two revisions has above it that the other lacks.
@@ -141,7 +125,7 @@ fn compare<K: Keeper>(
 }
 
 /// The sides of a merge with what is decided of them; UnknownRevision for the first that is not held, or Related. Each roster
-/// is read once.
+/// is read once, and what both rosters' chains share but once.
 pub fn sides_of<K: Keeper>(
     alloc: Global,
     draft: &mut Draft<'_, K>,
@@ -159,8 +143,17 @@ pub fn sides_of<K: Keeper>(
     ensures damaged { IfSome (K.contents draft.new.keeper.now) (λ c. IsCounted draft.old.pending c → IfErr result (λ e. IfStoreDamage e (IsDamage (with_all c draft.old.pending.batch)))) }
     ensures failed { result ≡ Err (HistoryError.Store StoreError.Failed) → Rose (K.faults draft.old.keeper.now) (K.faults draft.new.keeper.now) }
 {
-    let first = side_of(draft, a)?;
-    let second = side_of(draft, b)?;
+    let both = draft.rosters_of(a, b)?;
+    let first = Side {
+        id: a,
+        at: both.left,
+        roster: both.ours,
+    };
+    let second = Side {
+        id: b,
+        at: both.right,
+        roster: both.theirs,
+    };
     match order_of(a, b) {
         Ordering::Less => compare(alloc, draft, first, second),
         Ordering::Equal => Err(HistoryError::Refused(Cause::Related { older: a, newer: b })),

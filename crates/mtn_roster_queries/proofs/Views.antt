@@ -2,7 +2,7 @@
 use Rattle.std.specs.Prelude.{Contains, IfSome, IfErr}
 use Rattle.std.specs.List.{AllZip}
 use Rattle.std.specs.List.Sorted.{IsStrictlySortedBy}
-use Rattle.std.proofs.Common.{◌≡◌, ◌↔◌, ◌<◌, ℕ, List, Option, Some, None, Result, Ok, Err, length, refl, sym, ap, ◌∙◌, subst}
+use Rattle.std.proofs.Common.{◌≡◌, ◌↔◌, ◌<◌, ℕ, List, Option, Some, None, Result, Ok, Err, length, refl, sym, ap, ◌∙◌, subst, inl, inr}
 use Rattle.mtn_base.specs.declared.id.Id.{Id}
 use Rattle.mtn_base.specs.declared.name.NodeName.{NodeName}
 use Rattle.mtn_base.specs.declared.refusal.Cause.{Cause}
@@ -11,7 +11,7 @@ use Rattle.mtn_history_laws.specs.History.{Revision, tree_at, IsPlaceOf}
 use Rattle.mtn_history_laws.specs.Scalars.Scalar.{ContentOf}
 use Rattle.mtn_history.specs.declared.errors.HistoryError.{HistoryError}
 use Rattle.mtn_history.specs.declared.errors.HistoryError.TheVariants.{Refused, Store}
-use Rattle.mtn_history.specs.Marked.{AreHeld, FindsRoster, IsCounted}
+use Rattle.mtn_history.specs.Marked.{AreHeld, FindsRoster, FindsRosters, IsCounted}
 use Rattle.mtn_history.specs.declared.errors.StoreError.{StoreError}
 use Rattle.mtn_history.specs.declared.errors.StoreError.TheVariants.{Failed, Damaged, NoMemory}
 use Rattle.mtn_history.specs.declared.pending.Pending.{Pending}
@@ -140,3 +140,10 @@ module _ (h : List Revision) (id other : Id) (path : List (List ℕ)) where
       ap (λ (x : Tree). over (NoSuchPath path) (node_at x path) (λ e. Ok (node_text u e.name))) (sym here)
       ∙ ap (λ (x : Tree). over (NoSuchPath path) (node_at (tree_at h r) path) (λ e. Ok (node_text x e.name))) (sym there)
       ∙ ap (over_second r) (sym also) ∙ with_first r place
+
+-- where one of them was not found
+pub neither_found : (h : List Revision) (a b : Id) (path : List (List ℕ)) (e : HistoryError) → FindsRosters h a b (Err e) → Gives (λ answer. answer ≡ corresponding_at h a path b) (Err e)
+neither_found h a b path (Refused cause) (inl u) = not_found h a (λ o answer. answer ≡ over_first h a b path o) refl (Refused cause) u
+neither_found h a b path (Refused cause) (inr u) =
+    gives_same (over_second h a b path u.0 (place_of h b)) (corresponding_at h a path b) (Err (Refused cause)) (with_first h a b path u.0 u.1) (not_found h b (λ o answer. answer ≡ over_second h a b path u.0 o) refl (Refused cause) u.2)
+neither_found h a b path (Store e) u = tt

@@ -81,8 +81,12 @@ pub fn get_corresponding_path<K: Keeper>(
     ensures damaged { IfSome (K.contents draft.new.keeper.now) (λ c. IsCounted draft.old.pending c → IfErr result (λ e. IfStoreDamage e (IsDamage (with_all c draft.old.pending.batch)))) }
     ensures failed { result ≡ Err (HistoryError.Store StoreError.Failed) → Rose (K.faults draft.old.keeper.now) (K.faults draft.new.keeper.now) }
 {
-    let (_, here) = draft.roster_of(id)?;
-    let (_, there) = draft.roster_of(other)?;
+    let both = draft.rosters_of(id, other)?;
     let alloc = draft.alloc();
-    corresponding(alloc, here.marked().roster(), path, there.marked().roster())
+    corresponding(
+        alloc,
+        both.ours.marked().roster(),
+        path,
+        both.theirs.marked().roster(),
+    )
 }
