@@ -11,6 +11,7 @@ use Rattle.mtn_changes.specs.declared.change.Revision.{Revision as Spelled}
 use Rattle.mtn_changes.proofs.OneValue.{same_revision}
 use Rattle.mtn_check_pieces.specs.Verdict.{IsRevisionOf}
 use Rattle.mtn_check_records.specs.Reading.{named_in}
+use Rattle.mtn_history.proofs.Knowing.{told_each}
 use Rattle.mtn_model.specs.Table.{Contents}
 use Rattle.mtn_ports.proofs.KeptLemmas.{if_same}
 use Rattle.mtn_ports.specs.Kept.{Same}
@@ -18,10 +19,6 @@ use Rattle.mtn_put_revision.proofs.Looking.{edge_here, edge_past, edges_end, edg
 use Rattle.mtn_put_revision.specs.Finding.{unknown_in, first_unknown}
 use Rattle.mtn_replay.specs.Making.{unknown_file}
 use Rattle.mtn_check_hands.specs.Reading.{IsMentioned}
-
-pub told_any : (told : Option Contents) (P : Contents → Type 0) → ((c : Contents) → P c) → IfSome told P
-told_any None P all = tt
-told_any (Some c) P all = all c
 
 pub told_past : (old new : Option Contents) (cs : List Change) (i : ℕ) (ch : Change) (b : Bool) → Same old new → slice_get cs i ≡ Some ch → IfSome old (λ c. first_unknown (c 2) (take i cs) ≡ None) →
     IfSome new (λ c. IsTrue b → unknown_in (c 2) ch ≡ None) → IsTrue b → IfSome new (λ c. first_unknown (c 2) (take (i + 1) cs) ≡ None)
@@ -66,10 +63,10 @@ told_edge_here old (Some c) es i e cs b same at is before here wrong = λ _.
 
 -- where all are held none is not
 pub told_none_wrong : (told : Option Contents) (P : Contents → Type 0) → IfSome told (λ c. true ≡ false → P c)
-told_none_wrong told P = told_any told _ (λ c e. absurd cc)
+told_none_wrong told P = told_each told _ (λ c e. absurd cc)
 
 pub told_none_right : (told : Option Contents) (P : Contents → Type 0) → IfSome told (λ c. IsTrue false → P c)
-told_none_right told P = told_any told _ (λ c e. absurd cc)
+told_none_right told P = told_each told _ (λ c e. absurd cc)
 
 -- a text is that of one revision
 pub told_mentioned : (told : Option Contents) (text : List ℕ) (v : Spelled) (es : List Edge) (ids : List Id) (held : Bool) → IsRevisionOf text v → es ≡ v.edges → ids ≡ named_in es →

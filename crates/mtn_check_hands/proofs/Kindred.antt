@@ -26,7 +26,7 @@ use Rattle.mtn_check_hands.specs.declared.asked.Answer.TheVariants.{Held}
 use Rattle.mtn_check_hands.specs.declared.asked.Asked.TheVariants.{Kept as KeptOf}
 use Rattle.mtn_check_hands.specs.declared.hands.Hands.{Hands}
 use Rattle.mtn_check_hands.specs.declared.kin.Kin.{Kin}
-use Rattle.mtn_check_hands.proofs.Holding.{told_any}
+use Rattle.mtn_history.proofs.Knowing.{told_each}
 
 pub told_to : (told : Option Contents) (P Q : Contents → Type 0) → ((c : Contents) → P c → Q c) → IfSome told P → IfSome told Q
 told_to None P Q f p = tt
@@ -34,7 +34,7 @@ told_to (Some c) P Q f p = f c p
 
 -- what is at hand
 pub hand_here : (told : Option Contents) (at place : ℕ) (hands : Hands) (hand copy : Hand) → place < at → Has hands place hand → copy ≡ hand → IfSome told (λ c. IsHandAt c at hands place copy)
-hand_here told at place hands hand copy lt has same = told_any told _ (λ c f n front begun walked right. subst (IsHandOf front place) (sym same) (right place hand lt has))
+hand_here told at place hands hand copy lt has same = told_each told _ (λ c f n front begun walked right. subst (IsHandOf front place) (sym same) (right place hand lt has))
 
 -- what is asked for
 pub hand_asked : (told : Option Contents) (at place : ℕ) (hands : Hands) (hand : Hand) → IfSome told (λ c. IsAnswerBelow c at (KeptOf place) (Held hand)) → IfSome told (λ c. IsHandAt c at hands place hand)
@@ -48,7 +48,7 @@ last_next n (suc r) (x ∷ ks) k at long = last_next x.next r ks k at (omega (ar
 
 -- the next number behind the last revision
 pub next_by_hand : (told : Option Contents) (at r : ℕ) (hands : Hands) (hand : Hand) → r + 1 ≡ at → Has hands r hand → IfSome told (λ c. IsNextAt c at hands hand.next)
-next_by_hand told at r hands hand last has = told_any told _ (λ c f n front begun walked right.
+next_by_hand told at r hands hand last has = told_each told _ (λ c f n front begun walked right.
     let stands = front_stands f c at front walked in
     let is : IsHandOf front r hand = right r hand (omega (arith, last)) has in
     sym (last_next 1 r front.kept _ is.kept (omega (arith, last, stands.long, stands.spelled.long, stands.revisions.long))))
@@ -73,7 +73,7 @@ abbrev pub parent_in : ℕ → Hand → Parent
 parent_in place hand = record { at = place; id = hand.id; depth = hand.depth }
 
 pub none_are : (told : Option Contents) (at : ℕ) (hands : Hands) (kin : Kin) → kin.parents ≡ [] → kin.records ≡ [] → IfSome told (λ c. AreKinAt c at hands kin)
-none_are told at hands kin parents records = told_any told _ (λ c f n front begun walked right. (
+none_are told at hands kin parents records = told_each told _ (λ c f n front begun walked right. (
   subst (λ ps. AllZip (IsParentIn front) ps kin.records) (sym parents) (subst (AllZip (IsParentIn front) []) (sym records) tt),
   subst (λ ps. AreApart front.history (places_of ps) kin.only_left kin.only_right) (sym parents) tt,
 ))

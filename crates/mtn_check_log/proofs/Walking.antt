@@ -14,10 +14,6 @@ use Rattle.mtn_check_log.specs.Positions.{IsFirstIn, IsKnownBehind, IsRight, IsW
 use Rattle.mtn_check_log.specs.Below.{below}
 use Rattle.mtn_check_log.proofs.Told.{AreWrong, map_damage}
 
-pub told_all : (told : Option Contents) (P : Contents → Type 0) → ((c : Contents) → P c) → IfSome told P
-told_all None P all = tt
-told_all (Some c) P all = all c
-
 pub walk_begins : (f : List ℕ → List ℕ) (n : ℕ) (told : Option Contents) → IfSome told (λ c. IsBegun f c n) → IfSome told (IsWalkedTo f n 0)
 walk_begins f n None begun = tt
 walk_begins f n (Some c) begun = record { begun = begun; front = no_front; walked = refl }

@@ -14,7 +14,7 @@ use Rattle.mtn_check_records.specs.Due.{HasEntries}
 use Rattle.mtn_check_records.specs.Reading.{places_of, IsAfterFirst, IsGivenBy}
 use Rattle.mtn_check_records.specs.declared.hand.Parent.{Parent}
 
-one_at : {X : Type 0} (o : Option X) (a b : X) → o ≡ Some a → o ≡ Some b → a ≡ b
+pub one_at : {X : Type 0} (o : Option X) (a b : X) → o ≡ Some a → o ≡ Some b → a ≡ b
 one_at o a b x y = cc
 
 one_below : (r : RosterRecord) (es fs : Entries) → r ≡ Whole es → Some r ≡ Some (Whole fs) → es ≡ fs

@@ -21,6 +21,7 @@ use Rattle.mtn_roster_deltas.specs.Chain.{Entries}
 use Rattle.mtn_roster_deltas.specs.Numbering.{all_of, number_among}
 use Rattle.mtn_roster_deltas.proofs.Known.{known_is, there_spelled, spelled_there}
 use Rattle.mtn_roster_deltas.proofs.Places.{among_was, contains_cons}
+use Rattle.mtn_check_records.proofs.Given.{one_at}
 
 some_at : {X : Type 0} (o : Option X) → IsSome o → (x : X) × (o ≡ Some x)
 some_at None h = absurd cc
@@ -32,9 +33,6 @@ never_number es n none = by (number_among es n) refl
     by : (o : Option ℕ) → number_among es n ≡ o → o ≡ None
     by None e = refl
     by (Some m) e = let f = among_was es n m e in absurd (none f.0 f.1 f.2)
-
-one_at : {X : Type 0} (o : Option X) (a b : X) → o ≡ Some a → o ≡ Some b → a ≡ b
-one_at o a b x y = cc
 
 module _ (f : List ℕ → List ℕ) (files : Table) (log : List Logged) (h : List Revision) (ks : List Kept) (spelled : IsHistory f files log h) (revisions : AreKept h ks) (l : Logged) (v : Revision)
     (next : IsNext f files h l v) where

@@ -60,6 +60,11 @@ pub told_back : (old new : Option Contents) (P : Contents → Type 0) → Same o
 told_back old None P same fact = tt
 told_back old (Some c) P same fact = subst (λ o. IfSome o P) (same c refl) fact
 
+-- what holds of each
+pub told_each : (told : Option Contents) (P : Contents → Type 0) → ((c : Contents) → P c) → IfSome told P
+told_each None P each = tt
+told_each (Some c) P each = each c
+
 pub mapped : (told : Option Contents) (P Q : Contents → Type 0) → ((c : Contents) → P c → Q c) → IfSome told P → IfSome told Q
 mapped None P Q f fact = tt
 mapped (Some c) P Q f fact = f c fact

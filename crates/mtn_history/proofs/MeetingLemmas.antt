@@ -101,10 +101,6 @@ pub unmade_right : (c : Contents) (left right : ℕ) (u : Unmade) → IsUnmade c
 unmade_right c left right u un bad = let is = un bad in (omega (arith, is.0), is.1)
 
 -- facts of told records
-pub told_each : (told : Option Contents) (P : Contents → Type 0) → ((c : Contents) → P c) → IfSome told P
-told_each None P each = tt
-told_each (Some c) P each = each c
-
 pub told_then : (told : Option Contents) (A B P : Contents → Type 0) → IfSome told A → IfSome told B → ((c : Contents) → A c → B c → P c) → IfSome told P
 told_then None A B P a b each = tt
 told_then (Some c) A B P a b each = each c a b

@@ -2,11 +2,12 @@ use Rattle.std.proofs.Common.{◌∙◌, ap}
 use Rattle.mtn_changes.specs.declared.change.Edge.{Edge}
 use Rattle.mtn_ports.proofs.KeptLemmas.{stays_itself, stays_trans}
 use Rattle.mtn_put_revision.proofs.Looking.{at_item, edges_begin}
-use Rattle.mtn_check_hands.proofs.Holding.{told_any, told_edge_here, told_edge_past, told_edges_end, told_none_right, told_none_wrong}
+use Rattle.mtn_history.proofs.Knowing.{told_each}
+use Rattle.mtn_check_hands.proofs.Holding.{told_edge_here, told_edge_past, told_edges_end, told_none_right, told_none_wrong}
 use Rattle.mtn_check_hands.proofs.contents.holds_all.Goals as goal
 
 pub loop-edge-init : goal.loop-edge-init
-loop-edge-init g c = record { stays = stays_itself g.K.Keeper.contents g.K.Keeper.leaves g.K.Keeper.faults c.args.keeper.now; held = told_any (g.K.Keeper.contents c.args.keeper.now) _ (λ d. edges_begin (d 2)) }
+loop-edge-init g c = record { stays = stays_itself g.K.Keeper.contents g.K.Keeper.leaves g.K.Keeper.faults c.args.keeper.now; held = told_each (g.K.Keeper.contents c.args.keeper.now) _ (λ d. edges_begin (d 2)) }
 
 pub returns-in_err-holds_each-clause-stays : goal.returns-in_err-holds_each-clause-stays
 returns-in_err-holds_each-clause-stays g c = stays_trans g.K.Keeper.contents g.K.Keeper.leaves g.K.Keeper.faults _ _ _ c.loop-edge.invariant.stays c.holds_each.ensures.stays

@@ -1,11 +1,12 @@
 use Rattle.std.proofs.Common.{refl}
 use Rattle.mtn_ports.proofs.KeptLemmas.{stays_itself, stays_trans}
 use Rattle.mtn_put_revision.proofs.Looking.{at_item}
-use Rattle.mtn_check_hands.proofs.Holding.{told_any, told_here, told_past, told_end, told_none_right, told_none_wrong}
+use Rattle.mtn_history.proofs.Knowing.{told_each}
+use Rattle.mtn_check_hands.proofs.Holding.{told_here, told_past, told_end, told_none_right, told_none_wrong}
 use Rattle.mtn_check_hands.proofs.contents.holds_each.Goals as goal
 
 pub loop-change-init : goal.loop-change-init
-loop-change-init g c = record { stays = stays_itself g.K.Keeper.contents g.K.Keeper.leaves g.K.Keeper.faults c.args.keeper.now; held = told_any (g.K.Keeper.contents c.args.keeper.now) _ (λ d. refl) }
+loop-change-init g c = record { stays = stays_itself g.K.Keeper.contents g.K.Keeper.leaves g.K.Keeper.faults c.args.keeper.now; held = told_each (g.K.Keeper.contents c.args.keeper.now) _ (λ d. refl) }
 
 pub returns-in_err-holds_of-clause-stays : goal.returns-in_err-holds_of-clause-stays
 returns-in_err-holds_of-clause-stays g c = stays_trans g.K.Keeper.contents g.K.Keeper.leaves g.K.Keeper.faults _ _ _ c.loop-change.invariant.stays c.holds_of.ensures.stays

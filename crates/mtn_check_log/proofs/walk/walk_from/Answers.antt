@@ -5,14 +5,15 @@ use Rattle.mtn_ports.proofs.KeptLemmas.{stays_itself, stays_trans}
 use Rattle.mtn_history.specs.Errors.{IfDamage}
 use Rattle.mtn_check_log.specs.Below.{below}
 use Rattle.mtn_check_log.specs.Positions.{IsFirstIn}
-use Rattle.mtn_check_log.proofs.Walking.{told_all, walk_goes_on, walk_knows, walk_stops}
+use Rattle.mtn_history.proofs.Knowing.{told_each}
+use Rattle.mtn_check_log.proofs.Walking.{walk_goes_on, walk_knows, walk_stops}
 use Rattle.mtn_check_log.proofs.walk.walk_from.Goals as goal
 
 pub loop-at-init : goal.loop-at-init
 loop-at-init g c = record {
   stays = stays_itself g.K.Keeper.contents g.K.Keeper.leaves g.K.Keeper.faults c.args.keeper.now;
   walked = c.requires.walked;
-  knows = told_all (g.K.Keeper.contents c.args.keeper.now) _ (λ k. c.new-memory.ensures (below c.args.from k));
+  knows = told_each (g.K.Keeper.contents c.args.keeper.now) _ (λ k. c.new-memory.ensures (below c.args.from k));
 }
 
 pub loop-at-preserved : goal.loop-at-preserved

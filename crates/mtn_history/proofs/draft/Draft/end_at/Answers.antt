@@ -2,7 +2,7 @@ use Rattle.std.proofs.Common.{[]}
 use Rattle.std.specs.Prelude.{IfSome}
 use Rattle.mtn_ports.specs.Kept.{with_all}
 use Rattle.mtn_history.specs.Rosters.{EndsAt}
-use Rattle.mtn_history.proofs.MeetingLemmas.{told_each}
+use Rattle.mtn_history.proofs.Knowing.{told_each}
 use Rattle.mtn_history.proofs.draft.Draft.end_at.Goals as goal
 
 pub returns-in-None-clause-ends : goal.returns-in-None-clause-ends
