@@ -5,6 +5,10 @@
 //! means something else does not meet what the crate promises.
 #![tactic(auto)]
 
+pub mod files;
 pub mod history;
 pub mod keeper;
+pub mod logs;
+pub mod marked;
+pub mod pending;
 pub mod rosters;

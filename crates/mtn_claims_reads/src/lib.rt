@@ -1,11 +1,15 @@
-//! How many records a revision's text asks for: the promise of `mtn_put_revision`, under its
-//! clause `reads` with the call as its body; `mtn_claims_store` restates the others. And the queries of `mtn_near_queries`, which
-//! ask for those near their revisions alone.
+//! The promises of the calls that accept a revision's text, and of questions over a draft. How many records a text asks for stands
+//! alone, under the clause `reads`; the other clauses are in `accepted.rt`. Rosters are asked about in `questions.rt`; the queries
+//! of `mtn_near_queries` ask for records near their revisions alone.
 //!
-//! Each edit of `must-fail/` puts a body that asks for more, or answers something else, in the place of the call, and is refused.
+//! Each function here restates the contract of one public call of a crate below, in the same words, with the call as its body; it
+//! says nothing of its own. Each edit of `must-fail/` puts a body that asks for more, or answers something else, in the place of the
+//! call, and is refused.
 #![tactic(auto)]
 
+pub mod accepted;
 pub mod near;
+pub mod questions;
 
 ghost use Rattle.std.specs.Prelude.{◌≡◌, ◌≤◌, ◌+◌, IfSome, Some, ℕ};
 ghost use Rattle.mtn_history.specs.Stands.{IsDraft, IsFounded};

@@ -1,15 +1,9 @@
-//! The promises of the crates of the store, call by call: drafts, acceptance, questions, and `run`.
+//! The promises of `mtn_cli`: words, and `run`.
 //!
 //! Each function here restates the contract of one public call of a crate below, in the same words, with the call as its body; it
 //! says nothing of its own. The edits of `must-fail/` put a wrong body in the place of a call, and each is refused: so a body that
 //! means something else does not meet what the crate promises.
 #![tactic(auto)]
 
-pub mod accepted;
-pub mod files;
-pub mod logs;
-pub mod pending;
-pub mod questions;
-pub mod rosters;
 pub mod run;
 pub mod words;

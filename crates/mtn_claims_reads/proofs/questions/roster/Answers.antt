@@ -1,5 +1,5 @@
 use Rattle.std.proofs.Common.{rules}
-use Rattle.mtn_claims_store.proofs.questions.roster.Goals as goal
+use Rattle.mtn_claims_reads.proofs.questions.roster.Goals as goal
 
 pub returns-clause-same_reference : goal.returns-clause-same_reference
 returns-clause-same_reference g c = search rules

@@ -1,5 +1,5 @@
 use Rattle.std.proofs.Common.{rules}
-use Rattle.mtn_claims_store.proofs.files.file.Goals as goal
+use Rattle.mtn_claims_history.proofs.files.file.Goals as goal
 
 pub returns-clause-asks : goal.returns-clause-asks
 returns-clause-asks g c = search rules

@@ -1,5 +1,5 @@
 use Rattle.std.proofs.Common.{rules}
-use Rattle.mtn_claims_store.proofs.questions.content_changed.Goals as goal
+use Rattle.mtn_claims_reads.proofs.accepted.accepted.Goals as goal
 
 pub returns-clause-same_reference : goal.returns-clause-same_reference
 returns-clause-same_reference g c = search rules
@@ -7,11 +7,11 @@ returns-clause-same_reference g c = search rules
 pub returns-clause-stays : goal.returns-clause-stays
 returns-clause-stays g c = search rules
 
-pub returns-clause-pending : goal.returns-clause-pending
-returns-clause-pending g c = search rules
+pub returns-clause-accepts : goal.returns-clause-accepts
+returns-clause-accepts g c = search rules
 
-pub returns-clause-found : goal.returns-clause-found
-returns-clause-found g c = search rules
+pub returns-clause-err : goal.returns-clause-err
+returns-clause-err g c = search rules
 
 pub returns-clause-damaged : goal.returns-clause-damaged
 returns-clause-damaged g c = search rules

@@ -1,5 +1,5 @@
 use Rattle.std.proofs.Common.{rules}
-use Rattle.mtn_claims_store.proofs.pending.finish.Goals as goal
+use Rattle.mtn_claims_history.proofs.pending.finish.Goals as goal
 
 pub returns-clause-told : goal.returns-clause-told
 returns-clause-told g c = search rules
