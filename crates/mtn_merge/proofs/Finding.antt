@@ -1,5 +1,5 @@
 -- What a draft finds of the sides.
-use Rattle.std.proofs.Common.{◌≡◌, ℕ, List, Some, Result, Ok, Err, sym, ap, ◌∙◌, subst, inl, inr}
+use Rattle.std.proofs.Common.{◌≡◌, List, Some, Result, Ok, Err, sym, ap, ◌∙◌, subst, inl, inr}
 use Rattle.mtn_base.specs.declared.id.Id.{Id}
 use Rattle.mtn_history.specs.Marked.{FindsRosters}
 use Rattle.mtn_history.specs.declared.errors.HistoryError.{HistoryError}

@@ -28,14 +28,14 @@ pub compare-requires-clause-sides : goal.compare-requires-clause-sides
 compare-requires-clause-sides g c = λ f s d.
     let told = g.K.Keeper.contents c.rosters_of.new.self.keeper.now in
     let found = moved (λ (y : Pending). (f : List ℕ → List ℕ) (s : State) → (d : IsFounded f told y s) → FindsRosters d.stands.history c.args.a c.args.b (Ok c.in_ok-both.both)) c.args.draft.now.pending c.rosters_of.new.self.pending
-        (sym c.in_ok-both.ensures.asks.pending) c.in_ok-both.ensures.found f s d in
+    (sym c.in_ok-both.ensures.asks.pending) c.in_ok-both.ensures.found f s d in
     (record { place = found.0; marked = found.1 }, record { place = found.2; marked = found.3 })
 
 pub compare-requires-in-Greater-clause-sides : goal.compare-requires-in-Greater-clause-sides
 compare-requires-in-Greater-clause-sides g c = λ f s d.
     let told = g.K.Keeper.contents c.rosters_of.new.self.keeper.now in
     let found = moved (λ (y : Pending). (f : List ℕ → List ℕ) (s : State) → (d : IsFounded f told y s) → FindsRosters d.stands.history c.args.a c.args.b (Ok c.in_ok-both.both)) c.args.draft.now.pending c.rosters_of.new.self.pending
-        (sym c.in_ok-both.ensures.asks.pending) c.in_ok-both.ensures.found f s d in
+    (sym c.in_ok-both.ensures.asks.pending) c.in_ok-both.ensures.found f s d in
     (record { place = found.2; marked = found.3 }, record { place = found.0; marked = found.1 })
 
 pub returns-in-Less-clause-stays : goal.returns-in-Less-clause-stays
