@@ -1,35 +1,22 @@
 // Batches.
-use crate::fields::{fields, number, put_number};
+use crate::fields::{fields, number};
+use crate::said::Said;
 use mtn_base::Bytes;
 use mtn_ports::Batch;
 use std::alloc::Global;
 use std::mem;
+
+/// The table of a number.
+pub fn table_of(text: &[u8]) -> Option<u8> {
+    u8::try_from(number(text)?).ok()
+}
 
 /// Puts a record whose key is not empty.
 pub fn put(batch: &mut Batch, table: &[u8], key: &[u8], body: &[u8]) -> Option<()> {
     if key.is_empty() {
         return None;
     }
-    batch
-        .put(u8::try_from(number(table)?).ok()?, key, body)
-        .ok()
-}
-
-fn find(batch: &Batch, table: &[u8], key: &[u8], out: &mut Vec<u8>) -> Option<()> {
-    match batch.find(u8::try_from(number(table)?).ok()?, key) {
-        Some(body) => out.extend_from_slice(body).ok(),
-        None => out.extend_from_slice(b"None").ok(),
-    }
-}
-
-fn least(batch: &Batch, table: &[u8], after: &[u8], out: &mut Vec<u8>) -> Option<()> {
-    match batch
-        .least_above(u8::try_from(number(table)?).ok()?, after)
-        .ok()?
-    {
-        Some(key) => out.extend_from_slice(key).ok(),
-        None => out.extend_from_slice(b"None").ok(),
-    }
+    batch.put(table_of(table)?, key, body).ok()
 }
 
 fn cut(batch: &mut Batch, text: &[u8]) -> Option<()> {
@@ -53,11 +40,12 @@ fn copy(batch: &mut Batch) -> Option<()> {
 }
 
 // The key at a place.
-fn at(batch: &Batch, text: &[u8], out: &mut Vec<u8>) -> Option<()> {
+fn put_at(batch: &Batch, text: &[u8], said: &mut Said) -> Option<()> {
     match batch.at(number(text)? as usize) {
-        Some(put) => out.extend_from_slice(put.key.as_slice()).ok(),
-        None => out.extend_from_slice(b"None").ok(),
+        Some(put) => said.put(put.key.as_slice()),
+        None => said.put(b"None"),
     }
+    Some(())
 }
 
 // A step without arguments.
@@ -65,41 +53,48 @@ fn bare(
     alloc: Global,
     batch: &mut Batch,
     other: &mut Batch,
-    word: &[u8],
-    out: &mut Vec<u8>,
+    word: &str,
+    said: &mut Said,
 ) -> Option<()> {
     match word {
-        b"append" => append(alloc, batch, other),
-        b"copy" => copy(batch),
-        b"len" => put_number(alloc, batch.len() as u64, out).ok(),
+        "append" => append(alloc, batch, other),
+        "copy" => copy(batch),
+        "len" => {
+            said.put_number(alloc, batch.len() as u64);
+            Some(())
+        }
         _ => None,
     }
 }
 
 // A step with a number.
-fn counted(batch: &mut Batch, word: &[u8], number: &[u8], out: &mut Vec<u8>) -> Option<()> {
+fn counted(batch: &mut Batch, word: &str, number: &[u8], said: &mut Said) -> Option<()> {
     match word {
-        b"cut" => cut(batch, number),
-        b"at" => at(batch, number, out),
+        "cut" => cut(batch, number),
+        "at" => put_at(batch, number, said),
         _ => None,
     }
 }
 
 // A step with a table and a key.
-fn keyed(batch: &Batch, word: &[u8], table: &[u8], key: &[u8], out: &mut Vec<u8>) -> Option<()> {
+fn keyed(batch: &Batch, word: &str, table: &[u8], key: &[u8], said: &mut Said) -> Option<()> {
+    let table = table_of(table)?;
     match word {
-        b"find" => find(batch, table, key, out),
-        b"least" => least(batch, table, key, out),
-        _ => None,
+        "find" => said.put_found(batch.find(table, key)),
+        "least" => said.put_found(batch.least_above(table, key).ok()?),
+        _ => return None,
     }
+    Some(())
 }
 
 // A step with a record.
-fn puts(batch: &mut Batch, other: &mut Batch, word: &[u8], record: [&[u8]; 3]) -> Option<()> {
-    let [table, key, body] = record;
+fn puts(batch: &mut Batch, other: &mut Batch, word: &str, record: &[Bytes]) -> Option<()> {
+    let [table, key, body] = record else {
+        return None;
+    };
     match word {
-        b"put" => put(batch, table, key, body),
-        b"also" => put(other, table, key, body),
+        "put" => put(batch, table.as_slice(), key.as_slice(), body.as_slice()),
+        "also" => put(other, table.as_slice(), key.as_slice(), body.as_slice()),
         _ => None,
     }
 }
@@ -109,34 +104,40 @@ fn step(
     batch: &mut Batch,
     other: &mut Batch,
     step: &[Bytes],
-    out: &mut Vec<u8>,
+    said: &mut Said,
 ) -> Option<()> {
     let (word, args) = step.split_first()?;
-    let word = word.as_slice();
+    let word = str::from_utf8(word.as_slice()).ok()?;
     match args {
-        [] => bare(alloc, batch, other, word, out),
-        [number] => counted(batch, word, number.as_slice(), out),
-        [table, key] => keyed(batch, word, table.as_slice(), key.as_slice(), out),
-        [table, key, body] => puts(
-            batch,
-            other,
-            word,
-            [table.as_slice(), key.as_slice(), body.as_slice()],
-        ),
-        _ => None,
+        [] => bare(alloc, batch, other, word, said),
+        [number] => counted(batch, word, number.as_slice(), said),
+        [table, key] => keyed(batch, word, table.as_slice(), key.as_slice(), said),
+        record => puts(batch, other, word, record),
     }
+}
+
+// A step, and a blank behind its answer.
+fn put_step(
+    alloc: Global,
+    batch: &mut Batch,
+    other: &mut Batch,
+    text: &Bytes,
+    said: &mut Said,
+) -> Option<()> {
+    let words = fields(alloc, text.as_slice(), b':')?;
+    step(alloc, batch, other, &words, said)?;
+    said.put(b" ");
+    Some(())
 }
 
 /// `batch STEP..`, with colons between the words of a step: `put:TABLE:KEY:BODY`, `also:..` into another batch, `append` of
 /// that one, which has no records then, `copy`, where a copy goes on, `cut:LEN`, `len`, `at:PLACE`, `find:TABLE:KEY`,
 /// `least:TABLE:AFTER`. A blank stands behind each answer.
-pub fn batch(alloc: Global, args: &[Bytes], out: &mut Vec<u8>) -> Option<()> {
+pub fn batch(alloc: Global, steps: &[Bytes], said: &mut Said) -> Option<()> {
     let mut batch = Batch::new(alloc);
     let mut other = Batch::new(alloc);
-    for arg in args {
-        let words = fields(alloc, arg.as_slice(), b':')?;
-        step(alloc, &mut batch, &mut other, &words, out)?;
-        out.push(b' ').ok()?;
+    for text in steps {
+        put_step(alloc, &mut batch, &mut other, text, said)?;
     }
     Some(())
 }

@@ -2,27 +2,28 @@
 ghost use Rattle.std.specs.Prelude.{IfOk};
 ghost use Rattle.mtn_changes.specs.Sorting.{AreUnsorted};
 
-use crate::fields::put_number;
-use mtn_basic_io::{Stanza, read, write};
+use crate::said::Said;
+use crate::texts::put_stanzas;
+use mtn_basic_io::{Stanza, read};
 use mtn_changes::{
     ChangeTextError, Changeset, change_of, head_of, lawful_in_any_order, read_changes,
     read_revision, sorted_changes, stanza_of, stanza_of_head, write_changes, write_revision,
 };
 use std::alloc::Global;
 
-fn numbered(alloc: Global, word: &[u8], number: u64, out: &mut Vec<u8>) -> Option<()> {
-    out.extend_from_slice(word).ok()?;
-    put_number(alloc, number, out).ok()
+fn put_numbered(alloc: Global, word: &[u8], number: u64, said: &mut Said) {
+    said.put(word);
+    said.put_number(alloc, number);
 }
 
-fn fault(alloc: Global, error: ChangeTextError, out: &mut Vec<u8>) -> Option<()> {
+fn put_fault(alloc: Global, error: ChangeTextError, said: &mut Said) {
     match error {
-        ChangeTextError::NotText { offset } => numbered(alloc, b"NotText ", offset, out),
-        ChangeTextError::BadStanza { number } => numbered(alloc, b"BadStanza ", number, out),
-        ChangeTextError::BadOrder { number } => numbered(alloc, b"BadOrder ", number, out),
-        ChangeTextError::Repeated { number } => numbered(alloc, b"Repeated ", number, out),
-        ChangeTextError::BadEdge { number } => numbered(alloc, b"BadEdge ", number, out),
-        ChangeTextError::NoMemory => None,
+        ChangeTextError::NotText { offset } => put_numbered(alloc, b"NotText ", offset, said),
+        ChangeTextError::BadStanza { number } => put_numbered(alloc, b"BadStanza ", number, said),
+        ChangeTextError::BadOrder { number } => put_numbered(alloc, b"BadOrder ", number, said),
+        ChangeTextError::Repeated { number } => put_numbered(alloc, b"Repeated ", number, said),
+        ChangeTextError::BadEdge { number } => put_numbered(alloc, b"BadEdge ", number, said),
+        ChangeTextError::NoMemory => said.is_whole = false,
     }
 }
 
@@ -41,26 +42,30 @@ fn sorted_any(alloc: Global, text: &[u8]) -> Result<Changeset, ChangeTextError>
 }
 
 // The changes written again, or the fault.
-fn written(
-    alloc: Global,
-    changes: Result<Changeset, ChangeTextError>,
-    out: &mut Vec<u8>,
-) -> Option<()>
+fn put_changes(alloc: Global, changes: Result<Changeset, ChangeTextError>, said: &mut Said)
     requires { IfOk changes (λ changes. AreUnsorted changes) }
 {
     match changes {
-        Ok(changes) => write_changes(alloc, &changes, out).ok(),
-        Err(error) => fault(alloc, error, out),
+        Ok(changes) => {
+            let done = write_changes(alloc, &changes, &mut said.text);
+            said.keep(done);
+        }
+        Err(error) => put_fault(alloc, error, said),
     }
 }
 
 // The revision written again from a copy, or the fault.
-fn revision(alloc: Global, text: &[u8], out: &mut Vec<u8>) -> Option<()> {
+fn revision(alloc: Global, text: &[u8], said: &mut Said) -> Option<()> {
     lawful_in_any_order();
     match read_revision(alloc, text) {
-        Ok(revision) => write_revision(alloc, &revision.copy(alloc).ok()?, out).ok(),
-        Err(error) => fault(alloc, error, out),
+        Ok(revision) => {
+            let copy = revision.copy(alloc).ok()?;
+            let done = write_revision(alloc, &copy, &mut said.text);
+            said.keep(done);
+        }
+        Err(error) => put_fault(alloc, error, said),
     }
+    Some(())
 }
 
 // The stanza of the head or change that a stanza spells; None where it spells neither.
@@ -71,23 +76,28 @@ fn again(alloc: Global, stanza: &Stanza) -> Option<Stanza> {
     stanza_of(alloc, &change_of(alloc, stanza).ok()??).ok()
 }
 
+fn put_again(stanza: Option<Stanza>, said: &mut Said) {
+    match stanza {
+        Some(stanza) => put_stanzas(&[stanza], said),
+        None => said.put(b"none "),
+    }
+}
+
 // Each stanza written again, or `none`.
-fn kinds(alloc: Global, text: &[u8], out: &mut Vec<u8>) -> Option<()> {
+fn kinds(alloc: Global, text: &[u8], said: &mut Said) -> Option<()> {
     for stanza in &read(alloc, text).ok()? {
-        match again(alloc, stanza) {
-            Some(stanza) => write(&[stanza], out).ok()?,
-            None => out.extend_from_slice(b"none ").ok()?,
-        }
+        put_again(again(alloc, stanza), said);
     }
     Some(())
 }
 
 /// `changes TEXT`, `sorted TEXT`, `revision TEXT`, `kinds TEXT`.
-pub fn answer(alloc: Global, word: &[u8], text: &[u8], out: &mut Vec<u8>) -> Option<()> {
+pub fn answer(alloc: Global, word: &str, text: &[u8], said: &mut Said) -> Option<()> {
     match word {
-        b"changes" => written(alloc, read_any(alloc, text), out),
-        b"sorted" => written(alloc, sorted_any(alloc, text), out),
-        b"revision" => revision(alloc, text, out),
-        _ => kinds(alloc, text, out),
+        "changes" => put_changes(alloc, read_any(alloc, text), said),
+        "sorted" => put_changes(alloc, sorted_any(alloc, text), said),
+        "revision" => return revision(alloc, text, said),
+        _ => return kinds(alloc, text, said),
     }
+    Some(())
 }

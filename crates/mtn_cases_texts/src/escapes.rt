@@ -1,6 +1,6 @@
 // Bytes in Rust's escapes.
+use crate::said::Said;
 use std::alloc::Global;
-use std::io;
 
 fn digit(byte: u8) -> Option<u8> {
     match byte {
@@ -14,34 +14,31 @@ fn two_digits(first: u8, second: u8) -> Option<u8> {
     Some((digit(first)? << 4) | digit(second)?)
 }
 
-// The byte that stands at the place, and how long its spelling is.
-fn byte_at(text: &[u8], at: usize) -> Option<(u8, usize)> {
-    let byte = *text.get(at)?;
-    if byte != b'\\' {
-        return Some((byte, 1));
-    }
-    match *text.get(at.checked_add(1)?)? {
-        b'n' => Some((b'\n', 2)),
-        b'x' => {
-            let first = *text.get(at.checked_add(2)?)?;
-            let second = *text.get(at.checked_add(3)?)?;
-            Some((two_digits(first, second)?, 4))
-        }
-        other => Some((other, 2)),
+// The byte of an escape, and how long its spelling is behind the backslash.
+fn escaped(spelling: &[u8]) -> Option<(u8, usize)> {
+    match spelling {
+        [b'n', ..] => Some((b'\n', 1)),
+        [b'x', first, second, ..] => Some((two_digits(*first, *second)?, 3)),
+        [b'x', ..] => None,
+        [other, ..] => Some((*other, 1)),
+        [] => None,
     }
 }
 
 /// The bytes that are spelled, or None.
 pub fn plain(alloc: Global, text: &[u8]) -> Option<Vec<u8>> {
     let mut out = Vec::new(alloc);
-    let mut at = 0usize;
+    let mut rest = text;
     for _ in 0..text.len() {
-        if at >= text.len() {
+        let [byte, behind @ ..] = rest else {
             break;
-        }
-        let (byte, count) = byte_at(text, at)?;
+        };
+        let (byte, count) = match *byte {
+            b'\\' => escaped(behind)?,
+            byte => (byte, 0),
+        };
         out.push(byte).ok()?;
-        at = at.checked_add(count)?;
+        rest = behind.get(count..)?;
     }
     Some(out)
 }
@@ -54,20 +51,18 @@ fn hex_digit(value: u8) -> u8 {
     }
 }
 
-fn escape_byte(byte: u8, out: &mut Vec<u8>) -> io::Result<()> {
+fn escape_byte(byte: u8, out: &mut Said) {
     match byte {
-        b'\n' => out.extend_from_slice(b"\\n")?,
-        b'\\' => out.extend_from_slice(b"\\\\")?,
-        b' '..=b'~' => out.push(byte)?,
-        _ => { out.extend_from_slice(&[b'\\', b'x', hex_digit(byte >> 4), hex_digit(byte & 15)])? }
+        b'\n' => out.put(b"\\n"),
+        b'\\' => out.put(b"\\\\"),
+        b' '..=b'~' => out.put(&[byte]),
+        _ => out.put(&[b'\\', b'x', hex_digit(byte >> 4), hex_digit(byte & 15)]),
     }
-    Ok(())
 }
 
 /// Spells bytes.
-pub fn escape(text: &[u8], out: &mut Vec<u8>) -> io::Result<()> {
+pub fn escape(text: &[u8], out: &mut Said) {
     for byte in text {
-        escape_byte(*byte, out)?;
+        escape_byte(*byte, out);
     }
-    Ok(())
 }

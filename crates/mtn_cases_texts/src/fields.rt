@@ -1,6 +1,6 @@
 // What a line takes.
 use crate::escapes::plain;
-use mtn_base::{Bytes, Id, NoMemory};
+use mtn_base::Bytes;
 use std::alloc::Global;
 
 /// The fields between separators, each without its escapes.
@@ -27,19 +27,4 @@ pub fn numbers(alloc: Global, text: &[u8]) -> Option<Vec<u64>> {
         all.push(number(field)?).ok()?;
     }
     Some(all)
-}
-
-/// Prints a number.
-pub fn put_number(alloc: Global, number: u64, out: &mut Vec<u8>) -> Result<(), NoMemory> {
-    let text = number.to_string(alloc)?;
-    out.extend_from_slice(text.as_bytes())?;
-    Ok(())
-}
-
-/// Prints an id.
-pub fn put_id(id: &Id, out: &mut Vec<u8>) -> Result<(), NoMemory> {
-    let mut digits = [0; 40];
-    id.write_hex(&mut digits);
-    out.extend_from_slice(&digits)?;
-    Ok(())
 }

@@ -1,31 +1,27 @@
 // Keepers in memory.
-use crate::batches::put;
-use crate::fields::{fields, number, numbers, put_number};
+use crate::batches::{put, table_of};
+use crate::fields::{fields, numbers};
+use crate::said::Said;
 use mtn_base::Bytes;
 use mtn_ports::{Batch, Doubtful, KeepError, Keeper, MemKeeper};
 use std::alloc::Global;
 
-fn failed(error: KeepError, out: &mut Vec<u8>) -> Option<()> {
+fn put_failed(error: KeepError, said: &mut Said) {
     match error {
-        KeepError::Failed => out.extend_from_slice(b"Failed").ok(),
-        KeepError::NoMemory => None,
+        KeepError::Failed => said.put(b"Failed"),
+        KeepError::NoMemory => said.is_whole = false,
     }
 }
 
-fn said(found: Result<bool, KeepError>, said: &[u8], out: &mut Vec<u8>) -> Option<()> {
+fn put_answer(found: Result<bool, KeepError>, text: &[u8], said: &mut Said) {
     match found {
-        Ok(true) => out.extend_from_slice(said).ok(),
-        Ok(false) => out.extend_from_slice(b"None").ok(),
-        Err(error) => failed(error, out),
+        Ok(true) => said.put(text),
+        Ok(false) => said.put(b"None"),
+        Err(error) => put_failed(error, said),
     }
 }
 
-fn apply<K: Keeper>(
-    alloc: Global,
-    keeper: &mut K,
-    record: &[Bytes],
-    out: &mut Vec<u8>,
-) -> Option<()> {
+fn batch_of(alloc: Global, record: &[Bytes]) -> Option<Batch> {
     let [table, key, body] = record else {
         return None;
     };
@@ -36,9 +32,13 @@ fn apply<K: Keeper>(
         key.as_slice(),
         body.as_slice(),
     )?;
+    Some(batch)
+}
+
+fn apply<K: Keeper>(keeper: &mut K, batch: Batch, said: &mut Said) {
     match keeper.apply(batch) {
-        Ok(()) => out.extend_from_slice(b"Ok").ok(),
-        Err(error) => failed(error, out),
+        Ok(()) => said.put(b"Ok"),
+        Err(error) => put_failed(error, said),
     }
 }
 
@@ -48,81 +48,87 @@ fn record<K: Keeper>(
     keeper: &mut K,
     table: u8,
     after: &[u8],
-    out: &mut Vec<u8>,
+    said: &mut Said,
 ) -> Option<()> {
     let mut key = Vec::new(alloc);
     let mut body = Vec::new(alloc);
     let found = keeper.next_record(table, after, &mut key, &mut body);
     key.push(b'=').ok()?;
     key.extend_from_slice(&body).ok()?;
-    said(found, &key, out)
+    put_answer(found, &key, said);
+    Some(())
 }
 
-// The body under a key, or the next key.
-fn text<K: Keeper>(
-    alloc: Global,
-    keeper: &mut K,
-    is_body: bool,
-    table: u8,
-    key: &[u8],
-    out: &mut Vec<u8>,
-) -> Option<()> {
-    let mut text = Vec::new(alloc);
-    let found = if is_body {
-        keeper.get(table, key, &mut text)
-    } else {
-        keeper.next(table, key, &mut text)
-    };
-    said(found, &text, out)
+// The body under a key.
+fn get<K: Keeper>(alloc: Global, keeper: &mut K, table: u8, key: &[u8], said: &mut Said) {
+    let mut body = Vec::new(alloc);
+    let found = keeper.get(table, key, &mut body);
+    put_answer(found, &body, said);
+}
+
+// The next key.
+fn next<K: Keeper>(alloc: Global, keeper: &mut K, table: u8, after: &[u8], said: &mut Said) {
+    let mut key = Vec::new(alloc);
+    let found = keeper.next(table, after, &mut key);
+    put_answer(found, &key, said);
 }
 
 fn ask<K: Keeper>(
     alloc: Global,
     keeper: &mut K,
-    word: &[u8],
+    word: &str,
     args: &[Bytes],
-    out: &mut Vec<u8>,
+    said: &mut Said,
 ) -> Option<()> {
     let [table, key] = args else {
         return None;
     };
-    let table = u8::try_from(number(table.as_slice())?).ok()?;
+    let table = table_of(table.as_slice())?;
     match word {
-        b"record" => record(alloc, keeper, table, key.as_slice(), out),
-        word => text(
-            alloc,
-            keeper,
-            word == b"get".as_slice(),
-            table,
-            key.as_slice(),
-            out,
-        ),
+        "record" => return record(alloc, keeper, table, key.as_slice(), said),
+        "get" => get(alloc, keeper, table, key.as_slice(), said),
+        _ => next(alloc, keeper, table, key.as_slice(), said),
     }
+    Some(())
 }
 
-fn steps<K: Keeper>(alloc: Global, keeper: &mut K, all: &[Bytes], out: &mut Vec<u8>) -> Option<()> {
-    for step in all {
-        let words = fields(alloc, step.as_slice(), b':')?;
-        let (word, args) = words.split_first()?;
-        match word.as_slice() {
-            b"apply" => apply(alloc, keeper, args, out)?,
-            word => ask(alloc, keeper, word, args, out)?,
-        }
-        out.push(b' ').ok()?;
+fn step<K: Keeper>(alloc: Global, keeper: &mut K, step: &[Bytes], said: &mut Said) -> Option<()> {
+    let (word, args) = step.split_first()?;
+    let word = str::from_utf8(word.as_slice()).ok()?;
+    if word != "apply" {
+        return ask(alloc, keeper, word, args, said);
     }
+    apply(keeper, batch_of(alloc, args)?, said);
+    Some(())
+}
+
+fn steps<K: Keeper>(alloc: Global, keeper: &mut K, all: &[Bytes], said: &mut Said) -> Option<()> {
+    for text in all {
+        step(alloc, keeper, &fields(alloc, text.as_slice(), b':')?, said)?;
+        said.put(b" ");
+    }
+    Some(())
+}
+
+fn keeper_of(alloc: Global, failing: &[u8]) -> Option<MemKeeper> {
+    let failing = numbers(alloc, failing)?;
+    MemKeeper::new(Batch::new(alloc), failing).ok()
+}
+
+fn counted(alloc: Global, mut keeper: MemKeeper, all: &[Bytes], said: &mut Said) -> Option<()> {
+    steps(alloc, &mut keeper, all, said)?;
+    said.put_number(alloc, keeper.reads());
     Some(())
 }
 
 /// `keeper FAILING STEP..`, `doubtful FAILING STEP..`: the numbers of the calls that fail, and then `apply:TABLE:KEY:BODY`,
 /// `get:TABLE:KEY`, `next:TABLE:AFTER`, `record:TABLE:AFTER`, which answers KEY=BODY. A blank stands behind each answer, and behind
 /// those of `keeper` how many records were asked for.
-pub fn answer(alloc: Global, word: &[u8], args: &[Bytes], out: &mut Vec<u8>) -> Option<()> {
+pub fn answer(alloc: Global, word: &str, args: &[Bytes], said: &mut Said) -> Option<()> {
     let (failing, all) = args.split_first()?;
-    let failing = numbers(alloc, failing.as_slice())?;
-    let mut keeper = MemKeeper::new(Batch::new(alloc), failing).ok()?;
-    if word == b"doubtful".as_slice() {
-        return steps(alloc, &mut Doubtful::new(keeper), all, out);
+    let keeper = keeper_of(alloc, failing.as_slice())?;
+    if word == "keeper" {
+        return counted(alloc, keeper, all, said);
     }
-    steps(alloc, &mut keeper, all, out)?;
-    put_number(alloc, keeper.reads(), out).ok()
+    steps(alloc, &mut Doubtful::new(keeper), all, said)
 }

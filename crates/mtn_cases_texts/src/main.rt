@@ -14,81 +14,106 @@ mod fields;
 mod idents;
 mod keepers;
 mod refusals;
+mod said;
 mod streams;
 mod texts;
 
 use mtn_base::Bytes;
+use said::Said;
 use std::alloc::Global;
 use std::io::{self, Read, Write};
 
-// What takes a list of changes, or a revision.
-fn of_changes(alloc: Global, word: &[u8], text: &[u8], out: &mut Vec<u8>) -> Option<bool> {
-    match word {
-        b"changes" | b"revision" | b"kinds" | b"sorted" => changes::answer(alloc, word, text, out)?,
-        b"stanzas" => texts::stanzas(alloc, text, out)?,
-        _ => return Some(false),
-    }
-    Some(true)
-}
-
 // What takes all that stands behind the word as one text.
-fn of_text(alloc: Global, word: &[u8], text: &[u8], out: &mut Vec<u8>) -> Option<bool> {
+fn of_text(alloc: Global, word: &str, text: &[u8], said: &mut Said) -> Option<()> {
     match word {
-        b"path" | b"comp" | b"id" => base::of_one(alloc, word, text, out)?,
-        b"sha1" | b"toy" => idents::answer(word, text, out)?,
-        _ => return of_changes(alloc, word, text, out),
+        "path" | "comp" | "id" => return base::of_one(alloc, word, text, said),
+        "stanzas" => texts::stanzas(alloc, text, said),
+        "sha1" | "toy" => idents::answer(word, text, said),
+        _ => return changes::answer(alloc, word, text, said),
     }
-    Some(true)
+    Some(())
 }
 
 // What takes fields.
-fn of_fields(alloc: Global, word: &[u8], args: &[Bytes], out: &mut Vec<u8>) -> Option<()> {
+fn of_fields(alloc: Global, word: &str, args: &[Bytes], said: &mut Said) -> Option<()> {
     match word {
-        b"refused" => refusals::refused(alloc, args, out),
-        b"batch" => batches::batch(alloc, args, out),
-        b"keeper" | b"doubtful" => keepers::answer(alloc, word, args, out),
-        b"example" => texts::twice(alloc, args, out),
-        b"ids" | b"order" | b"long" | b"room" => base::answer(alloc, word, args, out),
-        _ => streams::answer(alloc, word, args, out),
+        "refused" => refusals::refused(alloc, args, said),
+        "batch" => batches::batch(alloc, args, said),
+        "keeper" | "doubtful" => keepers::answer(alloc, word, args, said),
+        "example" => texts::twice(alloc, args, said),
+        "ids" | "order" | "long" | "room" => base::answer(alloc, word, args, said),
+        _ => streams::answer(alloc, word, args, said),
     }
 }
 
-fn answer(alloc: Global, line: &[u8], out: &mut Vec<u8>) -> Option<()> {
+// Whether a word takes a text.
+fn takes_text(word: &str) -> bool {
+    matches!(
+        word,
+        "path"
+            | "comp"
+            | "id"
+            | "stanzas"
+            | "sha1"
+            | "toy"
+            | "changes"
+            | "revision"
+            | "kinds"
+            | "sorted"
+    )
+}
+
+fn of_word(alloc: Global, word: &str, rest: &[u8], said: &mut Said) -> Option<()> {
+    if takes_text(word) {
+        of_text(alloc, word, &escapes::plain(alloc, rest)?, said)
+    } else {
+        of_fields(alloc, word, &fields::fields(alloc, rest, b' ')?, said)
+    }
+}
+
+fn answer(alloc: Global, line: &[u8], said: &mut Said) -> Option<()> {
     let at = line
         .iter()
         .position(|byte| *byte == b' ')
         .unwrap_or(line.len());
-    let (word, rest) = line.split_at(at);
-    let rest = rest.get(1..).unwrap_or(rest);
-    let text = escapes::plain(alloc, rest)?;
-    if of_text(alloc, word, &text, out)? {
-        return Some(());
-    }
-    let args = fields::fields(alloc, rest, b' ')?;
-    of_fields(alloc, word, &args, out)
+    let word = str::from_utf8(&line[..at]).ok()?;
+    of_word(alloc, word, line.get(at + 1..).unwrap_or(&[]), said)
 }
 
-fn print(alloc: Global, line: &[u8], out: &mut Vec<u8>) -> io::Result<()> {
-    let mut said = Vec::new(alloc);
+// What a line prints.
+fn said_of(alloc: Global, line: &[u8]) -> Said {
+    let mut said = Said::new(alloc);
     if answer(alloc, line, &mut said).is_none() {
-        said.clear();
-        said.push(b'?')?;
+        said.is_whole = false;
     }
-    escapes::escape(&said, out)?;
-    out.push(b'\n')?;
-    Ok(())
+    said
+}
+
+fn print(alloc: Global, line: &[u8], out: &mut Said) {
+    let said = said_of(alloc, line);
+    if said.is_whole {
+        escapes::escape(&said.text, out);
+    } else {
+        out.put(b"?");
+    }
+    out.put(b"\n");
+}
+
+fn print_all(alloc: Global, text: &[u8], out: &mut Said) {
+    for line in text.split(|byte| *byte == b'\n') {
+        if !line.is_empty() && !line.starts_with(b"#") {
+            print(alloc, line, out);
+        }
+    }
 }
 
 fn main(rt: HostRuntime) -> io::Result<()> {
-    let alloc = rt.alloc();
-    let mut text = Vec::new(alloc);
+    let mut text = Vec::new(rt.alloc());
     rt.stdin().read_to_end(&mut text)?;
-    let mut out = Vec::new(alloc);
-    for line in text.split(|byte| *byte == b'\n') {
-        if !line.is_empty() && !line.starts_with(b"#") {
-            print(alloc, line, &mut out)?;
-        }
+    let mut out = Said::new(rt.alloc());
+    print_all(rt.alloc(), &text, &mut out);
+    if !out.is_whole {
+        return Err(io::ErrorKind::OutOfMemory.into());
     }
-    rt.stdout().write_all(&out)?;
-    Ok(())
+    rt.stdout().write_all(&out.text)
 }

@@ -1,17 +1,18 @@
 // Lines of refusals.
 use crate::fields::number;
+use crate::said::Said;
 use mtn_base::{Bytes, Cause, Field, Id, PacketWhy, Path, Refusal, Why};
 use std::alloc::Global;
 
-fn of_numbers(name: &[u8], first: u64, second: u64) -> Option<Cause> {
+fn of_numbers(name: &str, first: u64, second: u64) -> Option<Cause> {
     match name {
-        b"TextTooLong" => Some(Cause::TextTooLong { length: first }),
-        b"BadChange" => Some(Cause::BadChange {
+        "TextTooLong" => Some(Cause::TextTooLong { length: first }),
+        "BadChange" => Some(Cause::BadChange {
             edge: first,
             number: second,
             why: Why::NoParent,
         }),
-        b"BadPacket" => Some(Cause::BadPacket {
+        "BadPacket" => Some(Cause::BadPacket {
             number: first,
             why: PacketWhy::Truncated,
         }),
@@ -19,15 +20,15 @@ fn of_numbers(name: &[u8], first: u64, second: u64) -> Option<Cause> {
     }
 }
 
-fn of_ids(name: &[u8], first: Id, second: Id) -> Option<Cause> {
+fn of_ids(name: &str, first: Id, second: Id) -> Option<Cause> {
     match name {
-        b"Collision" => Some(Cause::Collision { id: first }),
-        b"UnknownParent" => Some(Cause::UnknownParent { id: first }),
-        b"Related" => Some(Cause::Related {
+        "Collision" => Some(Cause::Collision { id: first }),
+        "UnknownParent" => Some(Cause::UnknownParent { id: first }),
+        "Related" => Some(Cause::Related {
             older: first,
             newer: second,
         }),
-        b"IdMismatch" => Some(Cause::IdMismatch {
+        "IdMismatch" => Some(Cause::IdMismatch {
             number: 1,
             computed: first,
         }),
@@ -35,21 +36,21 @@ fn of_ids(name: &[u8], first: Id, second: Id) -> Option<Cause> {
     }
 }
 
-fn of_words(alloc: Global, name: &[u8], text: &[u8]) -> Option<Cause> {
+fn of_words(alloc: Global, name: &str, text: &[u8]) -> Option<Cause> {
     match name {
-        b"PathTooLong" => Some(Cause::PathTooLong {
+        "PathTooLong" => Some(Cause::PathTooLong {
             path: Path::read(alloc, text).ok()?,
         }),
-        b"BadField" => Some(Cause::BadField {
+        "BadField" => Some(Cause::BadField {
             field: Field::Signature,
         }),
-        b"NoBranch" => Some(Cause::NoBranch),
+        "NoBranch" => Some(Cause::NoBranch),
         _ => None,
     }
 }
 
 // Digits are ids, other texts numbers or words.
-fn cause(alloc: Global, name: &[u8], first: &[u8], second: &[u8]) -> Option<Cause> {
+fn cause(alloc: Global, name: &str, first: &[u8], second: &[u8]) -> Option<Cause> {
     if let Some(id) = Id::read_hex(first) {
         return of_ids(name, id, Id::read_hex(second)?);
     }
@@ -59,14 +60,19 @@ fn cause(alloc: Global, name: &[u8], first: &[u8], second: &[u8]) -> Option<Caus
     of_words(alloc, name, first)
 }
 
+fn put_refusal(packet: u64, cause: Cause, said: &mut Said) {
+    let done = Refusal { packet, cause }.print(&mut said.text);
+    said.keep(done);
+}
+
 /// `refused PACKET CAUSE FIRST SECOND`: the line of the refusal.
-pub fn refused(alloc: Global, args: &[Bytes], out: &mut Vec<u8>) -> Option<()> {
+pub fn refused(alloc: Global, args: &[Bytes], said: &mut Said) -> Option<()> {
     let [packet, name, first, second] = args else {
         return None;
     };
-    let refusal = Refusal {
-        packet: number(packet.as_slice())?,
-        cause: cause(alloc, name.as_slice(), first.as_slice(), second.as_slice())?,
-    };
-    refusal.print(out).ok()
+    let packet = number(packet.as_slice())?;
+    let name = str::from_utf8(name.as_slice()).ok()?;
+    let cause = cause(alloc, name, first.as_slice(), second.as_slice())?;
+    put_refusal(packet, cause, said);
+    Some(())
 }
