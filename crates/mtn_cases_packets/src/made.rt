@@ -1,4 +1,6 @@
 // Packets made of fields.
+use crate::inputs::put_written;
+use crate::said::Said;
 use crate::words::number;
 use mtn_base::{Bytes, Id};
 use mtn_packets::{Packet, PacketKey, is_writable, read_back, write};
@@ -8,25 +10,48 @@ fn copy(alloc: Global, bytes: &Bytes) -> Option<Bytes> {
     bytes.copy(alloc).ok()
 }
 
-fn key_of(alloc: Global, kind: &[u8], text: &Bytes) -> Option<PacketKey> {
-    match kind {
-        b"id" => Some(PacketKey::Id(Id::read_hex(text.as_slice())?)),
-        b"name" => Some(PacketKey::Name(copy(alloc, text)?)),
+fn key_of(alloc: Global, kind: &Bytes, text: &Bytes) -> Option<PacketKey> {
+    match str::from_utf8(kind.as_slice()).ok()? {
+        "id" => Some(PacketKey::Id(Id::read_hex(text.as_slice())?)),
+        "name" => Some(PacketKey::Name(copy(alloc, text)?)),
         _ => None,
     }
+}
+
+// A certificate with a copy of a value and of a signature.
+fn signed(
+    alloc: Global,
+    revision: Id,
+    name: Bytes,
+    key: PacketKey,
+    value: &Bytes,
+    signature: &Bytes,
+) -> Option<Packet> {
+    let value = copy(alloc, value)?;
+    let signature = copy(alloc, signature)?;
+    Some(Packet::Cert {
+        revision,
+        name,
+        key,
+        value,
+        signature,
+    })
 }
 
 fn cert(alloc: Global, args: &[Bytes]) -> Option<Packet> {
     let [revision, name, kind, key, value, signature] = args else {
         return None;
     };
-    Some(Packet::Cert {
-        revision: Id::read_hex(revision.as_slice())?,
-        name: copy(alloc, name)?,
-        key: key_of(alloc, kind.as_slice(), key)?,
-        value: copy(alloc, value)?,
-        signature: copy(alloc, signature)?,
-    })
+    let revision = Id::read_hex(revision.as_slice())?;
+    let name = copy(alloc, name)?;
+    signed(
+        alloc,
+        revision,
+        name,
+        key_of(alloc, kind, key)?,
+        value,
+        signature,
+    )
 }
 
 fn payload(alloc: Global, args: &[Bytes]) -> Option<(Id, Bytes)> {
@@ -36,18 +61,22 @@ fn payload(alloc: Global, args: &[Bytes]) -> Option<(Id, Bytes)> {
     Some((Id::read_hex(id.as_slice())?, copy(alloc, bytes)?))
 }
 
-fn made(alloc: Global, word: &[u8], args: &[Bytes]) -> Option<Packet> {
+fn file(alloc: Global, args: &[Bytes]) -> Option<Packet> {
+    let (id, bytes) = payload(alloc, args)?;
+    Some(Packet::File { id, bytes })
+}
+
+fn revision(alloc: Global, args: &[Bytes]) -> Option<Packet> {
+    let (id, text) = payload(alloc, args)?;
+    Some(Packet::Revision { id, text })
+}
+
+fn made(alloc: Global, word: &str, args: &[Bytes]) -> Option<Packet> {
     match word {
-        b"file" => {
-            let (id, bytes) = payload(alloc, args)?;
-            Some(Packet::File { id, bytes })
-        }
-        b"revision" => {
-            let (id, text) = payload(alloc, args)?;
-            Some(Packet::Revision { id, text })
-        }
-        b"cert" => cert(alloc, args),
-        b"passed" => Some(Packet::Passed),
+        "file" => file(alloc, args),
+        "revision" => revision(alloc, args),
+        "cert" => cert(alloc, args),
+        "passed" => Some(Packet::Passed),
         _ => None,
     }
 }
@@ -77,43 +106,45 @@ fn long_cert(alloc: Global, id: Id, count: u64) -> Option<Packet> {
     })
 }
 
-fn write_all(packets: &[Packet], out: &mut Vec<u8>) -> Option<()> {
-    for packet in packets {
-        if is_writable(packet) {
-            write(packet, out).ok()?;
-        }
+fn long_pair(alloc: Global, id: Id, count: u64) -> Option<[Packet; 2]> {
+    let file = long_file(alloc, id, count)?;
+    Some([file, long_cert(alloc, id, count)?])
+}
+
+// Two packets written, read back, and written; nothing where one has no printed form.
+fn put_again(alloc: Global, packets: &[Packet; 2], said: &mut Said) -> Option<()> {
+    let [file, cert] = packets;
+    if !is_writable(file) || !is_writable(cert) {
+        return None;
     }
+    put_written(&read_back(alloc, packets).ok()?, said);
     Some(())
 }
 
-// A file and a certificate of so many bytes written, read back, and written.
-fn twice(alloc: Global, args: &[Bytes], out: &mut Vec<u8>) -> Option<()> {
+// A file and a certificate of so many bytes.
+fn twice(alloc: Global, args: &[Bytes], said: &mut Said) -> Option<()> {
     let [count] = args else {
         return None;
     };
     let count = number(count.as_slice())?;
-    let id = Id([255; 20]);
-    let packets = [long_file(alloc, id, count)?, long_cert(alloc, id, count)?];
-    let [file, cert] = &packets;
-    if !is_writable(cert) {
-        return None;
+    put_again(alloc, &long_pair(alloc, Id([255; 20]), count)?, said)
+}
+
+fn put_made(packet: &Packet, said: &mut Said) {
+    if is_writable(packet) {
+        let done = write(packet, &mut said.text);
+        said.keep(done);
+    } else {
+        said.put(b"no");
     }
-    if !is_writable(file) {
-        return None;
-    }
-    write_all(&read_back(alloc, &packets).ok()?, out)
 }
 
 /// `file ID BYTES`, `revision ID BYTES`, `cert REVISION NAME KIND KEY VALUE SIGNATURE` with the kind `id` or `name`, `passed`: the
 /// printed form, or `no` where there is none. `long N`: a file and a certificate of so many bytes, read back.
-pub fn answer(alloc: Global, word: &[u8], args: &[Bytes], out: &mut Vec<u8>) -> Option<()> {
-    if word == b"long".as_slice() {
-        return twice(alloc, args, out);
+pub fn answer(alloc: Global, word: &str, args: &[Bytes], said: &mut Said) -> Option<()> {
+    if word == "long" {
+        return twice(alloc, args, said);
     }
-    let packet = made(alloc, word, args)?;
-    if is_writable(&packet) {
-        write(&packet, out).ok()
-    } else {
-        out.extend_from_slice(b"no").ok()
-    }
+    put_made(&made(alloc, word, args)?, said);
+    Some(())
 }

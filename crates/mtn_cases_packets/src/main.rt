@@ -7,45 +7,58 @@
 
 mod inputs;
 mod made;
+mod said;
 mod words;
 
+use said::Said;
 use std::alloc::Global;
 use std::io::{self, Read, Write};
 
-// What takes an input.
-fn of_input(alloc: Global, word: &[u8], text: &[u8], out: &mut Vec<u8>) -> Option<bool> {
+// A word takes an input, or fields.
+fn of_word(alloc: Global, word: &str, rest: &[u8], said: &mut Said) -> Option<()> {
     match word {
-        b"read" => inputs::read(alloc, text, out)?,
-        b"again" => inputs::again(alloc, text, out)?,
-        b"cuts" => inputs::cuts(alloc, text, out)?,
-        _ => return Some(false),
+        "read" | "again" | "cuts" => {
+            inputs::answer(alloc, word, &words::plain(alloc, rest)?, said)
+        }
+        _ => made::answer(alloc, word, &words::fields(alloc, rest)?, said),
     }
-    Some(true)
 }
 
-fn answer(alloc: Global, line: &[u8], out: &mut Vec<u8>) -> Option<()> {
+fn answer(alloc: Global, line: &[u8], said: &mut Said) -> Option<()> {
     let at = line
         .iter()
         .position(|byte| *byte == b' ')
         .unwrap_or(line.len());
-    let (word, rest) = line.split_at(at);
-    let rest = rest.get(1..).unwrap_or(rest);
-    let text = words::plain(alloc, rest)?;
-    if of_input(alloc, word, &text, out)? {
-        return Some(());
+    let word = str::from_utf8(&line[..at]).ok()?;
+    of_word(alloc, word, line.get(at + 1..).unwrap_or(&[]), said)
+}
+
+// What a line prints.
+fn said_of(alloc: Global, line: &[u8]) -> Said {
+    let mut said = Said::new(alloc);
+    if answer(alloc, line, &mut said).is_none() {
+        said.is_whole = false;
     }
-    let args = words::fields(alloc, rest)?;
-    made::answer(alloc, word, &args, out)
+    said
 }
 
 fn print(alloc: Global, line: &[u8], out: &mut Vec<u8>) -> io::Result<()> {
-    let mut said = Vec::new(alloc);
-    if answer(alloc, line, &mut said).is_none() {
-        said.clear();
-        said.push(b'?')?;
+    let said = said_of(alloc, line);
+    if said.is_whole {
+        words::escape(&said.text, out)?;
+    } else {
+        out.push(b'?')?;
     }
-    words::escape(&said, out)?;
     out.push(b'\n')?;
+    Ok(())
+}
+
+fn print_all(alloc: Global, text: &[u8], out: &mut Vec<u8>) -> io::Result<()> {
+    for line in text.split(|byte| *byte == b'\n') {
+        if !line.is_empty() && !line.starts_with(b"#") {
+            print(alloc, line, out)?;
+        }
+    }
     Ok(())
 }
 
@@ -54,11 +67,7 @@ fn main(rt: HostRuntime) -> io::Result<()> {
     let mut text = Vec::new(alloc);
     rt.stdin().read_to_end(&mut text)?;
     let mut out = Vec::new(alloc);
-    for line in text.split(|byte| *byte == b'\n') {
-        if !line.is_empty() && !line.starts_with(b"#") {
-            print(alloc, line, &mut out)?;
-        }
-    }
+    print_all(alloc, &text, &mut out)?;
     rt.stdout().write_all(&out)?;
     Ok(())
 }

@@ -1,6 +1,6 @@
 // What a line takes, and what it prints.
 use bstr::{ByteSlice, ByteVec};
-use mtn_base::{Bytes, Id, NoMemory};
+use mtn_base::Bytes;
 use std::alloc::Global;
 use std::io;
 
@@ -41,27 +41,4 @@ pub fn escape(text: &[u8], out: &mut Vec<u8>) -> io::Result<()> {
 /// A decimal number.
 pub fn number(text: &[u8]) -> Option<u64> {
     std::str::from_utf8(text).ok()?.parse::<u64>().ok()
-}
-
-/// Prints a number.
-pub fn put_number(alloc: Global, number: u64, out: &mut Vec<u8>) -> Result<(), NoMemory> {
-    let text = number.to_string(alloc)?;
-    out.extend_from_slice(text.as_bytes())?;
-    Ok(())
-}
-
-/// Prints a blank and an id.
-pub fn put_id(id: &Id, out: &mut Vec<u8>) -> Result<(), NoMemory> {
-    let mut digits = [0; 40];
-    id.write_hex(&mut digits);
-    out.push(b' ')?;
-    out.extend_from_slice(&digits)?;
-    Ok(())
-}
-
-/// Prints a blank and bytes.
-pub fn put_bytes(bytes: &[u8], out: &mut Vec<u8>) -> Result<(), NoMemory> {
-    out.push(b' ')?;
-    out.extend_from_slice(bytes)?;
-    Ok(())
 }
