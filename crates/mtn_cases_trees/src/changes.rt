@@ -1,7 +1,7 @@
 // Changes that are applied to a tree.
 ghost use Rattle.mtn_changeset_laws.specs.Laws.{RenamesDiffer};
 
-use crate::words::{put_number, put_tree};
+use crate::said::Said;
 use mtn_apply::{ApplyError, apply, none_is_born};
 use mtn_base::Id;
 use mtn_case_trees::{entries_of, id_of};
@@ -9,28 +9,33 @@ use mtn_changes::{Changeset, read_changes};
 use mtn_roster::Roster;
 use std::alloc::Global;
 
+fn put_outcome(made: Result<Roster, ApplyError>, said: &mut Said) {
+    match made {
+        Ok(tree) => said.put_tree(&tree),
+        Err(ApplyError::BadChange { number, why }) => {
+            said.put_number(number);
+            said.put(b" ");
+            said.put(why.name().as_bytes());
+            said.put(b"\n");
+        }
+        Err(ApplyError::NoMemory) => said.is_whole = false,
+    }
+}
+
 fn put_changed(
     alloc: Global,
     old: Option<&Roster>,
     changes: &Changeset,
     new: Id,
-    out: &mut Vec<u8>,
+    said: &mut Said,
 ) -> Option<()>
     requires { RenamesDiffer changes.now }
 {
     if !none_is_born(old, new) {
         return None;
     }
-    match apply(alloc, old, changes, new) {
-        Ok(tree) => put_tree(&tree, out).ok(),
-        Err(ApplyError::BadChange { number, why }) => {
-            put_number(number, out).ok()?;
-            out.push(b' ').ok()?;
-            out.extend_from_slice(why.name().as_bytes()).ok()?;
-            out.push(b'\n').ok()
-        }
-        Err(ApplyError::NoMemory) => None,
-    }
+    put_outcome(apply(alloc, old, changes, new), said);
+    Some(())
 }
 
 /// The same of a text.
@@ -39,10 +44,10 @@ fn put_read(
     old: Option<&Roster>,
     text: &[u8],
     new: Id,
-    out: &mut Vec<u8>,
+    said: &mut Said,
 ) -> Option<()> {
     match read_changes(alloc, text) {
-        Ok(changes) => put_changed(alloc, old, &changes, new, out),
+        Ok(changes) => put_changed(alloc, old, &changes, new, said),
         Err(_) => None,
     }
 }
@@ -53,13 +58,18 @@ pub fn put_applied(
     case: &[u8],
     id: &[u8],
     text: &[u8],
-    out: &mut Vec<u8>,
+    said: &mut Said,
 ) -> Option<()> {
     let new = id_of(id)?;
     let entries = entries_of(alloc, case, b"node ")?;
     if entries.is_empty() {
-        return put_read(alloc, None, text, new, out);
+        return put_read(alloc, None, text, new, said);
     }
-    let old = Roster::build(alloc, entries).ok()?;
-    put_read(alloc, Some(&old), text, new, out)
+    put_read(
+        alloc,
+        Some(&Roster::build(alloc, entries).ok()?),
+        text,
+        new,
+        said,
+    )
 }

@@ -1,10 +1,11 @@
 // Questions about a graph.
 ghost use Rattle.std.specs.Prelude.{◌<◌, All, IsTrue, length};
 
-use crate::words::{place_of, position_of, positions_of, put_number, put_positions};
+use crate::said::Said;
+use crate::words::{place_of, position_of, positions_of};
 use mtn_ancestry::{Graph, ParentList, Pos, PosSet};
 use mtn_base::Id;
-use mtn_case_trees::{both_alone, id_of, push, put_id};
+use mtn_case_trees::{both_alone, id_of, push};
 use std::alloc::Global;
 
 fn parents_at(words: &[Pos]) -> Option<ParentList> {
@@ -68,11 +69,12 @@ fn set_of(alloc: Global, graph: &Graph, word: usize, of: &[Pos]) -> Option<PosSe
     }
 }
 
-fn put_sorted(alloc: Global, graph: &Graph, of: &[Pos], out: &mut Vec<u8>) -> Option<()> {
+fn put_sorted(alloc: Global, graph: &Graph, of: &[Pos], said: &mut Said) -> Option<()> {
     if !are_within(graph, of) {
         return None;
     }
-    put_positions(&graph.toposort(alloc, of).ok()?, out).ok()
+    said.put_positions(&graph.toposort(alloc, of).ok()?);
+    Some(())
 }
 
 /// Answers a question of several positions.
@@ -81,18 +83,19 @@ fn put_several(
     graph: &Graph,
     word: usize,
     of: &[Pos],
-    out: &mut Vec<u8>,
+    said: &mut Said,
 ) -> Option<()> {
-    match word {
-        4 => put_sorted(alloc, graph, of, out),
-        _ => put_positions(set_of(alloc, graph, word, of)?.as_slice(), out).ok(),
+    if word == 4 {
+        return put_sorted(alloc, graph, of, said);
     }
+    said.put_positions(set_of(alloc, graph, word, of)?.as_slice());
+    Some(())
 }
 
-fn put_sets(sets: &(PosSet, PosSet), out: &mut Vec<u8>) -> Option<()> {
-    put_positions(sets.0.as_slice(), out).ok()?;
-    out.extend_from_slice(b" |").ok()?;
-    put_positions(sets.1.as_slice(), out).ok()
+fn put_sets(sets: &(PosSet, PosSet), said: &mut Said) {
+    said.put_positions(sets.0.as_slice());
+    said.put(b" |");
+    said.put_positions(sets.1.as_slice());
 }
 
 fn put_is_ancestor(
@@ -100,32 +103,31 @@ fn put_is_ancestor(
     graph: &Graph,
     older: Pos,
     newer: Pos,
-    out: &mut Vec<u8>,
+    said: &mut Said,
 ) -> Option<()> {
     let len = graph.len();
     if older.0 >= len || newer.0 >= len {
         return None;
     }
-    let said: &[u8] = if graph.is_ancestor(alloc, older, newer).ok()? {
-        b"yes"
-    } else {
-        b"no"
-    };
-    out.extend_from_slice(said).ok()
+    let is_older = graph.is_ancestor(alloc, older, newer).ok()?;
+    said.put(if is_older { b"yes" } else { b"no" });
+    Some(())
 }
 
-fn put_position(graph: &Graph, digit: &[u8], out: &mut Vec<u8>) -> Option<()> {
+fn put_position(graph: &Graph, digit: &[u8], said: &mut Said) -> Option<()> {
     match graph.find(id_of(digit)?) {
-        Some(at) => put_number(at.0, out).ok(),
-        None => out.extend_from_slice(b"nothing").ok(),
+        Some(at) => said.put_number(at.0),
+        None => said.put(b"nothing"),
     }
+    Some(())
 }
 
-fn put_id_at(graph: &Graph, digit: &[u8], out: &mut Vec<u8>) -> Option<()> {
+fn put_id_at(graph: &Graph, digit: &[u8], said: &mut Said) -> Option<()> {
     match graph.id(position_of(digit)?) {
-        Some(id) => put_id(id, out).ok(),
-        None => out.extend_from_slice(b"nothing").ok(),
+        Some(id) => said.put_id(id),
+        None => said.put(b"nothing"),
     }
+    Some(())
 }
 
 /// Answers a question of two positions.
@@ -135,12 +137,13 @@ fn put_pair(
     word: usize,
     first: Pos,
     second: Pos,
-    out: &mut Vec<u8>,
+    said: &mut Said,
 ) -> Option<()> {
-    match word {
-        5 => put_is_ancestor(alloc, graph, first, second, out),
-        _ => put_sets(&both_alone(alloc, graph, first, second)?, out),
+    if word == 5 {
+        return put_is_ancestor(alloc, graph, first, second, said);
     }
+    put_sets(&both_alone(alloc, graph, first, second)?, said);
+    Some(())
 }
 
 /// Answers a question of positions.
@@ -149,32 +152,34 @@ fn put_of(
     graph: &mut Graph,
     word: usize,
     of: &[Pos],
-    out: &mut Vec<u8>,
+    said: &mut Said,
 ) -> Option<()> {
     match of {
-        [first, second] if word > 4 => put_pair(alloc, graph, word, *first, *second, out),
-        _ => put_several(alloc, graph, word, of, out),
+        [first, second] if word > 4 => put_pair(alloc, graph, word, *first, *second, said),
+        _ => put_several(alloc, graph, word, of, said),
     }
 }
 
 fn put_answer(
     alloc: Global,
     graph: &mut Graph,
-    word: &[u8],
+    word: usize,
     rest: &[&[u8]],
-    out: &mut Vec<u8>,
+    said: &mut Said,
 ) -> Option<()> {
-    match place_of(word, WORDS) {
-        7 => put_position(graph, rest.first()?, out),
-        8 => put_id_at(graph, rest.first()?, out),
-        word => put_of(alloc, graph, word, &positions_of(alloc, rest)?, out),
+    match word {
+        7 => put_position(graph, rest.first()?, said),
+        8 => put_id_at(graph, rest.first()?, said),
+        _ => put_of(alloc, graph, word, &positions_of(alloc, rest)?, said),
     }
 }
 
 /// Answers a question about the graph of a case: `find DIGIT`, `id POSITION`, `is_ancestor OLDER NEWER`, `uncommon LEFT RIGHT`,
 /// and of several positions `ancestors`, `descendents`, `common`, `erase` and `toposort`.
-pub fn answer(alloc: Global, case: &[u8], args: &[&[u8]], out: &mut Vec<u8>) -> Option<()> {
+pub fn answer(alloc: Global, case: &[u8], args: &[&[u8]], said: &mut Said) -> Option<()> {
     let (word, rest) = args.split_first()?;
-    put_answer(alloc, &mut graph_of(alloc, case)?, word, rest, out)?;
-    out.push(b'\n').ok()
+    let word = place_of(word, WORDS);
+    put_answer(alloc, &mut graph_of(alloc, case)?, word, rest, said)?;
+    said.put(b"\n");
+    Some(())
 }

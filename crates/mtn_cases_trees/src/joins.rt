@@ -1,5 +1,5 @@
 // Trees of two edges that are joined.
-use crate::words::put_tree;
+use crate::said::Said;
 use mtn_base::{Id, Path};
 use mtn_case_trees::{entries_of, id_of};
 use mtn_join::{JoinError, common_are_known, join};
@@ -15,18 +15,18 @@ fn set_of(alloc: Global, word: &[u8]) -> Option<BTreeSet<Id>> {
     Some(set)
 }
 
-fn put_fault(word: &[u8], path: &Path, out: &mut Vec<u8>) -> Option<()> {
-    out.extend_from_slice(word).ok()?;
-    path.write(out).ok()?;
-    out.push(b'\n').ok()
+fn put_fault(word: &[u8], path: &Path, said: &mut Said) {
+    said.put(word);
+    said.put_path(path);
+    said.put(b"\n");
 }
 
-fn put_outcome(joined: Result<Roster, JoinError>, out: &mut Vec<u8>) -> Option<()> {
+fn put_outcome(joined: Result<Roster, JoinError>, said: &mut Said) {
     match joined {
-        Ok(tree) => put_tree(&tree, out).ok(),
-        Err(JoinError::Disagree { path }) => put_fault(b"Disagree /", &path, out),
-        Err(JoinError::Revived { path }) => put_fault(b"Revived /", &path, out),
-        Err(JoinError::NoMemory) => None,
+        Ok(tree) => said.put_tree(&tree),
+        Err(JoinError::Disagree { path }) => put_fault(b"Disagree /", &path, said),
+        Err(JoinError::Revived { path }) => put_fault(b"Revived /", &path, said),
+        Err(JoinError::NoMemory) => said.is_whole = false,
     }
 }
 
@@ -40,13 +40,12 @@ fn put_between(
     right: Roster,
     new: Id,
     only: [&BTreeSet<Id>; 2],
-    out: &mut Vec<u8>,
-) -> Option<()> {
+    said: &mut Said,
+) {
     if common_are_known(&left, &right, new, only[0], only[1]) {
-        put_outcome(join(alloc, left, right, new, only[0], only[1]), out)
+        put_outcome(join(alloc, left, right, new, only[0], only[1]), said);
     } else {
-        out.extend_from_slice(b"births that joining does not take\n")
-            .ok()
+        said.put(b"births that joining does not take\n");
     }
 }
 
@@ -55,29 +54,31 @@ fn put_edges(
     case: &[u8],
     new: Id,
     only: [&BTreeSet<Id>; 2],
-    out: &mut Vec<u8>,
+    said: &mut Said,
 ) -> Option<()> {
     let left = tree_of(alloc, case, b"left ")?;
     let right = tree_of(alloc, case, b"right ")?;
-    put_between(alloc, left, right, new, only, out)
+    put_between(alloc, left, right, new, only, said);
+    Some(())
 }
 
 fn put_words(
     alloc: Global,
     case: &[u8],
     new: Id,
-    words: [&[u8]; 2],
-    out: &mut Vec<u8>,
+    left: &[u8],
+    right: &[u8],
+    said: &mut Said,
 ) -> Option<()> {
-    let only_left = set_of(alloc, words[0])?;
-    let only_right = set_of(alloc, words[1])?;
-    put_edges(alloc, case, new, [&only_left, &only_right], out)
+    let only_left = set_of(alloc, left)?;
+    let only_right = set_of(alloc, right)?;
+    put_edges(alloc, case, new, [&only_left, &only_right], said)
 }
 
 /// Prints the tree that joins those of the case, or the path at which they cannot be joined.
-pub fn put_joined(alloc: Global, case: &[u8], args: &[&[u8]], out: &mut Vec<u8>) -> Option<()> {
+pub fn put_joined(alloc: Global, case: &[u8], args: &[&[u8]], said: &mut Said) -> Option<()> {
     match args {
-        [id, left, right] => put_words(alloc, case, id_of(id)?, [*left, *right], out),
+        [id, left, right] => put_words(alloc, case, id_of(id)?, left, right, said),
         _ => None,
     }
 }

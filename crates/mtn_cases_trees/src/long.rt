@@ -1,9 +1,8 @@
 // A line of a thousand revisions with two children of its last, which is asked and may fail.
 ghost use Rattle.std.specs.Prelude.{◌≡◌, ◌≤◌, ⊤};
 
-use crate::words::{put_number, put_positions};
+use crate::said::Said;
 use mtn_ancestry::{ParentList, Parents, Pos, PosSet, WalkError, uncommon};
-use mtn_base::NoMemory;
 use mtn_case_trees::number_of;
 use std::alloc::Global;
 
@@ -47,40 +46,35 @@ impl Parents for Line {
     ghost caused_before = { λ _ _ _ _ _ c. c };
 }
 
-fn put_counts(asked: u64, sets: &(PosSet, PosSet), out: &mut Vec<u8>) -> Result<(), NoMemory> {
-    out.extend_from_slice(b"asked ")?;
-    put_number(asked, out)?;
-    out.extend_from_slice(b" alone ")?;
-    put_number(sets.0.as_slice().len() as u64, out)?;
-    out.push(b' ')?;
-    put_number(sets.1.as_slice().len() as u64, out)
+fn put_counts(asked: u64, sets: &(PosSet, PosSet), said: &mut Said) {
+    said.put(b"asked ");
+    said.put_number(asked);
+    said.put(b" alone ");
+    said.put_number(sets.0.as_slice().len() as u64);
+    said.put(b" ");
+    said.put_number(sets.1.as_slice().len() as u64);
 }
 
-fn put_failed(number: u64, out: &mut Vec<u8>) -> Result<(), NoMemory> {
-    out.extend_from_slice(b"failed")?;
-    put_positions(&[Pos(number)], out)
-}
-
-fn put_walked(
-    asked: u64,
-    walked: Result<(PosSet, PosSet), WalkError<u64>>,
-    out: &mut Vec<u8>,
-) -> Option<()> {
+fn put_walked(asked: u64, walked: Result<(PosSet, PosSet), WalkError<u64>>, said: &mut Said) {
     match walked {
-        Ok(sets) => put_counts(asked, &sets, out).ok(),
-        Err(WalkError::Asked(number)) => put_failed(number, out).ok(),
-        Err(WalkError::NoMemory) => None,
+        Ok(sets) => put_counts(asked, &sets, said),
+        Err(WalkError::Asked(number)) => {
+            said.put(b"failed ");
+            said.put_number(number);
+        }
+        Err(WalkError::NoMemory) => said.is_whole = false,
     }
 }
 
 /// Prints how often the line was asked for the parents of a revision, and how many revisions each child has alone; or the
 /// question that failed.
-pub fn answer(alloc: Global, at: &[u8], out: &mut Vec<u8>) -> Option<()> {
+pub fn answer(alloc: Global, at: &[u8], said: &mut Said) -> Option<()> {
     let mut line = Line {
         asked: 0,
         fails_at: u64::from(number_of(at)?),
     };
     let walked = uncommon(alloc, &mut line, Pos(1000), Pos(1001));
-    put_walked(line.asked, walked, out)?;
-    out.push(b'\n').ok()
+    put_walked(line.asked, walked, said);
+    said.put(b"\n");
+    Some(())
 }

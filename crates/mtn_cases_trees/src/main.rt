@@ -22,10 +22,12 @@ mod joins;
 mod long;
 mod maps;
 mod marks;
+mod said;
 mod trees;
 mod words;
 
 use mtn_case_trees::words_of;
+use said::Said;
 use std::alloc::Global;
 use std::io::{self, Read, Write};
 use words::place_of;
@@ -40,74 +42,72 @@ fn of_word(
     word: usize,
     args: &[&[u8]],
     text: &[u8],
-    out: &mut Vec<u8>,
+    said: &mut Said,
 ) -> Option<()> {
     match word {
-        0 => trees::answer(alloc, case, args, out),
-        1 => graphs::answer(alloc, case, args, out),
-        2 => long::answer(alloc, args.first()?, out),
-        3 => changes::put_applied(alloc, case, args.first()?, text, out),
-        4 => joins::put_joined(alloc, case, args, out),
-        5 => maps::put_map(alloc, case, out),
-        6 => marks::put_marks_of(alloc, case, args.first()?, out),
-        7 => marks::put_roster_of(alloc, case, args.first()?, out),
-        8 => marks::put_made(alloc, case, args, text, out),
+        0 => trees::answer(alloc, case, args, said),
+        1 => graphs::answer(alloc, case, args, said),
+        2 => long::answer(alloc, args.first()?, said),
+        3 => changes::put_applied(alloc, case, args.first()?, text, said),
+        4 => joins::put_joined(alloc, case, args, said),
+        5 => maps::put_map(alloc, case, said),
+        6 => marks::put_marks_of(alloc, case, args.first()?, said),
+        7 => marks::put_roster_of(alloc, case, args.first()?, said),
+        8 => marks::put_made(alloc, case, args, text, said),
         _ => Some(()),
     }
 }
 
 /// Answers a line, if it asks.
-fn answer(alloc: Global, case: &[u8], line: &[u8], text: &[u8], out: &mut Vec<u8>) -> Option<()> {
+fn answer(alloc: Global, case: &[u8], line: &[u8], text: &[u8], said: &mut Said) -> Option<()> {
     let words = words_of(alloc, line)?;
     let (word, args) = words.split_first()?;
-    of_word(alloc, case, place_of(word, WORDS), args, text, out)
+    of_word(alloc, case, place_of(word, WORDS), args, text, said)
 }
 
-/// Answers a line behind the text that stands before it, to which it may add.
-fn answer_line(
-    alloc: Global,
-    case: &[u8],
-    line: &[u8],
-    text: &mut Vec<u8>,
-    out: &mut Vec<u8>,
-) -> io::Result<()> {
+/// Adds a line of a text, or answers a line behind the text that stands before it.
+fn put_line(alloc: Global, case: &[u8], line: &[u8], text: &mut Said, said: &mut Said) {
     if let Some(rest) = line.strip_prefix(b">") {
-        text.extend_from_slice(rest.strip_prefix(b" ").unwrap_or(rest))?;
-        text.push(b'\n')?;
-        return Ok(());
+        text.put(rest.strip_prefix(b" ").unwrap_or(rest));
+        text.put(b"\n");
+        return;
     }
-    if answer(alloc, case, line, text, out).is_none() {
-        out.extend_from_slice(b"no answer\n")?;
+    if answer(alloc, case, line, &text.text, said).is_none() {
+        said.put(b"no answer\n");
     }
-    text.clear();
-    Ok(())
+    text.text.clear();
 }
 
 /// Prints a case's title and its answers.
-fn answers(alloc: Global, case: &[u8], out: &mut Vec<u8>) -> io::Result<()> {
-    let mut text = Vec::new(alloc);
-    out.push(b'#')?;
+fn put_case(alloc: Global, case: &[u8], said: &mut Said) {
+    let mut text = Said::new(alloc);
+    said.put(b"#");
     for (number, line) in case.split(|byte| *byte == b'\n').enumerate() {
         if number == 0 {
-            out.extend_from_slice(line)?;
-            out.push(b'\n')?;
+            said.put(line);
+            said.put(b"\n");
         } else {
-            answer_line(alloc, case, line, &mut text, out)?;
+            put_line(alloc, case, line, &mut text, said);
         }
     }
-    Ok(())
+    said.is_whole &= text.is_whole;
+}
+
+fn put_cases(alloc: Global, cases: &[u8], said: &mut Said) {
+    for case in cases.split(|byte| *byte == b'#') {
+        if !case.is_empty() {
+            put_case(alloc, case, said);
+        }
+    }
 }
 
 fn main(rt: HostRuntime) -> io::Result<()> {
-    let alloc = rt.alloc();
-    let mut text = Vec::new(alloc);
-    rt.stdin().read_to_end(&mut text)?;
-    let mut out = Vec::new(alloc);
-    for case in text.split(|byte| *byte == b'#') {
-        if !case.is_empty() {
-            answers(alloc, case, &mut out)?;
-        }
+    let mut cases = Vec::new(rt.alloc());
+    rt.stdin().read_to_end(&mut cases)?;
+    let mut said = Said::new(rt.alloc());
+    put_cases(rt.alloc(), &cases, &mut said);
+    if !said.is_whole {
+        return Err(io::ErrorKind::OutOfMemory.into());
     }
-    rt.stdout().write_all(&out)?;
-    Ok(())
+    rt.stdout().write_all(&said.text)
 }

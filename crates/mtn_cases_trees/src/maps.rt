@@ -1,23 +1,22 @@
 // A map of markings.
-use crate::words::{position_of, put_number};
+use crate::said::Said;
+use crate::words::position_of;
 use mtn_ancestry::{Pos, PosSet};
 use mtn_base::List;
-use mtn_case_trees::{name_of, put_name};
+use mtn_case_trees::name_of;
 use mtn_marking::{MarkMap, Marking};
 use std::alloc::Global;
 
 fn marking_of(alloc: Global, birth: Pos) -> Option<Marking> {
-    let slot = PosSet::new(alloc, Vec::new(alloc)).ok()?;
     Some(Marking {
         birth,
-        slot,
+        slot: PosSet::new(alloc, Vec::new(alloc)).ok()?,
         content: None,
         attrs: List::new(alloc),
     })
 }
 
-fn put_marking(alloc: Global, map: &mut MarkMap, name: &[u8], birth: &[u8]) -> Option<()> {
-    let birth = position_of(birth)?;
+fn put_marking(alloc: Global, map: &mut MarkMap, name: &[u8], birth: Pos) -> Option<()> {
     let name = name_of(alloc, name)?;
     map.put(name, marking_of(alloc, birth)?).ok()
 }
@@ -25,7 +24,7 @@ fn put_marking(alloc: Global, map: &mut MarkMap, name: &[u8], birth: &[u8]) -> O
 fn put_line(alloc: Global, map: &mut MarkMap, line: &[u8]) -> Option<()> {
     let mut words = line.split(|byte| *byte == b' ');
     let name = words.next()?;
-    put_marking(alloc, map, name, words.next()?)
+    put_marking(alloc, map, name, position_of(words.next()?)?)
 }
 
 fn map_of(alloc: Global, case: &[u8]) -> Option<MarkMap> {
@@ -38,18 +37,19 @@ fn map_of(alloc: Global, case: &[u8]) -> Option<MarkMap> {
     Some(map)
 }
 
-fn put_births(map: &MarkMap, out: &mut Vec<u8>) -> Option<()> {
+fn put_births(map: &MarkMap, said: &mut Said) {
     for place in 0..map.len() {
-        let node = map.at_place(place as usize)?;
-        put_name(&node.name, out).ok()?;
-        out.push(b' ').ok()?;
-        put_number(node.marking.birth.0, out).ok()?;
-        out.push(b'\n').ok()?;
+        if let Some(node) = map.at_place(place as usize) {
+            said.put_name(&node.name);
+            said.put(b" ");
+            said.put_number(node.marking.birth.0);
+            said.put(b"\n");
+        }
     }
-    Some(())
 }
 
 /// Prints the map that the lines of a case put together.
-pub fn put_map(alloc: Global, case: &[u8], out: &mut Vec<u8>) -> Option<()> {
-    put_births(&map_of(alloc, case)?, out)
+pub fn put_map(alloc: Global, case: &[u8], said: &mut Said) -> Option<()> {
+    put_births(&map_of(alloc, case)?, said);
+    Some(())
 }

@@ -1,8 +1,8 @@
 // Marks, rosters, and what a revision's text makes.
-use crate::words::{put_number, put_positions, put_tree};
+use crate::said::Said;
 use mtn_ancestry::{Graph, Pos, PosSet};
-use mtn_base::{Id, NoMemory, Refusal};
-use mtn_case_trees::{History, both_alone, find, id_of, put_name};
+use mtn_base::{Cause, Id, Refusal};
+use mtn_case_trees::{History, both_alone, find, id_of};
 use mtn_changes::read_revision;
 use mtn_make_roster::{Basis, MakeError, Uncommon, WalkedTree, make, mark};
 use mtn_marking::{AttrMarks, MarkMap, MarkedRoster, Marking};
@@ -11,46 +11,41 @@ use mtn_roster_text::{IdTable, marked_positions, write};
 use std::alloc::Global;
 use std::collections::BTreeSet;
 
-fn put_attrs(attrs: &[AttrMarks], out: &mut Vec<u8>) -> Result<(), NoMemory> {
+fn put_attrs(attrs: &[AttrMarks], said: &mut Said) {
     for attr in attrs {
-        out.push(b' ')?;
-        out.extend_from_slice(attr.key.as_slice())?;
-        put_positions(attr.marks.as_slice(), out)?;
+        said.put(b" ");
+        said.put(attr.key.as_slice());
+        said.put_positions(attr.marks.as_slice());
     }
-    Ok(())
 }
 
-fn put_content(content: &PosSet, out: &mut Vec<u8>) -> Result<(), NoMemory> {
-    out.extend_from_slice(b" content")?;
-    put_positions(content.as_slice(), out)
-}
-
-fn put_marking(marking: &Marking, out: &mut Vec<u8>) -> Result<(), NoMemory> {
-    out.extend_from_slice(b" born ")?;
-    put_number(marking.birth.0, out)?;
-    out.extend_from_slice(b" slot")?;
-    put_positions(marking.slot.as_slice(), out)?;
+fn put_marking(marking: &Marking, said: &mut Said) {
+    said.put(b" born ");
+    said.put_number(marking.birth.0);
+    said.put(b" slot");
+    said.put_positions(marking.slot.as_slice());
     if let Some(content) = &marking.content {
-        put_content(content, out)?;
+        said.put(b" content");
+        said.put_positions(content.as_slice());
     }
-    put_attrs(marking.attrs.as_slice(), out)
+    put_attrs(marking.attrs.as_slice(), said);
 }
 
-fn put_map(map: &MarkMap, out: &mut Vec<u8>) -> Result<(), NoMemory> {
+fn put_map(map: &MarkMap, said: &mut Said) {
     for place in 0..map.len() {
         if let Some(node) = map.at_place(place as usize) {
-            put_name(&node.name, out)?;
-            put_marking(&node.marking, out)?;
-            out.push(b'\n')?;
+            said.put_name(&node.name);
+            put_marking(&node.marking, said);
+            said.put(b"\n");
         }
     }
-    Ok(())
 }
 
 /// Prints the marks of a revision, a node a line.
-pub fn put_marks_of(alloc: Global, case: &[u8], id: &[u8], out: &mut Vec<u8>) -> Option<()> {
+pub fn put_marks_of(alloc: Global, case: &[u8], id: &[u8], said: &mut Said) -> Option<()> {
     let history = History::read(alloc, case)?;
-    put_map(history.tree(id)?.marks(), out).ok()
+    put_map(history.tree(id)?.marks(), said);
+    Some(())
 }
 
 /// The ids of the revisions at positions.
@@ -69,19 +64,16 @@ fn table_of(alloc: Global, graph: &Graph, marked: &MarkedRoster) -> Option<IdTab
     IdTable::new(alloc, &places, &ids).ok()
 }
 
-fn put_roster(
-    alloc: Global,
-    graph: &Graph,
-    marked: &MarkedRoster,
-    out: &mut Vec<u8>,
-) -> Option<()> {
-    write(marked, &table_of(alloc, graph, marked)?, out).ok()
+fn put_roster(alloc: Global, graph: &Graph, marked: &MarkedRoster, said: &mut Said) -> Option<()> {
+    let done = write(marked, &table_of(alloc, graph, marked)?, &mut said.text);
+    said.keep(done);
+    Some(())
 }
 
 /// Prints the roster of a revision.
-pub fn put_roster_of(alloc: Global, case: &[u8], id: &[u8], out: &mut Vec<u8>) -> Option<()> {
+pub fn put_roster_of(alloc: Global, case: &[u8], id: &[u8], said: &mut Said) -> Option<()> {
     let history = History::read(alloc, case)?;
-    put_roster(alloc, &history.graph, history.tree(id)?, out)
+    put_roster(alloc, &history.graph, history.tree(id)?, said)
 }
 
 fn id_set(alloc: Global, graph: &Graph, places: &[Pos]) -> Option<BTreeSet<Id>> {
@@ -121,23 +113,22 @@ fn only_of(
     both_uncommon(alloc, graph, left, right)
 }
 
-fn put_walked(
-    alloc: Global,
-    tree: Roster,
-    basis: &Basis,
-    at: Pos,
-    out: &mut Vec<u8>,
-) -> Option<()> {
-    put_tree(&tree, out).ok()?;
-    let marked = mark(alloc, tree, basis, at).ok()?;
-    put_map(marked.marks(), out).ok()
+fn put_walked(alloc: Global, tree: Roster, basis: &Basis, at: Pos, said: &mut Said) -> Option<()> {
+    said.put_tree(&tree);
+    put_map(mark(alloc, tree, basis, at).ok()?.marks(), said);
+    Some(())
 }
 
-fn put_error(error: MakeError, out: &mut Vec<u8>) -> Option<()> {
+fn put_refused(cause: Cause, said: &mut Said) {
+    let done = Refusal { packet: 0, cause }.print(&mut said.text);
+    said.keep(done);
+}
+
+fn put_error(error: MakeError, said: &mut Said) {
     match error {
-        MakeError::Refused(cause) => Refusal { packet: 0, cause }.print(out).ok(),
-        MakeError::Damaged => out.extend_from_slice(b"damaged\n").ok(),
-        MakeError::NoMemory => None,
+        MakeError::Refused(cause) => put_refused(cause, said),
+        MakeError::Damaged => said.put(b"damaged\n"),
+        MakeError::NoMemory => said.is_whole = false,
     }
 }
 
@@ -158,11 +149,14 @@ fn put_over(
     id: Id,
     at: Pos,
     text: &[u8],
-    out: &mut Vec<u8>,
+    said: &mut Said,
 ) -> Option<()> {
     match made_of(alloc, basis, id, text)? {
-        Ok(made) => put_walked(alloc, made.tree, basis, at, out),
-        Err(error) => put_error(error, out),
+        Ok(made) => put_walked(alloc, made.tree, basis, at, said),
+        Err(error) => {
+            put_error(error, said);
+            Some(())
+        }
     }
 }
 
@@ -174,7 +168,7 @@ fn put_over_known(
     only: &(Uncommon, Uncommon),
     id: Id,
     text: &[u8],
-    out: &mut Vec<u8>,
+    said: &mut Said,
 ) -> Option<()> {
     let basis = Basis::Two {
         left: history.tree(sides[0])?,
@@ -182,7 +176,7 @@ fn put_over_known(
         only_left: &only.0,
         only_right: &only.1,
     };
-    put_over(alloc, &basis, id, history.end(), text, out)
+    put_over(alloc, &basis, id, history.end(), text, said)
 }
 
 fn put_over_two(
@@ -191,10 +185,10 @@ fn put_over_two(
     sides: [&[u8]; 2],
     id: Id,
     text: &[u8],
-    out: &mut Vec<u8>,
+    said: &mut Said,
 ) -> Option<()> {
     let only = only_of(alloc, &mut history.graph, sides[0], sides[1])?;
-    put_over_known(alloc, history, sides, &only, id, text, out)
+    put_over_known(alloc, history, sides, &only, id, text, said)
 }
 
 fn put_over_one(
@@ -203,10 +197,10 @@ fn put_over_one(
     parent: &[u8],
     id: Id,
     text: &[u8],
-    out: &mut Vec<u8>,
+    said: &mut Said,
 ) -> Option<()> {
     let basis = Basis::One(history.tree(parent)?);
-    put_over(alloc, &basis, id, history.end(), text, out)
+    put_over(alloc, &basis, id, history.end(), text, said)
 }
 
 fn put_over_parents(
@@ -215,12 +209,12 @@ fn put_over_parents(
     parents: &[&[u8]],
     id: Id,
     text: &[u8],
-    out: &mut Vec<u8>,
+    said: &mut Said,
 ) -> Option<()> {
     match parents {
-        [] => put_over(alloc, &Basis::Root, id, history.end(), text, out),
-        [parent] => put_over_one(alloc, history, parent, id, text, out),
-        [left, right] => put_over_two(alloc, history, [*left, *right], id, text, out),
+        [] => put_over(alloc, &Basis::Root, id, history.end(), text, said),
+        [parent] => put_over_one(alloc, history, parent, id, text, said),
+        [left, right] => put_over_two(alloc, history, [*left, *right], id, text, said),
         _ => None,
     }
 }
@@ -231,7 +225,7 @@ pub fn put_made(
     case: &[u8],
     args: &[&[u8]],
     text: &[u8],
-    out: &mut Vec<u8>,
+    said: &mut Said,
 ) -> Option<()> {
     let (id, parents) = args.split_first()?;
     let new = id_of(id)?;
@@ -241,6 +235,6 @@ pub fn put_made(
         parents,
         new,
         text,
-        out,
+        said,
     )
 }

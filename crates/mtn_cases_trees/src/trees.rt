@@ -1,37 +1,39 @@
 // Questions about a tree.
+use crate::said::Said;
 use crate::words::place_of;
-use mtn_base::{NoMemory, NodeName, Path};
-use mtn_case_trees::{entries_of, name_of, put_entry, put_name};
+use mtn_base::{NodeName, Path};
+use mtn_case_trees::{entries_of, name_of};
 use mtn_roster::{BuildError, Entry, Roster};
 use std::alloc::Global;
 
-fn put_names(names: &[NodeName], out: &mut Vec<u8>) -> Option<()> {
+fn put_names(names: &[NodeName], said: &mut Said) {
     for name in names {
-        put_name(name, out).ok()?;
-        out.push(b'\n').ok()?;
+        said.put_name(name);
+        said.put(b"\n");
     }
-    Some(())
 }
 
-fn put_found(found: Option<&Entry>, out: &mut Vec<u8>) -> Option<()> {
+fn put_found(found: Option<&Entry>, said: &mut Said) {
     match found {
-        Some(entry) => put_entry(entry, out).ok()?,
-        None => out.extend_from_slice(b"nothing").ok()?,
+        Some(entry) => said.put_entry(entry),
+        None => said.put(b"nothing\n"),
     }
-    out.push(b'\n').ok()
 }
 
-fn put_whole(path: &Path, out: &mut Vec<u8>) -> Result<(), NoMemory> {
-    out.push(b'/')?;
-    path.write(out)
-}
-
-fn put_path(path: Option<Path>, out: &mut Vec<u8>) -> Option<()> {
+fn put_path(path: &Option<Path>, said: &mut Said) {
     match path {
-        Some(path) => put_whole(&path, out).ok()?,
-        None => out.extend_from_slice(b"nothing").ok()?,
+        Some(path) => {
+            said.put(b"/");
+            said.put_path(path);
+            said.put(b"\n");
+        }
+        None => said.put(b"nothing\n"),
     }
-    out.push(b'\n').ok()
+}
+
+fn put_manifest(tree: &Roster, said: &mut Said) {
+    let done = mtn_manifest::write(tree, &mut said.text);
+    said.keep(done);
 }
 
 // The words of questions.
@@ -43,43 +45,47 @@ fn of_node(
     tree: &Roster,
     word: usize,
     name: &NodeName,
-    out: &mut Vec<u8>,
+    said: &mut Said,
 ) -> Option<()> {
     match word {
-        4 => put_found(tree.entry(name), out),
-        5 => put_path(tree.path_of(alloc, name).ok()?, out),
-        6 => put_names(&tree.children(alloc, name).ok()?, out),
-        _ => None,
+        4 => put_found(tree.entry(name), said),
+        5 => put_path(&tree.path_of(alloc, name).ok()?, said),
+        6 => put_names(&tree.children(alloc, name).ok()?, said),
+        _ => return None,
     }
+    Some(())
 }
 
-/// Answers about the node at a path.
-fn at_path(alloc: Global, tree: &Roster, text: &[u8], out: &mut Vec<u8>) -> Option<()> {
-    let path = Path::read(alloc, text).ok()?;
-    put_found(tree.at_path(&path), out)
-}
-
-fn of_tree(alloc: Global, tree: &Roster, word: usize, arg: &[u8], out: &mut Vec<u8>) -> Option<()> {
+/// Answers about the whole tree, or the node at a path.
+fn of_tree(alloc: Global, tree: &Roster, word: usize, path: &[u8], said: &mut Said) -> Option<()> {
     match word {
-        0 => out.extend_from_slice(b"sane\n").ok(),
-        1 => put_names(&tree.walk(alloc).ok()?, out),
-        2 => mtn_manifest::write(tree, out).ok(),
-        3 => at_path(alloc, tree, arg, out),
-        _ => of_node(alloc, tree, word, &name_of(alloc, arg)?, out),
+        0 => said.put(b"sane\n"),
+        1 => put_names(&tree.walk(alloc).ok()?, said),
+        2 => put_manifest(tree, said),
+        _ => put_found(tree.at_path(&Path::read(alloc, path).ok()?), said),
     }
+    Some(())
+}
+
+fn of_word(alloc: Global, tree: &Roster, word: usize, arg: &[u8], said: &mut Said) -> Option<()> {
+    if word < 4 {
+        return of_tree(alloc, tree, word, arg, said);
+    }
+    of_node(alloc, tree, word, &name_of(alloc, arg)?, said)
 }
 
 /// Answers a question about the tree of a case: `build` (whether it is sane), `walk`, `manifest`, `at PATH` (without one the root), `entry NODE`,
 /// `path NODE` and `children NODE`.
-pub fn answer(alloc: Global, case: &[u8], args: &[&[u8]], out: &mut Vec<u8>) -> Option<()> {
-    let word = place_of(args.first()?, WORDS);
-    let arg: &[u8] = match args.get(1) {
-        Some(arg) => arg,
-        None => b"",
+pub fn answer(alloc: Global, case: &[u8], args: &[&[u8]], said: &mut Said) -> Option<()> {
+    let (word, rest) = args.split_first()?;
+    let arg: &[u8] = match rest {
+        [] => b"",
+        [arg, ..] => arg,
     };
     match Roster::build(alloc, entries_of(alloc, case, b"node ")?) {
-        Ok(tree) => of_tree(alloc, &tree, word, arg, out),
-        Err(BuildError::Insane) => out.extend_from_slice(b"insane\n").ok(),
-        Err(BuildError::NoMemory) => None,
+        Ok(tree) => return of_word(alloc, &tree, place_of(word, WORDS), arg, said),
+        Err(BuildError::Insane) => said.put(b"insane\n"),
+        Err(BuildError::NoMemory) => said.is_whole = false,
     }
+    Some(())
 }
