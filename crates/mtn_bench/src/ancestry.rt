@@ -4,52 +4,42 @@ ghost use Rattle.std.specs.Prelude.{◌≡◌, ◌<◌, ◌+◌, All, IsTrue, le
 use crate::sections::number_of;
 use crate::watch::Watch;
 use mtn_ancestry::{Graph, ParentList, Pos, uncommon};
-use mtn_base::{Id, NoMemory};
+use mtn_base::Id;
+use mtn_case_trees::push;
 use std::alloc::Global;
 
-// Appends a revision whose parents stand in the graph.
-fn add(graph: &mut Graph, parents: ParentList) -> Result<(), NoMemory> {
-    let len = graph.len();
+// The id of the revision at a position.
+fn id_at(position: u64) -> Id {
     let mut bytes = [0; 20];
-    bytes[..8].copy_from_slice(&len.to_be_bytes());
-    let id = Id(bytes);
-    if graph.find(id).is_some() {
-        return Ok(());
-    }
-    match parents {
-        ParentList::Two(p, q) => {
-            if p.0 < len && q.0 < len {
-                graph.push(id, ParentList::Two(p, q))?;
-            }
-        }
-        ParentList::One(p) => {
-            if p.0 < len {
-                graph.push(id, ParentList::One(p))?;
-            }
-        }
-        ParentList::Zero => {
-            graph.push(id, ParentList::Zero)?;
-        }
-    }
-    Ok(())
+    bytes[..8].copy_from_slice(&position.to_be_bytes());
+    Id(bytes)
+}
+
+// Appends a revision whose parents stand in the graph.
+fn add(graph: &mut Graph, parents: ParentList) -> Option<()> {
+    let id = id_at(graph.len());
+    push(graph, id, parents)
 }
 
 // Appends a fork of two revisions and their merge.
-fn add_diamond(graph: &mut Graph) -> Result<(), NoMemory> {
+fn add_diamond(graph: &mut Graph) -> Option<()> {
     let last = graph.len().saturating_sub(1);
+    let left = last.saturating_add(1);
     add(graph, ParentList::One(Pos(last)))?;
     add(graph, ParentList::One(Pos(last)))?;
-    let fork = (last.saturating_add(1), last.saturating_add(2));
-    add(graph, ParentList::Two(Pos(fork.0), Pos(fork.1)))
+    add(
+        graph,
+        ParentList::Two(Pos(left), Pos(left.saturating_add(1))),
+    )
 }
 
-fn diamonds(alloc: Global, count: u64) -> Result<Graph, NoMemory> {
+fn diamonds(alloc: Global, count: u64) -> Option<Graph> {
     let mut graph = Graph::new(alloc);
     add(&mut graph, ParentList::Zero)?;
     for _ in 0..count {
         add_diamond(&mut graph)?;
     }
-    Ok(graph)
+    Some(graph)
 }
 
 fn are_within(graph: &Graph, of: &[Pos]) -> bool
@@ -90,9 +80,9 @@ fn ancestors_of_newest(alloc: Global, graph: &Graph) -> Option<usize> {
 /// Whether the root is an ancestor of the newest revision. A step.
 fn is_root_older(rt: &HostRuntime, watch: &mut Watch, graph: &Graph) -> Option<bool> {
     let newest = graph.len().checked_sub(1)?;
-    watch.begin(rt)?;
+    watch.begin(rt);
     let is_older = graph.is_ancestor(rt.alloc(), Pos(0), Pos(newest)).ok()?;
-    watch.lap(rt)?;
+    watch.lap(rt);
     Some(is_older)
 }
 
@@ -103,10 +93,10 @@ fn uncommon_of_fork(
     graph: &mut Graph,
 ) -> Option<(usize, usize)> {
     let fork = graph.len().checked_sub(3)?;
-    watch.begin(rt)?;
+    watch.begin(rt);
     let sets = uncommon(rt.alloc(), graph, Pos(fork), Pos(fork + 1)).ok()?;
     let counts = (sets.0.as_slice().len(), sets.1.as_slice().len());
-    watch.lap(rt)?;
+    watch.lap(rt);
     Some(counts)
 }
 
@@ -126,11 +116,11 @@ fn answers_line(
 fn answers_of(rt: &HostRuntime, watch: &mut Watch, graph: &mut Graph) -> Option<Vec<u8>> {
     let is_old = is_root_older(rt, watch, graph)?;
     let ancestors = ancestors_of_newest(rt.alloc(), graph)?;
-    watch.lap(rt)?;
+    watch.lap(rt);
     let fork = uncommon_of_fork(rt, watch, graph)?;
-    watch.begin(rt)?;
+    watch.begin(rt);
     let common = common_of_newest(rt.alloc(), graph)?;
-    watch.lap(rt)?;
+    watch.lap(rt);
     answers_line(rt.alloc(), is_old, ancestors, fork, common)
 }
 
@@ -138,8 +128,8 @@ fn answers_of(rt: &HostRuntime, watch: &mut Watch, graph: &mut Graph) -> Option<
 /// Steps: making it; whether the root is an ancestor of the newest; the ancestors of the newest; what the last fork
 /// has not in common; what the newest four have in common.
 pub fn ancestry(rt: &HostRuntime, watch: &mut Watch, text: &[u8]) -> Option<Vec<u8>> {
-    watch.begin(rt)?;
-    let mut graph = diamonds(rt.alloc(), number_of(text)).ok()?;
-    watch.lap(rt)?;
+    watch.begin(rt);
+    let mut graph = diamonds(rt.alloc(), number_of(text))?;
+    watch.lap(rt);
     answers_of(rt, watch, &mut graph)
 }

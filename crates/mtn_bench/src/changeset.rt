@@ -25,9 +25,9 @@ fn applied(
     if !none_is_born(Some(old), NEW) {
         return None;
     }
-    watch.begin(rt)?;
+    watch.begin(rt);
     let tree = apply(alloc, Some(old), &changes, NEW).ok()?;
-    watch.lap(rt)?;
+    watch.lap(rt);
     Some(tree)
 }
 

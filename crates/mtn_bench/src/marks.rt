@@ -37,7 +37,7 @@ fn set_at(marks: &MarkMap, at: Pos) -> u64 {
 fn root_of(rt: &HostRuntime, watch: &mut Watch, entries: Vec<Entry>) -> Option<MarkedRoster> {
     let roster = built(rt, watch, entries)?;
     let marks = mark_root(rt.alloc(), &roster, Pos(0)).ok()?;
-    watch.lap(rt)?;
+    watch.lap(rt);
     Some(MarkedRoster::new(roster, marks))
 }
 
@@ -50,7 +50,7 @@ fn child_of(
 ) -> Option<MarkMap> {
     let roster = built(rt, watch, entries)?;
     let marks = mark_one(rt.alloc(), parent, &roster, Pos(1)).ok()?;
-    watch.lap(rt)?;
+    watch.lap(rt);
     Some(marks)
 }
 

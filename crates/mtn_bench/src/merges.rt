@@ -58,17 +58,17 @@ fn decided(
     only_left: &PosSet,
     only_right: &PosSet,
 ) -> Option<Decisions> {
-    watch.begin(rt)?;
+    watch.begin(rt);
     let decisions = decide(rt.alloc(), &sides.left, &sides.right, only_left, only_right).ok()?;
-    watch.lap(rt)?;
+    watch.lap(rt);
     Some(decisions)
 }
 
 /// The conflicts. A step.
 fn listed(rt: &HostRuntime, watch: &mut Watch, decisions: &Decisions) -> Option<Conflicts> {
-    watch.begin(rt)?;
+    watch.begin(rt);
     let found = conflicts(rt.alloc(), decisions).ok()?;
-    watch.lap(rt)?;
+    watch.lap(rt);
     Some(found)
 }
 

@@ -43,55 +43,82 @@ fn nodes_of<'a>(alloc: Global, text: &'a [u8]) -> Option<Vec<Node<'a>>> {
     Some(nodes)
 }
 
-fn put_number(text: &mut Vec<u8>, number: u64) -> Option<()> {
-    text.extend_from_slice(&number.to_be_bytes()).ok()
+/// The bytes of records; where memory was refused once, or a field is too long, they are not whole.
+#[derive(Drop)]
+struct Text {
+    bytes: Vec<u8>,
+    is_whole: bool,
 }
 
-fn put_count(text: &mut Vec<u8>, count: usize) -> Option<()> {
-    let count = u32::try_from(count).ok()?;
-    text.extend_from_slice(&count.to_be_bytes()).ok()
-}
+impl Text {
+    fn put(&mut self, bytes: &[u8]) {
+        self.is_whole &= self.bytes.extend_from_slice(bytes).is_ok();
+    }
 
-fn put_field(text: &mut Vec<u8>, field: &[u8]) -> Option<()> {
-    put_count(text, field.len())?;
-    text.extend_from_slice(field).ok()
-}
+    fn put_number(&mut self, number: u64) {
+        self.put(&number.to_be_bytes());
+    }
 
-fn put_mark(text: &mut Vec<u8>, at: u64) -> Option<()> {
-    put_count(text, 1)?;
-    put_number(text, at)
+    fn put_count(&mut self, count: u32) {
+        self.put(&count.to_be_bytes());
+    }
+
+    fn put_field(&mut self, field: &[u8]) {
+        match u32::try_from(field.len()) {
+            Ok(count) => self.put_count(count),
+            Err(_) => self.is_whole = false,
+        }
+        self.put(field);
+    }
+
+    fn put_mark(&mut self, at: u64) {
+        self.put_count(1);
+        self.put_number(at);
+    }
 }
 
 /// The entry of a node, as a record has it.
-fn put_entry(text: &mut Vec<u8>, number: u64, node: &Node, mark: u64) -> Option<()> {
-    put_number(text, number)?;
-    put_number(text, 0)?;
-    text.extend_from_slice(&[1; 20]).ok()?;
-    put_field(text, node.path)?;
-    text.push(u8::from(!node.is_dir)).ok()?;
-    put_number(text, node.parent)?;
-    put_field(text, node.path.rsplit(|byte| *byte == b'/').next()?)?;
-    put_mark(text, mark)?;
+fn put_entry(text: &mut Text, number: u64, node: &Node, mark: u64) {
+    let last = node.path.rsplit(|byte| *byte == b'/').next();
+    text.put_number(number);
+    text.put_number(0);
+    text.put(&[1; 20]);
+    text.put_field(node.path);
+    text.put(&[u8::from(!node.is_dir)]);
+    text.put_number(node.parent);
+    text.put_field(last.unwrap_or(node.path));
+    text.put_mark(mark);
     if !node.is_dir {
-        text.extend_from_slice(&[2; 20]).ok()?;
-        put_mark(text, 0)?;
+        text.put(&[2; 20]);
+        text.put_mark(0);
     }
-    put_number(text, 0)
+    text.put_number(0);
+}
+
+fn put_entries(text: &mut Text, nodes: &[Node], links: u8) {
+    let step = (nodes.len() / 10).max(16) as u64;
+    let mut number: u64 = 0;
+    text.put_number(nodes.len() as u64);
+    for node in nodes {
+        number = number.saturating_add(1);
+        let link = number % step;
+        let mark = if link <= u64::from(links) { link } else { 0 };
+        put_entry(text, number, node, mark);
+    }
 }
 
 /// The bytes of all entries after so many links, each of which marks ten of 100,000.
 fn text_of(alloc: Global, nodes: &[Node], links: u8) -> Option<Vec<u8>> {
-    let step = (nodes.len() / 10).max(16) as u64;
-    let mut text = Vec::new(alloc);
-    let mut number: u64 = 0;
-    put_number(&mut text, nodes.len() as u64)?;
-    for node in nodes {
-        number = number.saturating_add(1);
-        let link = number.checked_rem(step)?;
-        let mark = if link <= u64::from(links) { link } else { 0 };
-        put_entry(&mut text, number, node, mark)?;
+    let mut text = Text {
+        bytes: Vec::new(alloc),
+        is_whole: true,
+    };
+    put_entries(&mut text, nodes, links);
+    if text.is_whole {
+        Some(text.bytes)
+    } else {
+        None
     }
-    Some(text)
 }
 
 fn numbered(alloc: Global, nodes: &[Node], links: u8) -> Option<Numbered> {
@@ -132,16 +159,17 @@ fn chain_of(alloc: Global, nodes: &[Node]) -> Option<Vec<RosterRecord>> {
 
 fn time_rebuilding(rt: &HostRuntime, watch: &mut Watch, record: Numbered) -> Option<()> {
     let whole = whole_of(rt.alloc(), record)?;
-    watch.begin(rt)?;
+    watch.begin(rt);
     let _end = rebuild(rt.alloc(), whole).ok()?;
-    watch.lap(rt)
+    watch.lap(rt);
+    Some(())
 }
 
 /// Reads a whole record and rebuilds it.
 fn time_reading(rt: &HostRuntime, watch: &mut Watch, record: &[u8]) -> Option<()> {
-    watch.begin(rt)?;
+    watch.begin(rt);
     let (numbered, _) = Numbered::read(rt.alloc(), record).ok()?;
-    watch.lap(rt)?;
+    watch.lap(rt);
     time_rebuilding(rt, watch, numbered)
 }
 
@@ -149,9 +177,9 @@ fn time_reading(rt: &HostRuntime, watch: &mut Watch, record: &[u8]) -> Option<()
 fn time_whole(rt: &HostRuntime, watch: &mut Watch, record: &[u8]) -> Option<()> {
     let (numbered, _) = Numbered::read(rt.alloc(), record).ok()?;
     let mut out = Vec::new(rt.alloc());
-    watch.begin(rt)?;
+    watch.begin(rt);
     numbered.write(&mut out).ok()?;
-    watch.lap(rt)?;
+    watch.lap(rt);
     time_reading(rt, watch, &out)
 }
 
@@ -179,9 +207,9 @@ fn chain_line(alloc: Global, end: &Numbered) -> Option<Vec<u8>> {
 
 /// Rebuilds a chain.
 fn time_chain(rt: &HostRuntime, watch: &mut Watch, chain: Vec<RosterRecord>) -> Option<Vec<u8>> {
-    watch.begin(rt)?;
+    watch.begin(rt);
     let (end, _tree) = rebuild(rt.alloc(), chain).ok()?;
-    watch.lap(rt)?;
+    watch.lap(rt);
     chain_line(rt.alloc(), &end)
 }
 

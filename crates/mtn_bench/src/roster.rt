@@ -1,27 +1,29 @@
 // Rosters and manifests (bench/roster.sh).
 use crate::tree::{BIRTH, built, entries_of};
 use crate::watch::Watch;
+use mtn_base::NodeName;
 use mtn_roster::Roster;
 
-/// Walks a roster and writes its manifest. Two steps.
-fn time_walking(
-    rt: &HostRuntime,
-    watch: &mut Watch,
-    roster: &Roster,
-    manifest: &mut Vec<u8>,
-) -> Option<()> {
-    watch.begin(rt)?;
-    let _names = roster.walk(rt.alloc()).ok()?;
-    watch.lap(rt)?;
-    mtn_manifest::write(roster, manifest).ok()?;
-    watch.lap(rt)
+/// The names of a roster's walk. A step.
+fn walked(rt: &HostRuntime, watch: &mut Watch, roster: &Roster) -> Option<Vec<NodeName>> {
+    watch.begin(rt);
+    let names = roster.walk(rt.alloc()).ok()?;
+    watch.lap(rt);
+    Some(names)
+}
+
+/// The manifest of a roster. Ends a step.
+fn manifest_of(rt: &HostRuntime, watch: &mut Watch, roster: &Roster) -> Option<Vec<u8>> {
+    let mut manifest = Vec::new(rt.alloc());
+    mtn_manifest::write(roster, &mut manifest).ok()?;
+    watch.lap(rt);
+    Some(manifest)
 }
 
 /// Builds the roster of a tree, walks it, and writes its manifest.
 /// Steps: building, walking, writing.
 pub fn roster(rt: &HostRuntime, watch: &mut Watch, text: &[u8]) -> Option<Vec<u8>> {
     let roster = built(rt, watch, entries_of(rt.alloc(), text, BIRTH)?)?;
-    let mut manifest = Vec::new(rt.alloc());
-    time_walking(rt, watch, &roster, &mut manifest)?;
-    Some(manifest)
+    let _names = walked(rt, watch, &roster)?;
+    manifest_of(rt, watch, &roster)
 }

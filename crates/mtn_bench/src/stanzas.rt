@@ -6,10 +6,10 @@ use mtn_basic_io::{read, write};
 /// Steps: reading, writing.
 pub fn stanzas(rt: &HostRuntime, watch: &mut Watch, text: &[u8]) -> Option<Vec<u8>> {
     let mut again = Vec::new(rt.alloc());
-    watch.begin(rt)?;
+    watch.begin(rt);
     let stanzas = read(rt.alloc(), text).ok()?;
-    watch.lap(rt)?;
+    watch.lap(rt);
     write(&stanzas, &mut again).ok()?;
-    watch.lap(rt)?;
+    watch.lap(rt);
     Some(again)
 }

@@ -75,8 +75,8 @@ pub fn entries_of(alloc: Global, text: &[u8], birth: Id) -> Option<Vec<Entry>> {
 
 /// The roster of some entries. A step.
 pub fn built(rt: &HostRuntime, watch: &mut Watch, entries: Vec<Entry>) -> Option<Roster> {
-    watch.begin(rt)?;
+    watch.begin(rt);
     let roster = Roster::build(rt.alloc(), entries).ok()?;
-    watch.lap(rt)?;
+    watch.lap(rt);
     Some(roster)
 }
