@@ -1,7 +1,6 @@
 -- What the steps of a verdict answer.
-use Rattle.std.specs.Prelude.{is_some}
 use Rattle.std.specs.List.{AllZip}
-use Rattle.std.proofs.Common.{◌≡◌, ◌≢◌, false, ℕ, ◌≤◌, List, [], ◌∷◌, length, Option, Some, None, refl, sym, ◌∙◌, subst, arith}
+use Rattle.std.proofs.Common.{◌≡◌, ◌≢◌, ℕ, ◌≤◌, List, [], ◌∷◌, length, Option, Some, None, refl, sym, ◌∙◌, subst, arith}
 use Rattle.mtn_changes.specs.declared.change.Edge.{Edge}
 use Rattle.mtn_changes.specs.declared.change.Revision.{Revision}
 use Rattle.mtn_changes.specs.declared.error.ChangeTextError.{ChangeTextError}
@@ -13,9 +12,8 @@ use Rattle.mtn_records.specs.declared.record.RosterRecord.{RosterRecord}
 use Rattle.mtn_records.specs.declared.record.RosterRecord.TheVariants.{Whole, Delta}
 use Rattle.mtn_roster.specs.Tree.{Tree}
 use Rattle.mtn_roster_deltas.proofs.Spelling.{one_tree}
-use Rattle.mtn_check_pieces.specs.declared.job.Agreed.{Agreed}
 use Rattle.mtn_check_pieces.specs.declared.job.CheckJob.{CheckJob}
-use Rattle.mtn_check_pieces.specs.Verdict.{IsOneOf, IsRevisionOf, IsWholeOf, IsStoredOn, IsTaken, IsEdgeTree, IsJoining, IsMergedTree, IsTreeOf, IsMarkedOn, IsMadeOf, IsMadeWith, IsStoredOf, IsStoredWith, IsAgreed, IsAgreeing, basis_on}
+use Rattle.mtn_check_pieces.specs.Verdict.{IsOneOf, IsRevisionOf, IsWholeOf, IsStoredOn, IsTaken, IsEdgeTree, IsJoining, IsMergedTree, IsTreeOf, IsMarkedOn, IsMadeOf, IsMadeWith, IsStoredOf, IsStoredWith, IsAgreeing, basis_on}
 
 -- a text with a fault spells no revision
 pub unread : (text : List ℕ) (e : ChangeTextError) → e ≢ NoMemory → IsRevisionFault text e → (r : Revision) → IsRevisionOf text r → ⊥
@@ -101,25 +99,13 @@ too_many job edges stored rs more w = by rs w.parents edges more w.spelled w.mad
     by (a ∷ b ∷ c ∷ rs) (p ∷ q ∷ s ∷ ps) es le z t = t
 
 module _ (job : CheckJob) (revision : Revision) (read : IsRevisionOf job.text revision) where
-  only_read : (a : Agreed) → IsAgreed job a → a.revision ≡ revision
-  only_read a h = same_revision job.text a.revision revision h.read.ids read.ids h.read.spelled read.spelled
+  only_read : (g : IsAgreeing job) → g.revision ≡ revision
+  only_read g = same_revision job.text g.revision revision g.read.ids read.ids g.read.spelled read.spelled
 
-  -- where nothing is stored, nothing agrees
-  pub none_agreed : (o : Option MarkedTree) → o ≡ None → IsOneOf (IsStoredWith job revision.edges job.parents) o → (a : Agreed) → IsAgreed job a → ⊥
-  none_agreed o is none a h =
-      none_at (IsStoredWith job revision.edges job.parents) o is none a.stored (subst (λ (r : Revision). IsStoredWith job r.edges job.parents a.stored) (only_read a h) h.stored)
+  -- where nothing is stored, the job differs
+  pub none_agrees : (o : Option MarkedTree) → o ≡ None → IsOneOf (IsStoredWith job revision.edges job.parents) o → IsAgreeing job → ⊥
+  none_agrees o none one g =
+      none_at (IsStoredWith job revision.edges job.parents) o none one g.stored (subst (λ (r : Revision). IsStoredWith job r.edges job.parents g.stored) (only_read g) (g.spelled, g.made))
 
-  pub are_agreed : (o : Option MarkedTree) (stored : MarkedTree) → o ≡ Some stored → IsOneOf (IsStoredWith job revision.edges job.parents) o →
-      IsAgreed job (record { revision = revision; stored = stored })
-  are_agreed o stored is one = record { read = read; stored = some_at (IsStoredWith job revision.edges job.parents) o stored is one }
-
--- what agrees, and what a job that agrees spells
-pub agreeing_has : (job : CheckJob) → IsAgreeing job → (a : Agreed) × IsAgreed job a
-agreeing_has job g = (record { revision = g.revision; stored = g.stored }, record { read = g.read; stored = (g.spelled, g.made) })
-
-pub agreed_is : (job : CheckJob) (a : Agreed) → IsAgreed job a → IsAgreeing job
-agreed_is job a h = record { revision = a.revision; read = h.read; stored = a.stored; spelled = h.stored.0; made = h.stored.1 }
-
-pub none_differs : (job : CheckJob) (o : Option Agreed) → IsOneOf (IsAgreed job) o → is_some o ≡ false → IsAgreeing job → ⊥
-none_differs job None one e g = let a = agreeing_has job g in one a.0 a.1
-none_differs job (Some a) one e g = absurd cc
+  pub agrees : (o : Option MarkedTree) (stored : MarkedTree) → o ≡ Some stored → IsOneOf (IsStoredWith job revision.edges job.parents) o → IsAgreeing job
+  agrees o stored is one = let h = some_at (IsStoredWith job revision.edges job.parents) o stored is one in record { revision = revision; read = read; stored = stored; spelled = h.0; made = h.1 }

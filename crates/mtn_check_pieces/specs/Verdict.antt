@@ -16,7 +16,6 @@ use Rattle.mtn_records.specs.declared.record.RosterRecord.{RosterRecord}
 use Rattle.mtn_records.specs.declared.record.RosterRecord.TheVariants.{Whole, Delta}
 use Rattle.mtn_roster.specs.Tree.{Tree}
 use Rattle.mtn_roster_deltas.specs.Spelled.{Spells}
-use Rattle.mtn_check_pieces.specs.declared.job.Agreed.{Agreed}
 use Rattle.mtn_check_pieces.specs.declared.job.CheckJob.{CheckJob}
 use Rattle.mtn_check_pieces.specs.declared.job.Verdict.{Verdict}
 use Rattle.mtn_check_pieces.specs.declared.job.Verdict.TheVariants.{Agrees, Differs}
@@ -111,11 +110,6 @@ IsStoredOf job edges parents t = IsWholeOf job.stored t × IsMadeOf job edges t 
 -- the same, of the parents that these records spell
 abbrev pub IsStoredWith : CheckJob → List Edge → List RosterRecord → MarkedTree → Type 0
 IsStoredWith job edges records t = IsWholeOf job.stored t × IsMadeWith job edges t records
-
--- what a job that agrees spells
-pub record IsAgreed (job : CheckJob) (a : Agreed) : Type 0 where
-  pub read : IsRevisionOf job.text a.revision
-  pub stored : IsStoredWith job a.revision.edges job.parents a.stored
 
 -- The stored roster, its marks and births are those that the job's text and its parents' rosters give
 pub record IsAgreeing (job : CheckJob) : Type 0 where

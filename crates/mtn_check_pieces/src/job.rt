@@ -2,9 +2,7 @@
 use crate::SharedRecord;
 use mtn_ancestry::Pos;
 use mtn_base::{Bytes, Id, List};
-use mtn_changes::Revision;
 use mtn_make_roster::Uncommon;
-use mtn_marking::MarkedRoster;
 
 /// A revision whose stored roster is checked: its text, its position and its id, the whole records of its parents' rosters in
 /// the order of the edges and that of its own; and, where it has two parents, what each has above it that the other lacks.
@@ -24,11 +22,4 @@ pub struct CheckJob {
 pub enum Verdict {
     Agrees,
     Differs,
-}
-
-/// What the text and the stored record of a job that agrees spell.
-#[derive(Drop)]
-pub struct Agreed {
-    pub revision: Revision,
-    pub stored: MarkedRoster,
 }

@@ -25,8 +25,8 @@ mod shared;
 mod trees;
 mod verdict;
 
-pub use job::{Agreed, CheckJob, Verdict};
-pub use pieces::{MAX_PIECES, check_pieces};
+pub use job::{CheckJob, Verdict};
+pub use pieces::check_pieces;
 pub use reading::{revision_of, roster_of};
 pub use shared::{SharedEntries, SharedRecord};
-pub use verdict::{agreement, check_one};
+pub use verdict::check_one;

@@ -4,12 +4,9 @@ ghost use Rattle.mtn_check_pieces.specs.Verdict.{AreVerdicts};
 
 use crate::{CheckJob, Verdict, check_one};
 use mtn_base::NoMemory;
-use mtn_pieces::Gate;
+use mtn_pieces::{Gate, MAX_PIECES};
 use std::alloc::Global;
 use std::thread::{Threads, join};
-
-/// The greatest number of pieces.
-pub const MAX_PIECES: usize = 64;
 
 // The verdict on each job, one after the other.
 fn check_all(alloc: Global, jobs: &[CheckJob]) -> Result<Vec<Verdict>, NoMemory>

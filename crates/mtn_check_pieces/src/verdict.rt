@@ -3,12 +3,12 @@ ghost use Rattle.std.specs.Prelude.{◌≡◌, ◌∷◌, [], IfOk};
 ghost use Rattle.mtn_changes.specs.RevisionText.{AreEdges};
 ghost use Rattle.mtn_changeset_laws.specs.Laws.{RenamesDiffer};
 ghost use Rattle.mtn_marking.specs.Marking.{Basis, AreFor, AreAllByRule, HaveBirths};
-ghost use Rattle.mtn_check_pieces.specs.Verdict.{IsAgreed, IsMarkedOn, IsOneOf, IsStoredOf, IsStoredOn, IsStoredWith, IsTaken, IsVerdict};
+ghost use Rattle.mtn_check_pieces.specs.Verdict.{IsMarkedOn, IsOneOf, IsStoredOf, IsStoredOn, IsStoredWith, IsTaken, IsVerdict};
 
 use crate::reading::{revision_of, roster_of, stored_on};
 use crate::same_marks::are_same_marks;
 use crate::trees::{edge_tree, merged_tree};
-use crate::{Agreed, CheckJob, SharedRecord, Verdict};
+use crate::{CheckJob, SharedRecord, Verdict};
 use mtn_base::NoMemory;
 use mtn_changes::Edge;
 use mtn_marking::{MarkMap, MarkedRoster, mark_one, mark_root, mark_two};
@@ -174,27 +174,17 @@ fn over_parents(
     }
 }
 
-/// What the text and the stored record of a job spell, where it agrees. It costs what reading the text, rebuilding the parents'
-/// rosters, applying and joining, marking, and one look at each entry of the stored record cost.
-pub fn agreement(alloc: Global, job: &CheckJob) -> Result<Option<Agreed>, NoMemory>
-    ensures { IfOk result (IsOneOf (IsAgreed job.now)) }
-{
-    let Some(revision) = revision_of(alloc, job.text.as_slice())? else {
-        return Ok(None);
-    };
-    match over_parents(alloc, job, revision.edges.as_slice())? {
-        Some(stored) => Ok(Some(Agreed { revision, stored })),
-        None => Ok(None),
-    }
-}
-
-/// Whether the stored roster, its marks and its births are those that the job's text makes of its parents' rosters.
+/// Whether the stored roster, its marks and its births are those that the job's text makes of its parents' rosters. It costs what
+/// reading the text, rebuilding the parents' rosters, applying and joining, marking, and one look at each entry of the stored record
+/// cost.
 pub fn check_one(alloc: Global, job: &CheckJob) -> Result<Verdict, NoMemory>
     ensures { IfOk result (IsVerdict job.now) }
 {
-    if agreement(alloc, job)?.is_some() {
-        Ok(Verdict::Agrees)
-    } else {
-        Ok(Verdict::Differs)
+    let Some(revision) = revision_of(alloc, job.text.as_slice())? else {
+        return Ok(Verdict::Differs);
+    };
+    match over_parents(alloc, job, revision.edges.as_slice())? {
+        Some(_stored) => Ok(Verdict::Agrees),
+        None => Ok(Verdict::Differs),
     }
 }

@@ -1,11 +1,31 @@
--- Answers, one more each time, and those of lot behind lot.
+-- Verdicts at their places; answers, one more each time, and those of lot behind lot.
 use Rattle.std.specs.Prelude.{slice_index_or}
-use Rattle.std.proofs.Common.{◌≡◌, ◌<◌, ◌+◌, ℕ, zero, suc, List, [], ◌∷◌, ◌++◌, length, get_or, refl, sym, ◌∙◌, subst, arith, below_more}
+use Rattle.std.proofs.Common.{◌≡◌, ◌<◌, ◌+◌, ℕ, zero, suc, List, [], ◌∷◌, ◌++◌, length, get_or, refl, sym, ap, ◌∙◌, subst, arith, below_more}
 use Rattle.std.proofs.lemmas.List.{get_or_append_left, get_or_default, length-append}
+use Rattle.mtn_check_pieces.specs.Verdict.{AreVerdicts, IsVerdict}
 use Rattle.mtn_check_pieces.specs.declared.job.CheckJob.{CheckJob}
+use Rattle.mtn_check_pieces.specs.declared.job.Verdict.{Verdict}
 use Rattle.mtn_check_records.specs.Fitting.{AreAnswers, AnswersAll}
 use Rattle.mtn_check_records.specs.declared.hand.JobAnswer.{JobAnswer}
 use Rattle.mtn_check_records.specs.declared.hand.Position.{Position}
+
+-- as many verdicts as jobs
+pub as_many : (jobs : List CheckJob) (vs : List Verdict) → AreVerdicts jobs vs → length jobs ≡ length vs
+as_many [] [] each = refl
+as_many [] (v ∷ vs) each = absurd each
+as_many (j ∷ jobs) [] each = absurd each
+as_many (j ∷ jobs) (v ∷ vs) each = ap suc (as_many jobs vs each.1)
+
+verdict_at : (jobs : List CheckJob) (vs : List Verdict) (i : ℕ) (d : CheckJob) (e : Verdict) → AreVerdicts jobs vs → i < length jobs → IsVerdict (get_or jobs i d) (get_or vs i e)
+verdict_at [] vs i d e each lt = absurd (omega (arith, lt))
+verdict_at (j ∷ jobs) [] i d e each lt = absurd each
+verdict_at (j ∷ jobs) (v ∷ vs) zero d e each lt = each.0
+verdict_at (j ∷ jobs) (v ∷ vs) (suc i) d e each lt = verdict_at jobs vs i d e each.1 (omega (arith, lt))
+
+-- the verdict that stands at the place of a job is on that job
+pub verdict_on : (jobs : List CheckJob) (vs : List Verdict) (i : ℕ) (job : CheckJob) (v : Verdict) → AreVerdicts jobs vs → i < length jobs → job ≡ get_or jobs i job → v ≡ get_or vs i v → IsVerdict job v
+verdict_on jobs vs i job v each lt is_job is_v =
+    subst (λ j. IsVerdict j v) (sym is_job) (subst (λ w. IsVerdict (get_or jobs i job) w) (sym is_v) (verdict_at jobs vs i job v each lt))
 
 at_push : (answers : List JobAnswer) (b d : JobAnswer) → get_or (answers ++ b ∷ []) (length answers) d ≡ b
 at_push [] b d = refl

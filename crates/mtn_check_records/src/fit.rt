@@ -1,6 +1,6 @@
 // What is said of one position.
 ghost use Rattle.std.specs.Prelude.{◌≡◌, IfOk};
-ghost use Rattle.mtn_check_pieces.specs.Verdict.{IsAgreed, IsWholeOf};
+ghost use Rattle.mtn_check_pieces.specs.Verdict.{IsRevisionOf, IsVerdict, IsWholeOf};
 ghost use Rattle.mtn_check_records.specs.Due.{IsFound, IsFoundUnder};
 ghost use Rattle.mtn_check_records.specs.Fitting.{AreAnswers, IsFitting};
 
@@ -9,7 +9,8 @@ use crate::hand::{Fit, JobAnswer, Position};
 use crate::sound::is_sound;
 use crate::text::is_under_id;
 use mtn_base::{Id, NoMemory};
-use mtn_check_pieces::{Agreed, CheckJob, Verdict, agreement};
+use mtn_changes::Revision;
+use mtn_check_pieces::{CheckJob, Verdict, revision_of, roster_of};
 use mtn_marking::MarkedRoster;
 use mtn_ports::Ident;
 use std::alloc::Global;
@@ -32,15 +33,17 @@ fn beside<I: Ident>(
     records_fit(alloc, position, job, stored)
 }
 
-// What is found of a position.
+// What is found of a position whose text and stored record spell this.
 fn found<I: Ident>(
     alloc: Global,
     ident: &I,
     position: &Position,
     job: &CheckJob,
-    agreed: &Agreed,
+    revision: &Revision,
+    stored: &MarkedRoster,
 ) -> Result<Fit, NoMemory>
-    requires { IsAgreed job.now agreed.now }
+    requires read { IsRevisionOf job.now.text revision.now }
+    requires spelled { IsWholeOf job.now.stored stored.now }
     ensures { IfOk result (IsFound (I.meaning ident.now) position.now job.now) }
 {
     if !is_under_id(ident, job) {
@@ -49,44 +52,48 @@ fn found<I: Ident>(
     if !position.held {
         return Ok(Fit::OtherText);
     }
-    let manifest = agreed.revision.manifest;
-    beside(alloc, ident, position, job, manifest, &agreed.stored)
+    beside(alloc, ident, position, job, revision.manifest, stored)
 }
 
 // Where the job of a position agrees, whether its records are those of the revision that its text makes, or which of them is the
-// first that is not; beside what its text and its stored record spell. `Undecided` is no answer where the position was read behind a
-// front.
+// first that is not. `Undecided` is no answer where the position was read behind a front.
 fn fits<I: Ident>(
     alloc: Global,
     ident: &I,
     position: &Position,
     job: &CheckJob,
-    agreed: &Agreed,
 ) -> Result<Fit, NoMemory>
-    requires { IsAgreed job.now agreed.now }
     ensures { IfOk result (IsFitting (I.meaning ident.now) position.now job.now) }
 {
-    found(alloc, ident, position, job, agreed)
+    let Some(revision) = revision_of(alloc, job.text.as_slice())? else {
+        return Ok(Fit::Undecided);
+    };
+    let Some(stored) = roster_of(alloc, &job.stored)? else {
+        return Ok(Fit::Undecided);
+    };
+    found(alloc, ident, position, job, &revision, &stored)
 }
 
-/// Both answers on a position. What its job spells is read and rebuilt once for both; then the text and the manifest are hashed once
-/// each. Beside the verdict it costs what walking over and numbering the stored roster, and a delta to it cost, and takes memory
-/// for these.
+/// Both answers on a position whose job has this verdict. Where it agrees, the text is read and the stored roster is rebuilt; then the
+/// text and the manifest are hashed once each. It costs what walking over and numbering the stored roster, and a delta to it cost, and
+/// takes memory for these.
 pub fn judge_one<I: Ident>(
     alloc: Global,
     ident: &I,
     position: &Position,
     job: &CheckJob,
+    verdict: Verdict,
 ) -> Result<JobAnswer, NoMemory>
+    requires { IsVerdict job.now verdict }
     ensures { IfOk result (AreAnswers (I.meaning ident.now) position.now job.now) }
 {
-    match agreement(alloc, job)? {
-        Some(agreed) => Ok(JobAnswer {
-            verdict: Verdict::Agrees,
-            fit: fits(alloc, ident, position, job, &agreed)?,
+    match verdict {
+        Verdict::Agrees => Ok(JobAnswer {
+            verdict,
+            fit: fits(alloc, ident, position, job)?,
         }),
-        None => Ok(JobAnswer {
-            verdict: Verdict::Differs,
+        Verdict::Differs => Ok(JobAnswer {
+            verdict,
             fit: Fit::Undecided,
         }),
     }

@@ -5,7 +5,8 @@ ghost use Rattle.mtn_check_records.specs.Fitting.{AnswersAll, AreAnswered};
 use crate::fit::judge_one;
 use crate::hand::{JobAnswer, Position};
 use mtn_base::NoMemory;
-use mtn_check_pieces::{CheckJob, MAX_PIECES};
+use mtn_check_pieces::{CheckJob, check_pieces};
+use mtn_pieces::{FreeGate, MAX_PIECES};
 use mtn_ports::Ident;
 use std::alloc::Global;
 use std::thread::{Threads, join};
@@ -13,8 +14,9 @@ use std::thread::{Threads, join};
 /// The most jobs of a lot.
 pub const MAX_JOBS: usize = 4;
 
-// Both answers on each position of a lot, one after the other.
-fn judge_lot<I: Ident>(
+// Both answers on each position of a lot: the verdicts of its jobs, and then what they leave. A lot stays on the thread of its piece.
+fn judge_lot<R: Threads + Sync, I: Ident>(
+    rt: &R,
     alloc: Global,
     ident: &I,
     positions: &[Position],
@@ -24,16 +26,19 @@ fn judge_lot<I: Ident>(
     ensures len { IfOk result (λ v. length v.items ≡ length jobs.now) }
     ensures answers { IfOk result (λ v. AreAnswered (I.meaning ident.now) positions.now jobs.now v.items) }
 {
+    let verdicts = check_pieces(rt, alloc, &FreeGate, 1, jobs)?;
     let mut answers = Vec::with_capacity(alloc, jobs.len())?;
     for (place, job) in jobs.iter().enumerate() {
-        answers.push(judge_one(alloc, ident, &positions[place], job)?)?;
+        let verdict = verdicts[place];
+        answers.push(judge_one(alloc, ident, &positions[place], job, verdict)?)?;
     }
     Ok(answers)
 }
 
 // The same of a piece, a lot behind the other.
 #[cycle(piece)]
-fn judge_piece<I: Ident>(
+fn judge_piece<R: Threads + Sync, I: Ident>(
+    rt: &R,
     alloc: Global,
     ident: &I,
     positions: &[Position],
@@ -43,18 +48,19 @@ fn judge_piece<I: Ident>(
     ensures { IfOk result (λ v. AnswersAll (I.meaning ident.now) positions.now jobs.now v.items) }
 {
     if jobs.len() <= MAX_JOBS {
-        return judge_lot(alloc, ident, positions, jobs);
+        return judge_lot(rt, alloc, ident, positions, jobs);
     }
     let (low, high) = positions.split_at(MAX_JOBS);
     let (left, right) = jobs.split_at(MAX_JOBS);
-    let mut answers = judge_lot(alloc, ident, low, left)?;
-    let mut more = judge_piece(alloc, ident, high, right)?;
+    let mut answers = judge_lot(rt, alloc, ident, low, left)?;
+    let mut more = judge_piece(rt, alloc, ident, high, right)?;
     answers.append(&mut more)?;
     Ok(answers)
 }
 
 // The same of one run, which has this number as a piece.
-fn judge_run<I: Ident>(
+fn judge_run<R: Threads + Sync, I: Ident>(
+    rt: &R,
     alloc: Global,
     ident: &I,
     piece: usize,
@@ -65,13 +71,13 @@ fn judge_run<I: Ident>(
     ensures { IfOk result (λ v. AnswersAll (I.meaning ident.now) positions.now jobs.now v.items) }
 {
     ident.pass(piece);
-    judge_piece(alloc, ident, positions, jobs)
+    judge_piece(rt, alloc, ident, positions, jobs)
 }
 
 // The same in so many runs, which are numbered from `piece`. No run is empty where there are as many jobs as runs. The first runs
-// on another thread and the others from this one, so that no thread shares the handle.
+// on another thread and the others from this one.
 #[cycle(runs)]
-fn judge_in_runs<R: Threads, I: Ident>(
+fn judge_in_runs<R: Threads + Sync, I: Ident>(
     rt: &R,
     alloc: Global,
     ident: &I,
@@ -85,7 +91,7 @@ fn judge_in_runs<R: Threads, I: Ident>(
     ensures { IfOk result (λ v. AnswersAll (I.meaning ident.now) positions.now jobs.now v.items) }
 {
     if runs < 2 {
-        return judge_run(alloc, ident, piece, positions, jobs);
+        return judge_run(rt, alloc, ident, piece, positions, jobs);
     }
     let size = jobs.len() / runs;
     let (low, high) = positions.split_at(size);
@@ -93,7 +99,7 @@ fn judge_in_runs<R: Threads, I: Ident>(
     let near = || -> Result<Vec<JobAnswer>, NoMemory>
         requires { length low.now ≡ length left.now }
         ensures { IfOk result (λ v. AnswersAll (I.meaning ident.entry.now) low.entry.now left.entry.now v.items) }
-    { judge_run(alloc, ident, piece, low, left) };
+    { judge_run(rt, alloc, ident, piece, low, left) };
     let far = || -> Result<Vec<JobAnswer>, NoMemory>
         requires { (length high.now ≡ length right.now) × (1 < runs) × (piece + runs < 2 ^ 64) }
         ensures { IfOk result (λ v. AnswersAll (I.meaning ident.entry.now) high.entry.now right.entry.now v.items) }
@@ -107,8 +113,8 @@ fn judge_in_runs<R: Threads, I: Ident>(
 
 /// Both answers on each position, in order, in at most so many pieces, each of which passes the ident. A number below 1 is taken as
 /// 1, one above [`MAX_PIECES`] as that. The positions are cut into as many runs as there are pieces, or positions where these are
-/// fewer; each run is a piece on a thread of its own, numbered from 0, and goes in lots of at most [`MAX_JOBS`] jobs. It takes memory
-/// for the answers, and for what each piece has at hand of one position.
+/// fewer; each run is a piece on a thread of its own, numbered from 0, and gives its jobs to [`check_pieces`] in lots of at most
+/// [`MAX_JOBS`]. It takes memory for the answers, and for what each piece has at hand of one position.
 pub fn judge_pieces<R: Threads + Sync, I: Ident>(
     rt: &R,
     alloc: Global,

@@ -125,8 +125,8 @@ fn found_in(
 }
 
 /// How many positions of a stretch are sound, up to the first that may not be, and the damage of that one where its job agrees. With
-/// more pieces than one they are judged in lots beside one another. It takes memory for the answers, and for what each lot has at hand
-/// of one position.
+/// more pieces than one they are judged in pieces beside one another. It takes memory for the answers, and for what each piece has at
+/// hand of one position.
 pub fn judge<R: Threads + Sync, I: Ident>(
     rt: &R,
     alloc: Global,

@@ -1,11 +1,11 @@
-//! Verdicts on stored rosters, and the records that jobs share.
+//! What a job's text and its records spell, and the records that jobs share.
 ghost use Rattle.std.specs.Prelude.{◌≡◌, IfOk};
-ghost use Rattle.mtn_check_pieces.specs.Verdict.{IsAgreed, IsOneOf, IsRevisionOf, IsWholeOf};
+ghost use Rattle.mtn_check_pieces.specs.Verdict.{IsOneOf, IsRevisionOf, IsWholeOf};
 ghost use Rattle.mtn_records.specs.declared.record.RosterRecord.TheVariants.{Whole};
 
 use mtn_base::NoMemory;
 use mtn_changes::Revision;
-use mtn_check_pieces::{Agreed, CheckJob, SharedEntries, SharedRecord};
+use mtn_check_pieces::{SharedEntries, SharedRecord};
 use mtn_marking::MarkedRoster;
 use mtn_records::{Numbered, RosterRecord};
 use std::alloc::Global;
@@ -64,11 +64,4 @@ pub fn as_numbered(shared: &SharedEntries) -> &Numbered
     ensures { result.now ≡ shared.now }
 {
     shared.as_numbered()
-}
-
-/// As `mtn_check_pieces::agreement`.
-pub fn agreement(alloc: Global, job: &CheckJob) -> Result<Option<Agreed>, NoMemory>
-    ensures { IfOk result (IsOneOf (IsAgreed job.now)) }
-{
-    mtn_check_pieces::agreement(alloc, job)
 }

@@ -1,6 +1,6 @@
 //! The records of a position beside a roster that agrees.
 ghost use Rattle.std.specs.Prelude.{◌≡◌, IfOk, length};
-ghost use Rattle.mtn_check_records.specs.Fitting.{AnswersAll, AreAnswers};
+ghost use Rattle.mtn_check_records.specs.Fitting.{AnswersAll};
 
 use mtn_base::NoMemory;
 use mtn_check_pieces::CheckJob;
@@ -8,18 +8,6 @@ use mtn_check_records::{JobAnswer, Position};
 use mtn_ports::Ident;
 use std::alloc::Global;
 use std::thread::Threads;
-
-/// As `mtn_check_records::judge_one`.
-pub fn judge_one<I: Ident>(
-    alloc: Global,
-    ident: &I,
-    position: &Position,
-    job: &CheckJob,
-) -> Result<JobAnswer, NoMemory>
-    ensures { IfOk result (AreAnswers (I.meaning ident.now) position.now job.now) }
-{
-    mtn_check_records::judge_one(alloc, ident, position, job)
-}
 
 /// As `mtn_check_records::judge_pieces`.
 pub fn judge_pieces<R: Threads + Sync, I: Ident>(

@@ -1,4 +1,7 @@
-// What each piece passes before its work.
+// How many pieces there may be, and what each passes before its work.
+
+/// The greatest number of pieces of a call.
+pub const MAX_PIECES: usize = 64;
 
 /// What each piece of work passes before it begins, with its number. It changes nothing that a contract sees, and takes no
 /// memory; a test may wait in it for another piece.

@@ -19,6 +19,6 @@ mod hashing;
 mod packets;
 mod sha1_many;
 
-pub use gate::{FreeGate, Gate};
+pub use gate::{FreeGate, Gate, MAX_PIECES};
 pub use packets::read_in_pieces;
 pub use sha1_many::Sha1Many;

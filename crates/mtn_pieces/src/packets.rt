@@ -5,14 +5,12 @@ ghost use Rattle.mtn_packets.specs.Packets.{ArePackets};
 ghost use Rattle.mtn_packets.specs.Faults.{IsError};
 ghost use Rattle.mtn_pieces.specs.Cuts.{EndsAtMark, FitsBehind, error_behind};
 
+use crate::MAX_PIECES;
 use memchr::memmem;
 use mtn_base::NoMemory;
 use mtn_packets::{Packet, PacketError, read_all};
 use std::alloc::Global;
 use std::thread::{Threads, join};
-
-// The greatest number of pieces.
-const MAX_PIECES: usize = 64;
 
 // The fewest bytes of an input for each of its pieces: fewer are not worth a thread.
 const MIN_PIECE: usize = 16384;

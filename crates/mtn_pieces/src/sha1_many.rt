@@ -5,14 +5,11 @@ ghost use Rattle.mtn_ports.specs.Ids.{sha1_makes_ids};
 ghost use Rattle.sha1.specs.Sha1.{sha1};
 
 use crate::hashing::ids_in_runs;
-use crate::{FreeGate, Gate};
+use crate::{FreeGate, Gate, MAX_PIECES};
 use mtn_base::{Id, NoMemory, Text};
 use mtn_ports::{Ident, Sha1One};
 use std::alloc::Global;
 use std::thread::Threads;
-
-// The greatest number of pieces.
-const MAX_PIECES: usize = 64;
 
 /// SHA-1, as FIPS 180-4 has it, of many texts in pieces on several threads. With a [`FreeGate`] it is an [`Ident`]; with any
 /// gate it has the same calls with the same clauses.
@@ -23,8 +20,8 @@ pub struct Sha1Many<G> {
 }
 
 impl<G: Gate> Sha1Many<G> {
-    /// Hashes in at most so many pieces, each of which passes the gate. A number below 1 is taken as 1, one above 64
-    /// as 64. It takes no memory.
+    /// Hashes in at most so many pieces, each of which passes the gate. A number below 1 is taken as 1, one above
+    /// [`MAX_PIECES`] as that. It takes no memory.
     pub fn new(gate: G, pieces: usize) -> Sha1Many<G>
         ensures gate { result.gate ≡ gate }
         ensures pieces { result.pieces ≡ min (max pieces 1) 64 }

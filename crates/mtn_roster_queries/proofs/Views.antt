@@ -13,7 +13,7 @@ use Rattle.mtn_history.specs.declared.errors.HistoryError.{HistoryError}
 use Rattle.mtn_history.specs.declared.errors.HistoryError.TheVariants.{Refused, Store}
 use Rattle.mtn_history.specs.Marked.{AreHeld, FindsRoster, FindsRosters, IsCounted}
 use Rattle.mtn_history.specs.declared.errors.StoreError.{StoreError}
-use Rattle.mtn_history.specs.declared.errors.StoreError.TheVariants.{Failed, Damaged, NoMemory}
+use Rattle.mtn_history.specs.declared.errors.StoreError.TheVariants.{Failed}
 use Rattle.mtn_history.specs.declared.pending.Pending.{Pending}
 use Rattle.mtn_history.specs.Damage.{IsDamage}
 use Rattle.mtn_history.specs.Errors.{IfDamage, IfStoreDamage}
@@ -84,17 +84,6 @@ module _ (h : List Revision) (at : ℕ) (path : List (List ℕ)) (marks : List �
 pub are_held : (told : Option Contents) (p : Pending) (marks : List ℕ) → ((f : List ℕ → List ℕ) (s : State) (d : IsFounded f told p s) (x : ℕ) → Contains marks x → x < length d.stands.history) → AreHeld told p marks
 are_held told p marks low f s d x c = subst (λ n. x < n) (sym (counted f told p s d)) (low f s d x c)
 
--- what has no damage
-sound_at : (c : Contents) (p : Pending) (e : HistoryError) → IfStoreDamage e (λ _. ⊥) → IfStoreDamage e (IsDamage (with_all c p.batch))
-sound_at c p (Refused cause) sound = tt
-sound_at c p (Store Failed) sound = tt
-sound_at c p (Store NoMemory) sound = tt
-sound_at c p (Store (Damaged d)) sound = absurd sound
-
-pub sound_error : {T : Type 0} (told : Option Contents) (p : Pending) (r : Result T HistoryError) (e : HistoryError) → r ≡ Err e → IfStoreDamage e (λ _. ⊥) → IfSome told (λ c. IsCounted p c → IfErr r (λ x. IfStoreDamage x (IsDamage (with_all c p.batch))))
-sound_error None p r e is sound = tt
-sound_error (Some c) p r e is sound = λ counts. subst (λ y. IfErr y (λ x. IfStoreDamage x (IsDamage (with_all c p.batch)))) (sym is) (sound_at c p e sound)
-
 pub not_failed : {T : Type 0} (r : Result T HistoryError) (e : HistoryError) → r ≡ Err e → (e ≡ Store Failed → ⊥) → r ≡ Err (Store Failed) → ⊥
 not_failed r e is never at = never (let same : e ≡ Store Failed = let t = sym is ∙ at in cc in same)
 
@@ -112,13 +101,6 @@ held_damage told p q marks r e is same known fact =
 -- an answer that is one, is another that is the same
 pub gives_same : (x y : TextAnswer) (r : Result (List ℕ) HistoryError) → x ≡ y → Gives (λ answer. answer ≡ x) r → Gives (λ answer. answer ≡ y) r
 gives_same x y r same gives = subst (λ z. Gives (λ answer. answer ≡ z) r) same gives
-
--- a damage of what is pending is one of what was pending before
-pub same_damage : {T : Type 0} (told : Option Contents) (p q : Pending) (r : Result T HistoryError) (e : HistoryError) → r ≡ Err e → q ≡ p → IfSome told (λ c. IsCounted q c → IfStoreDamage e (IsDamage (with_all c q.batch))) →
-    IfSome told (λ c. IsCounted p c → IfErr r (λ x. IfStoreDamage x (IsDamage (with_all c p.batch))))
-same_damage told p q r e is same fact =
-    subst (λ y. IfSome told (λ c. IsCounted p c → IfErr y (λ x. IfStoreDamage x (IsDamage (with_all c p.batch))))) (sym is)
-    (subst (λ (z : Pending). IfSome told (λ c. IsCounted z c → IfStoreDamage e (IsDamage (with_all c z.batch)))) same fact)
 
 -- where both revisions stand
 module _ (h : List Revision) (id other : Id) (path : List (List ℕ)) where

@@ -7,6 +7,5 @@ use Rattle.mtn_check_records.proofs.fit.found.Goals as goal
 pub returns : goal.returns
 returns g c =
     let f = g.I.Ident.meaning c.args.ident.now in
-    let read = c.args.agreed.now.revision in
     let under = c.is_under_id.ensures.0 (search rules) in
-    ok_then c.beside.result _ _ (λ fit is. found_all f c.args.position.now c.args.job.now read under c.requires.read (search rules) fit is) c.beside.ensures
+    ok_then c.beside.result _ _ (λ fit is. found_all f c.args.position.now c.args.job.now c.args.revision.now under c.requires.read (search rules) fit is) c.beside.ensures

@@ -8,7 +8,7 @@ use Rattle.mtn_history.specs.declared.errors.HistoryError.TheVariants.{Store}
 use Rattle.mtn_put_revision.proofs.Deciding.{error_damage}
 use Rattle.mtn_merge.specs.Plans.{IsMadeOf, outcomes}
 use Rattle.mtn_plans.specs.Plans.{Ends}
-use Rattle.mtn_merge.proofs.Damaging.{sound_result}
+use Rattle.mtn_history.proofs.Sound.{sound_result}
 use Rattle.mtn_merge.proofs.Plans.{clear_kept, conflicted, gives_map, made}
 use Rattle.mtn_merge.proofs.planning.ends.Goals as goal
 

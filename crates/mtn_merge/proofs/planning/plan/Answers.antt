@@ -17,7 +17,8 @@ use Rattle.mtn_history.specs.declared.errors.HistoryError.{HistoryError}
 use Rattle.mtn_merge.proofs.Trees.{plain_tree, tree_is_planned}
 use Rattle.mtn_merge.specs.declared.answer.Planned.{Planned}
 use Rattle.mtn_merge.specs.declared.sides.Side.{Side}
-use Rattle.mtn_merge.proofs.Damaging.{kept_damage, sound_error}
+use Rattle.mtn_history.proofs.Sound.{sound_error}
+use Rattle.mtn_merge.proofs.Damaging.{kept_damage}
 use Rattle.mtn_merge.proofs.Hanging.{Settles, found_dirs, settled_dirs}
 use Rattle.mtn_merge.proofs.Plans.{none_of, not_resolved, resolved, sides_refused, unresolved}
 use Rattle.mtn_merge.proofs.planning.plan.Goals as goal

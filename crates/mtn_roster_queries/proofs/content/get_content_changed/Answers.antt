@@ -12,7 +12,8 @@ use Rattle.mtn_base.specs.Ids.{in_id_order}
 use Rattle.mtn_base.proofs.IdOrder.{in_order_ascends, in_order_same}
 use Rattle.mtn_roster_queries.specs.Answers.{Gives}
 use Rattle.mtn_answers.specs.Views.{IsContentChanged, IsContentIn, marks_text}
-use Rattle.mtn_roster_queries.proofs.Views.{not_found, no_content_marks, content_changed, marks_held, are_held, sound_error, not_failed, held_damage}
+use Rattle.mtn_history.proofs.Sound.{sound_error}
+use Rattle.mtn_roster_queries.proofs.Views.{not_found, no_content_marks, content_changed, marks_held, are_held, not_failed, held_damage}
 use Rattle.mtn_roster_queries.proofs.content.get_content_changed.Goals as goal
 
 pub returns-in_err-at-clause-found : goal.returns-in_err-at-clause-found
