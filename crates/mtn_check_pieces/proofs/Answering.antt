@@ -1,6 +1,7 @@
 -- What the steps of a verdict answer.
+use Rattle.std.specs.Prelude.{is_some}
 use Rattle.std.specs.List.{AllZip}
-use Rattle.std.proofs.Common.{◌≡◌, ◌≢◌, ℕ, ◌≤◌, List, [], ◌∷◌, length, Option, Some, None, refl, sym, ◌∙◌, subst, arith}
+use Rattle.std.proofs.Common.{◌≡◌, ◌≢◌, false, ℕ, ◌≤◌, List, [], ◌∷◌, length, Option, Some, None, refl, sym, ◌∙◌, subst, arith}
 use Rattle.mtn_changes.specs.declared.change.Edge.{Edge}
 use Rattle.mtn_changes.specs.declared.change.Revision.{Revision}
 use Rattle.mtn_changes.specs.declared.error.ChangeTextError.{ChangeTextError}
@@ -103,9 +104,6 @@ module _ (job : CheckJob) (revision : Revision) (read : IsRevisionOf job.text re
   only_read g = same_revision job.text g.revision revision g.read.ids read.ids g.read.spelled read.spelled
 
   -- where nothing is stored, the job differs
-  pub none_agrees : (o : Option MarkedTree) → o ≡ None → IsOneOf (IsStoredWith job revision.edges job.parents) o → IsAgreeing job → ⊥
-  none_agrees o none one g =
-      none_at (IsStoredWith job revision.edges job.parents) o none one g.stored (subst (λ (r : Revision). IsStoredWith job r.edges job.parents g.stored) (only_read g) (g.spelled, g.made))
-
-  pub agrees : (o : Option MarkedTree) (stored : MarkedTree) → o ≡ Some stored → IsOneOf (IsStoredWith job revision.edges job.parents) o → IsAgreeing job
-  agrees o stored is one = let h = some_at (IsStoredWith job revision.edges job.parents) o stored is one in record { revision = revision; read = read; stored = stored; spelled = h.0; made = h.1 }
+  pub differs : (o : Option MarkedTree) → is_some o ≡ false → IsOneOf (IsStoredWith job revision.edges job.parents) o → IsAgreeing job → ⊥
+  differs None is one g = one g.stored (subst (λ (r : Revision). IsStoredWith job r.edges job.parents g.stored) (only_read g) (g.spelled, g.made))
+  differs (Some stored) is one g = absurd cc

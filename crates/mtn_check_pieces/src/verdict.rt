@@ -183,8 +183,9 @@ pub fn check_one(alloc: Global, job: &CheckJob) -> Result<Verdict, NoMemory>
     let Some(revision) = revision_of(alloc, job.text.as_slice())? else {
         return Ok(Verdict::Differs);
     };
-    match over_parents(alloc, job, revision.edges.as_slice())? {
-        Some(_stored) => Ok(Verdict::Agrees),
-        None => Ok(Verdict::Differs),
+    if over_parents(alloc, job, revision.edges.as_slice())?.is_some() {
+        Ok(Verdict::Agrees)
+    } else {
+        Ok(Verdict::Differs)
     }
 }
