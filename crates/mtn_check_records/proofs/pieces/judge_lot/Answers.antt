@@ -1,8 +1,15 @@
--- One answer more each time.
+-- The verdict on each job stands at its place; one answer more each time.
 use Rattle.std.proofs.Common.{◌∷◌, [], length, ap, arith}
 use Rattle.std.proofs.lemmas.List.{length-append}
-use Rattle.mtn_check_records.proofs.Answers.{answered_more}
+use Rattle.mtn_check_records.proofs.Answers.{answered_more, as_many, verdict_on}
 use Rattle.mtn_check_records.proofs.pieces.judge_lot.Goals as goal
+
+pub index-verdict-requires : goal.index-verdict-requires
+index-verdict-requires g c = let many = as_many c.args.jobs.now c.in_ok-verdicts.verdicts.items c.in_ok-verdicts.ensures in let lt = c.loop-place-test.true in omega (arith, many, lt)
+
+pub judge_one-requires-after_bounds : goal.judge_one-requires-after_bounds
+judge_one-requires-after_bounds g c κs within =
+    verdict_on c.args.jobs.now c.in_ok-verdicts.verdicts.items c.loop-place.place c.index-jobs-place.result c.index-verdict.result.now c.in_ok-verdicts.ensures c.loop-place-test.true c.index-jobs-place.is c.index-verdict.ensures
 
 pub loop-place-preserved : goal.loop-place-preserved
 loop-place-preserved g c = record {
