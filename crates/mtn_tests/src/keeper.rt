@@ -1,43 +1,16 @@
-ghost use Rattle.std.specs.Prelude.{◌<◌, length, IsTrue, IfOk};
-ghost use Rattle.sqlite_disk.specs.Memory.{memory_is_usable};
+ghost use Rattle.std.specs.Prelude.{◌<◌, length};
 
 use mtn_keeper::{LazyKeeper, Opener, SqliteKeeper};
 use mtn_ports::{Batch, KeepError, Keeper};
-use sqlite::{Connection, Error, FileStore, Files, MemStore, Options};
-use sqlite_disk::Memory;
+use sqlite::{Connection, Error, MemStore};
 use std::alloc::Global;
 use std::test::Fail;
-
-type FileKeeper = SqliteKeeper<FileStore<Memory>>;
 
 // What was done, where the tests have no more to say of a failure.
 fn done<T, E: Drop>(ended: Result<T, E>) -> Result<T, &'static str> {
     match ended {
         Ok(value) => Ok(value),
         Err(_) => Err("a call on a keeper failed"),
-    }
-}
-
-// These say little, so that the proof of a test does not carry the state of each call.
-fn open(alloc: Global, db: Memory) -> Result<Connection<FileStore<Memory>>, Error>
-    requires { IsTrue (memory_is_usable db) }
-{
-    let log = Memory::new(alloc);
-    match Connection::open_files(alloc, Files { log, db }, Options::new(1)) {
-        Ok(connection) => Ok(connection),
-        Err((error, _)) => Err(error),
-    }
-}
-
-fn close(keeper: FileKeeper) -> Result<Memory, Error>
-    ensures { IfOk result (λ db. IsTrue (memory_is_usable db)) }
-{
-    match keeper.into_connection().close_files() {
-        Ok(Files { log: _, db }) => Ok(db),
-        Err((error, store)) => {
-            drop(store.close());
-            Err(error)
-        }
     }
 }
 
@@ -89,24 +62,6 @@ fn ends<K: Keeper>(
 ) -> Result<bool, KeepError> {
     let mut next = Vec::new(alloc);
     Ok(!keeper.next(table, after, &mut next)?)
-}
-
-// A database with one record, closed.
-fn closed(alloc: Global) -> Result<Memory, Fail>
-    ensures { IfOk result (λ db. IsTrue (memory_is_usable db)) }
-{
-    let mut keeper = done(SqliteKeeper::new(open(alloc, Memory::new(alloc))?))?;
-    done(put(alloc, &mut keeper, 2, b"key", b"abc"))?;
-    Ok(close(keeper)?)
-}
-
-#[test]
-fn a_closed_database_has_its_record_again(rt: HostRuntime) -> Result<(), Fail> {
-    let alloc = rt.alloc();
-    let db = closed(alloc)?;
-    let mut again = done(SqliteKeeper::new(open(alloc, db)?))?;
-    assert!(rt; done(has(alloc, &mut again, 2, b"key", b"abc"))?);
-    Ok(())
 }
 
 // Puts records by two batches, some of them over others.
