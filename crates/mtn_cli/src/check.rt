@@ -22,7 +22,7 @@ use mtn_store_laws::one_state;
 use std::alloc::Global;
 use std::thread::Threads;
 
-// In how many pieces the jobs of a check are worked on, where there are so few that lots of four would be fewer.
+// In how many pieces the positions of a check are judged.
 const PIECES: usize = 4;
 
 // The answer of a check that finds no damage.
