@@ -16,9 +16,6 @@ use mtn_ports::Keeper;
 use mtn_records::RosterRecord;
 use std::alloc::Global;
 
-/// The most positions of a stretch: sixty-four lots of four jobs, so that threads wait for one another but once in so many.
-const MAX_POSITIONS: u64 = 256;
-
 /// The most nodes of a stretch with more than one position: of the stored rosters and their parents'.
 const MAX_NODES: u64 = 300_000;
 
@@ -112,7 +109,7 @@ fn add(stretch: &mut Stretch, hands: &mut Hands, at: u64, read: Read) -> Result<
     Ok(())
 }
 
-/// The positions from one on, read with what is at hand of those below, which then has them too: at most 256, below `count`, and
+/// The positions from one on, read with what is at hand of those below, which then has them too: at most so many, below `count`, and
 /// of rosters with at most 300,000 nodes together where they are more than one. It ends before a position at which a record is
 /// missing or bad, or a content that the text brings is not held; so there may be none. `Failed` where the keeper failed and
 /// `NoMemory` where memory was wanting, and no other error: then some may be at hand that were read.
@@ -122,11 +119,13 @@ pub fn load_stretch<K: Keeper>(
     hands: &mut Hands,
     from: u64,
     count: u64,
+    most: u64,
 ) -> Result<Stretch, StoreError>
     requires none { NoneFrom from hands.old }
     ensures stays { Stays K.contents K.leaves K.faults keeper.old keeper.new }
     ensures long { IfOk result (λ stretch. length stretch.positions.items ≡ length stretch.jobs.items) }
     ensures within { from ≤ count → IfOk result (λ stretch. from + length stretch.jobs.items ≤ count) }
+    ensures few { IfOk result (λ stretch. length stretch.jobs.items ≤ most) }
     ensures none { IfOk result (λ stretch. NoneFrom (from + length stretch.jobs.items) hands.new) }
     ensures read { IfSome (K.contents keeper.new) (λ c. IfOk result (λ stretch. AreRead c from hands.old stretch.positions.items stretch.jobs.items hands.new)) }
     ensures sound { IfErr result (λ e. IfDamage e (λ _. ⊥)) }
@@ -141,7 +140,7 @@ pub fn load_stretch<K: Keeper>(
         nodes: 0,
         last: 0,
     };
-    for at in from..count.min(from.saturating_add(MAX_POSITIONS)) {
+    for at in from..count.min(from.saturating_add(most)) {
         let Some(read) = read_more(alloc, keeper, hands, at, taken)? else {
             return Ok(stretch);
         };

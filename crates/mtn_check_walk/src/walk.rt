@@ -20,6 +20,12 @@ use mtn_ports::{Ident, Keeper};
 use std::alloc::Global;
 use std::thread::{Threads, join_mut};
 
+// The most positions of the first stretch, which is read with nothing judged beside it. The next may have twice as many, and so on.
+const FIRST_POSITIONS: u64 = 32;
+
+// The most positions of any: sixty-four lots of four jobs, so that threads wait for one another but once in so many.
+const MAX_POSITIONS: u64 = 256;
+
 /// A walk that stands at a position, with the stretch that was read there, and what is at hand behind that.
 #[derive(Drop)]
 pub struct Walk {
@@ -54,7 +60,7 @@ fn begin_at<I: Ident, K: Keeper>(
 {
     let _ = ident;
     let mut hands = Hands::new(alloc);
-    let stretch = load_stretch(alloc, keeper, &mut hands, at, count)?;
+    let stretch = load_stretch(alloc, keeper, &mut hands, at, count, FIRST_POSITIONS)?;
     Ok(Walk { at, stretch, hands })
 }
 
@@ -66,6 +72,7 @@ fn read_and_go<K: Keeper, E: Errand>(
     hands: &mut Hands,
     from: u64,
     count: u64,
+    most: u64,
 ) -> Result<Stretch, StoreError>
     requires none { NoneFrom from hands.old }
     requires within { from ≤ count }
@@ -79,9 +86,15 @@ fn read_and_go<K: Keeper, E: Errand>(
     ensures sound { IfErr result (λ e. IfDamage e (λ _. ⊥)) }
     ensures failed { result ≡ Err StoreError.Failed → Rose (K.faults keeper.old) (K.faults keeper.new) }
 {
-    let stretch = load_stretch(alloc, keeper, hands, from, count)?;
+    let stretch = load_stretch(alloc, keeper, hands, from, count, most)?;
     errand.go(alloc, count, keeper)?;
     Ok(stretch)
+}
+
+// How many positions the stretch behind one may have.
+fn most_behind(stretch: &Stretch) -> u64 {
+    let len = stretch.jobs.len() as u64;
+    len.saturating_add(len).min(MAX_POSITIONS)
 }
 
 // Judges a stretch, and reads the one behind it; with more pieces than one beside each other.
@@ -104,11 +117,12 @@ fn judge_and_read<R: Threads + Sync, I: Ident, K: Keeper, E: Errand>(
     ensures judged { IfOk result.0 (IsJudged (I.meaning ident.now) stretch.now) }
     ensures next { IsNextStretch K.contents K.leaves K.faults (E.holds errand.new count) from count keeper.old keeper.new hands.old hands.new result.1 }
 {
+    let most = most_behind(stretch);
     if pieces < 2 {
         let judged = judge(rt, alloc, ident, pieces, stretch);
         return (
             judged,
-            read_and_go(alloc, keeper, errand, hands, from, count),
+            read_and_go(alloc, keeper, errand, hands, from, count, most),
         );
     }
     join_mut(
@@ -120,7 +134,7 @@ fn judge_and_read<R: Threads + Sync, I: Ident, K: Keeper, E: Errand>(
         &mut || -> Result<Stretch, StoreError>
             requires { NoneFrom from hands.now × (from ≤ count) × IfSome (K.contents keeper.now) (E.holds errand.now count) }
             ensures { IsNextStretch K.contents K.leaves K.faults (E.holds errand.exit.now count) from count keeper.entry.now keeper.exit.now hands.entry.now hands.exit.now result }
-        { read_and_go(alloc, keeper, errand, hands, from, count) },
+        { read_and_go(alloc, keeper, errand, hands, from, count, most) },
     )
 }
 

@@ -43,15 +43,17 @@ pub fn load_stretch<K: Keeper>(
     hands: &mut Hands,
     from: u64,
     count: u64,
+    most: u64,
 ) -> Result<Stretch, StoreError>
     requires none { NoneFrom from hands.old }
     ensures stays { Stays K.contents K.leaves K.faults keeper.old keeper.new }
     ensures long { IfOk result (λ stretch. length stretch.positions.items ≡ length stretch.jobs.items) }
     ensures within { from ≤ count → IfOk result (λ stretch. from + length stretch.jobs.items ≤ count) }
+    ensures few { IfOk result (λ stretch. length stretch.jobs.items ≤ most) }
     ensures none { IfOk result (λ stretch. NoneFrom (from + length stretch.jobs.items) hands.new) }
     ensures read { IfSome (K.contents keeper.new) (λ c. IfOk result (λ stretch. AreRead c from hands.old stretch.positions.items stretch.jobs.items hands.new)) }
     ensures sound { IfErr result (λ e. IfDamage e (λ _. ⊥)) }
     ensures failed { result ≡ Err StoreError.Failed → Rose (K.faults keeper.old) (K.faults keeper.new) }
 {
-    mtn_check_hands::load_stretch(alloc, keeper, hands, from, count)
+    mtn_check_hands::load_stretch(alloc, keeper, hands, from, count, most)
 }

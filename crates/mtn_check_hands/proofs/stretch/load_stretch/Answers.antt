@@ -1,4 +1,4 @@
-use Rattle.std.proofs.Common.{◌<◌, sym, subst}
+use Rattle.std.proofs.Common.{◌<◌, arith, sym, subst}
 use Rattle.std.specs.Prelude.{IfSome}
 use Rattle.mtn_ports.proofs.KeptLemmas.{stays_trans}
 use Rattle.mtn_check_hands.specs.Hands.{IsHandRead}
@@ -15,6 +15,8 @@ loop-at-preserved g c =
       stays = stays_trans g.K.Keeper.contents g.K.Keeper.leaves g.K.Keeper.faults _ _ _ c.loop-at.invariant.stays c.read_more.ensures.stays;
       same = both_longer c.loop-at.stretch.positions.items _ c.loop-at.stretch.jobs.items _ c.in-Some.read.position c.in-Some.read.job c.in_ok-add.ensures.positions c.in_ok-add.ensures.jobs c.loop-at.invariant.same;
       long = one_longer c.args.from c.loop-at.at c.loop-at.stretch.jobs.items _ c.in-Some.read.job c.in_ok-add.ensures.jobs c.loop-at.invariant.long;
+      few = (let longer = one_longer c.args.from c.loop-at.at c.loop-at.stretch.jobs.items _ c.in-Some.read.job c.in_ok-add.ensures.jobs c.loop-at.invariant.long in let under = c.loop-at-test.true in let least = c.min-at-end.ensures in
+          let sum = c.saturating_add.ensures in omega (arith, longer, under, least, sum));
       none = none_more c.loop-at.at c.loop-at.hands c.add.new.hands c.in-Some.read.hand c.loop-at.invariant.none c.in_ok-add.ensures.hands;
       read = told_more (g.K.Keeper.contents c.loop-at.keeper) told c.args.from c.loop-at.at c.args.hands.now c.loop-at.hands c.add.new.hands c.loop-at.stretch.positions.items _ c.loop-at.stretch.jobs.items _ c.in-Some.read
           c.read_more.ensures.stays.same c.loop-at.invariant.same c.loop-at.invariant.long c.in_ok-add.ensures.positions c.in_ok-add.ensures.jobs c.loop-at.invariant.none c.in_ok-add.ensures.hands hand c.loop-at.invariant.read found;

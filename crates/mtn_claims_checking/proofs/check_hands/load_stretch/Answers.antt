@@ -10,6 +10,9 @@ returns-clause-long g c = search rules
 pub returns-clause-within : goal.returns-clause-within
 returns-clause-within g c = search rules
 
+pub returns-clause-few : goal.returns-clause-few
+returns-clause-few g c = search rules
+
 pub returns-clause-none : goal.returns-clause-none
 returns-clause-none g c = search rules
 
