@@ -1,12 +1,13 @@
 -- What is found of the positions of a stretch, one after the other.
-use Rattle.std.specs.Prelude.{IfSome, slice_index_or}
-use Rattle.std.proofs.Common.{◌≡◌, ◌≢◌, ◌≤◌, ◌<◌, ℕ, List, length, get_or, Option, Some, None, sym, ap, ◌∙◌, subst}
+use Rattle.std.specs.Prelude.{IfOk, IfSome, MatchResult, slice_index_or}
+use Rattle.std.proofs.Common.{◌≡◌, ◌≢◌, ◌≤◌, ◌<◌, ◌++◌, ℕ, List, length, get_or, Option, Some, None, Result, Ok, Err, sym, ap, ◌∙◌, subst}
 use Rattle.std.proofs.lemmas.List.{get_or_default}
 use Rattle.mtn_check_laws.specs.FirstDamage.{IsDamageAt}
 use Rattle.mtn_check_pieces.specs.Verdict.{IsAgreeing, IsVerdict}
 use Rattle.mtn_check_pieces.specs.declared.job.CheckJob.{CheckJob}
 use Rattle.mtn_check_pieces.specs.declared.job.Verdict.TheVariants.{Agrees}
-use Rattle.mtn_check_records.specs.Fitting.{AreAnswered, IsFitting, Shows}
+use Rattle.mtn_check_records.proofs.Answers.{both_answered}
+use Rattle.mtn_check_records.specs.Fitting.{AnswersAll, AreAnswered, IsFitting, Shows}
 use Rattle.mtn_check_records.specs.declared.hand.JobAnswer.{JobAnswer}
 use Rattle.mtn_check_records.specs.declared.hand.Fit.TheVariants.{Fits}
 use Rattle.mtn_check_records.specs.declared.hand.Position.{Position}
@@ -63,3 +64,12 @@ judged f stretch xs ys jobs js answers bs j is_xs is_ys is_jobs is_js is_bs answ
       shown = subst (λ l. IfSome j.damage (IsShown f l stretch.jobs.items j.sound)) is_ys (subst (λ l. IfSome j.damage (IsShown f ys l j.sound)) is_js (shown f a));
       failed = failed;
     }
+
+-- where there are answers on all, there are those on both parts
+pub both_parts : {V E : Type 0} (items : V → List JobAnswer) (f : List ℕ → List ℕ) (all xs ys : List Position) (whole jobs js : List CheckJob) (front rest answers : Result V E) → all ≡ xs ++ ys → whole ≡ jobs ++ js → length xs ≡ length jobs →
+    IfOk front (λ v. AnswersAll f xs jobs (items v)) → IfOk rest (λ v. AnswersAll f ys js (items v)) →
+    IfOk answers (λ v. MatchResult front (λ a. MatchResult rest (λ b. items v ≡ items a ++ items b) (λ _. ⊥)) (λ _. ⊥)) → IfOk answers (λ v. AnswersAll f all whole (items v))
+both_parts items f all xs ys whole jobs js front rest (Err e) is_all is_whole same left right is = tt
+both_parts items f all xs ys whole jobs js (Err e) rest (Ok v) is_all is_whole same left right is = absurd is
+both_parts items f all xs ys whole jobs js (Ok a) (Err e) (Ok v) is_all is_whole same left right is = absurd is
+both_parts items f all xs ys whole jobs js (Ok a) (Ok b) (Ok v) is_all is_whole same left right is = both_answered f all xs ys whole jobs js (items v) (items a) (items b) is_all is_whole is same left right

@@ -5,7 +5,7 @@ ghost use Rattle.mtn_records.specs.Fields.{number_text};
 ghost use Rattle.mtn_check_pieces.specs.Verdict.{IsAgreeing};
 ghost use Rattle.mtn_check_pieces.specs.declared.job.CheckJob.{CheckJob as Job};
 ghost use Rattle.mtn_check_records.specs.declared.hand.Position.{Position as At};
-ghost use Rattle.mtn_check_records.specs.Fitting.{AreAnswered, IsFitting};
+ghost use Rattle.mtn_check_records.specs.Fitting.{AnswersAll, AreAnswered, IsFitting};
 ghost use Rattle.mtn_check_walk.specs.Stretches.{AreSound, Damages, IsShown};
 ghost use Rattle.mtn_check_walk.specs.Judging.{IsJudged};
 
@@ -13,11 +13,10 @@ use mtn_base::NoMemory;
 use mtn_check_hands::Stretch;
 use mtn_check_log::bad;
 use mtn_check_pieces::{CheckJob, Verdict};
-use mtn_check_records::{Fit, JobAnswer, Position, judge_pieces};
+use mtn_check_records::{Fit, JobAnswer, Position};
 use mtn_history::{Damage, LOG, ROSTERS, StoreError, TEXTS};
 use mtn_ports::Ident;
 use std::alloc::Global;
-use std::thread::Threads;
 
 /// What is found of a stretch: how many positions are sound, from its first on; and the damage of the one behind them, where the answers
 /// on it tell it.
@@ -124,19 +123,19 @@ fn found_in(
     Judged { sound, damage }
 }
 
-/// How many positions of a stretch are sound, up to the first that may not be, and the damage of that one where its job agrees. With
-/// more pieces than one they are judged in pieces beside one another. It takes memory for the answers, and for what each piece has at
-/// hand of one position.
-pub fn judge<R: Threads + Sync, I: Ident>(
-    rt: &R,
+/// How many positions of a stretch are sound, up to the first that may not be, and the damage of that one where its job agrees, by the
+/// answers on all of them, if there was memory for these.
+pub fn tell<I: Ident>(
     alloc: Global,
     ident: &I,
-    pieces: usize,
     stretch: &Stretch,
+    answers: Result<Vec<JobAnswer>, NoMemory>,
 ) -> Result<Judged, NoMemory>
     requires same { length stretch.now.positions.items ≡ length stretch.now.jobs.items }
+    requires answers { IfOk answers (λ v. AnswersAll (I.meaning ident.now) stretch.now.positions.items stretch.now.jobs.items v.items) }
     ensures { IfOk result (IsJudged (I.meaning ident.now) stretch.now) }
 {
-    let answers = judge_pieces(rt, alloc, ident, pieces, &stretch.positions, &stretch.jobs)?;
+    let _ = ident;
+    let answers = answers?;
     Ok(found_in(alloc, &stretch.positions, &stretch.jobs, &answers))
 }

@@ -2,8 +2,8 @@
 //!
 //! A *job* is one stored roster beside the text of its revision and its parents' rosters (`mtn_check_pieces`). A position is *sound*
 //! where its job agrees and the rest of its records fit (`mtn_check_records`). Neither asks the keeper, nor for an order, so that
-//! jobs are judged in pieces beside one another, which have the verdicts in *lots* of at most four. The positions of sixty-four lots
-//! are read together, one behind the other with the rosters at hand (`mtn_check_hands`): this is a *stretch*. While it is judged the
+//! jobs are judged in pieces beside one another, which have the verdicts in *lots* of at most four. The positions of some lots are read
+//! together, one behind the other with the rosters at hand (`mtn_check_hands`): this is a *stretch*. While it is judged the
 //! next one is read, and a step of an errand is done ([`Errand`]).
 //!
 //! [`walk_jobs`] answers what `mtn_check_log::walk_log` answers, for every number of pieces. It relies on this: behind the front of

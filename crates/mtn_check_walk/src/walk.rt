@@ -1,21 +1,25 @@
 // The walk along the log, in stretches.
-ghost use Rattle.std.specs.Prelude.{◌≡◌, ◌<◌, ◌≤◌, ◌+◌, ℕ, Err, IfErr, IfOk, IfSome, OnOk, length};
+ghost use Rattle.std.specs.Prelude.{◌≡◌, ◌<◌, ◌≤◌, ◌+◌, ◌++◌, ◌^◌, ℕ, Err, IfErr, IfOk, IfSome, MatchResult, OnOk, length};
 ghost use Rattle.mtn_ports.specs.Causes.{Rose};
 ghost use Rattle.mtn_ports.specs.Kept.{Stays};
 ghost use Rattle.mtn_history.specs.Errors.{IfDamage};
 ghost use Rattle.mtn_check_laws.specs.FirstDamage.{IsBegun, IsDamageAt};
 ghost use Rattle.mtn_check_laws.specs.Fronts.{Front, IsFrontAt};
 ghost use Rattle.mtn_check_log.specs.Positions.{IsFirstIn, IsWalkedTo};
+ghost use Rattle.mtn_check_records.specs.Fitting.{AnswersAll};
 ghost use Rattle.mtn_check_walk.specs.Walks.{IsLaidOut, IsNextStretch, IsReadBehind};
 ghost use Rattle.mtn_check_walk.specs.Judging.{IsJudged};
 ghost use Rattle.mtn_check_hands.specs.Hands.{AreRead, NoneFrom};
 
 use crate::Errand;
-use crate::judging::{Judged, judge};
+use crate::judging::{Judged, tell};
 use mtn_base::NoMemory;
 use mtn_check_hands::{Hands, Stretch, load_stretch};
 use mtn_check_log::walk_from;
+use mtn_check_pieces::CheckJob;
+use mtn_check_records::{JobAnswer, Position, judge_run};
 use mtn_history::StoreError;
+use mtn_pieces::MAX_PIECES;
 use mtn_ports::{Ident, Keeper};
 use std::alloc::Global;
 use std::thread::{Threads, join_mut};
@@ -97,7 +101,104 @@ fn most_behind(stretch: &Stretch) -> u64 {
     len.saturating_add(len).min(MAX_POSITIONS)
 }
 
-// Judges a stretch, and reads the one behind it; with more pieces than one beside each other.
+// How many positions of a stretch the thread that reads judges as well, as one of so many pieces: an equal share, or half of one where
+// there is more to read.
+fn own_share(pieces: usize, positions: usize, reads: bool) -> usize
+    requires { 0 < pieces }
+    ensures { result ≤ positions }
+{
+    let share = positions / pieces;
+    if reads { share / 2 } else { share }
+}
+
+// The answers on some positions, and behind them those on others.
+fn in_a_row(
+    front: Result<Vec<JobAnswer>, NoMemory>,
+    rest: Result<Vec<JobAnswer>, NoMemory>,
+) -> Result<Vec<JobAnswer>, NoMemory>
+    ensures { IfOk result (λ v. MatchResult front (λ a. MatchResult rest (λ b. v.items ≡ a.items ++ b.items) (λ _. ⊥)) (λ _. ⊥)) }
+{
+    let mut answers = front?;
+    let mut more = rest?;
+    answers.append(&mut more)?;
+    Ok(answers)
+}
+
+// Judges some positions, and reads the stretch behind them, with a step of an errand. So many runs are pieces on threads of their own,
+// numbered from `piece`; this thread begins them all, since threads that others begin share processors with these for a while. Then it
+// reads, and judges so many positions of its own, or what the runs leave, as the last piece.
+#[cycle(beside)]
+fn judge_beside<R: Threads + Sync, I: Ident, K: Keeper, E: Errand>(
+    rt: &R,
+    alloc: Global,
+    ident: &I,
+    piece: usize,
+    runs: usize,
+    own: usize,
+    positions: &[Position],
+    jobs: &[CheckJob],
+    keeper: &mut K,
+    errand: &mut E,
+    hands: &mut Hands,
+    from: u64,
+    count: u64,
+    most: u64,
+) -> (
+    Result<Vec<JobAnswer>, NoMemory>,
+    Result<Stretch, StoreError>,
+)
+    requires same { length positions.now ≡ length jobs.now }
+    requires own { own ≤ length jobs.now }
+    requires pieces { piece + runs < 2 ^ 64 }
+    requires none { NoneFrom from hands.old }
+    requires within { from ≤ count }
+    requires held { IfSome (K.contents keeper.old) (E.holds errand.old count) }
+    ensures answers { IfOk result.0 (λ v. AnswersAll (I.meaning ident.now) positions.now jobs.now v.items) }
+    ensures next { IsNextStretch K.contents K.leaves K.faults (E.holds errand.new count) from count keeper.old keeper.new hands.old hands.new result.1 }
+{
+    if runs == 0 {
+        let next = read_and_go(alloc, keeper, errand, hands, from, count, most);
+        return (judge_run(rt, alloc, ident, piece, positions, jobs), next);
+    }
+    let size = (jobs.len() - own) / runs;
+    let (low, high) = positions.split_at(size);
+    let (left, right) = jobs.split_at(size);
+    let (front, (rest, next)) = join_mut(
+        rt,
+        &mut || -> Result<Vec<JobAnswer>, NoMemory>
+            requires { length low.now ≡ length left.now }
+            ensures { IfOk result (λ v. AnswersAll (I.meaning ident.entry.now) low.entry.now left.entry.now v.items) }
+        { judge_run(rt, alloc, ident, piece, low, left) },
+        &mut || -> (
+            Result<Vec<JobAnswer>, NoMemory>,
+            Result<Stretch, StoreError>,
+        )
+            requires { (length high.now ≡ length right.now) × (own ≤ length right.now) × (0 < runs) × (piece + runs < 2 ^ 64) × NoneFrom from hands.now × (from ≤ count) × IfSome (K.contents keeper.now) (E.holds errand.now count) }
+            ensures { IfOk result.0 (λ v. AnswersAll (I.meaning ident.entry.now) high.entry.now right.entry.now v.items) ×
+                IsNextStretch K.contents K.leaves K.faults (E.holds errand.exit.now count) from count keeper.entry.now keeper.exit.now hands.entry.now hands.exit.now result.1 }
+        {
+            judge_beside(
+                rt,
+                alloc,
+                ident,
+                piece + 1,
+                runs - 1,
+                own,
+                high,
+                right,
+                keeper,
+                errand,
+                hands,
+                from,
+                count,
+                most,
+            )
+        },
+    );
+    (in_a_row(front, rest), next)
+}
+
+// Judges a stretch in so many pieces beside one another, and reads the one behind it.
 fn judge_and_read<R: Threads + Sync, I: Ident, K: Keeper, E: Errand>(
     rt: &R,
     alloc: Global,
@@ -118,24 +219,27 @@ fn judge_and_read<R: Threads + Sync, I: Ident, K: Keeper, E: Errand>(
     ensures next { IsNextStretch K.contents K.leaves K.faults (E.holds errand.new count) from count keeper.old keeper.new hands.old hands.new result.1 }
 {
     let most = most_behind(stretch);
-    if pieces < 2 {
-        let judged = judge(rt, alloc, ident, pieces, stretch);
-        return (
-            judged,
-            read_and_go(alloc, keeper, errand, hands, from, count, most),
-        );
-    }
-    join_mut(
+    let pieces = pieces.max(1).min(MAX_PIECES);
+    let len = stretch.jobs.len();
+    let own = own_share(pieces, len, from < count);
+    let runs = len.min(pieces - 1);
+    let (answers, next) = judge_beside(
         rt,
-        &mut || -> Result<Judged, NoMemory>
-            requires { length stretch.now.positions.items ≡ length stretch.now.jobs.items }
-            ensures { IfOk result (IsJudged (I.meaning ident.entry.now) stretch.entry.now) }
-        { judge(rt, alloc, ident, pieces, stretch) },
-        &mut || -> Result<Stretch, StoreError>
-            requires { NoneFrom from hands.now × (from ≤ count) × IfSome (K.contents keeper.now) (E.holds errand.now count) }
-            ensures { IsNextStretch K.contents K.leaves K.faults (E.holds errand.exit.now count) from count keeper.entry.now keeper.exit.now hands.entry.now hands.exit.now result }
-        { read_and_go(alloc, keeper, errand, hands, from, count, most) },
-    )
+        alloc,
+        ident,
+        0,
+        runs,
+        own,
+        &stretch.positions,
+        &stretch.jobs,
+        keeper,
+        errand,
+        hands,
+        from,
+        count,
+        most,
+    );
+    (tell(alloc, ident, stretch, answers), next)
 }
 
 // Judges the stretch of a walk, and reads the next one behind it, with a step of an errand.

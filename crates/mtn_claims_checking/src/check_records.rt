@@ -9,17 +9,17 @@ use mtn_ports::Ident;
 use std::alloc::Global;
 use std::thread::Threads;
 
-/// As `mtn_check_records::judge_pieces`.
-pub fn judge_pieces<R: Threads + Sync, I: Ident>(
+/// As `mtn_check_records::judge_run`.
+pub fn judge_run<R: Threads + Sync, I: Ident>(
     rt: &R,
     alloc: Global,
     ident: &I,
-    pieces: usize,
+    piece: usize,
     positions: &[Position],
     jobs: &[CheckJob],
 ) -> Result<Vec<JobAnswer>, NoMemory>
     requires same { length positions.now ≡ length jobs.now }
     ensures { IfOk result (λ v. AnswersAll (I.meaning ident.now) positions.now jobs.now v.items) }
 {
-    mtn_check_records::judge_pieces(rt, alloc, ident, pieces, positions, jobs)
+    mtn_check_records::judge_run(rt, alloc, ident, piece, positions, jobs)
 }

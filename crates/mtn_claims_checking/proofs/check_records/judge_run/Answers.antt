@@ -1,5 +1,5 @@
 use Rattle.std.proofs.Common.{rules}
-use Rattle.mtn_claims_checking.proofs.check_records.judge_pieces.Goals as goal
+use Rattle.mtn_claims_checking.proofs.check_records.judge_run.Goals as goal
 
 pub returns : goal.returns
 returns g c = search rules

@@ -1,1 +1,0 @@
--- No position has no answer.
