@@ -2,8 +2,9 @@
 # What `check` of a store file costs: 2,000 revisions in a line over 200 files, as a multiple of `fossil test-integrity` and of `git fsck
 # --full` over the same history in the same run; how much longer twice the revisions take; what it takes on all processors, as a part of
 # what it takes on one, beside what loops with nothing shared take so, which no program goes below; its peak of memory over both. All is
-# done in turn, and the best of twelve turns counts, since what else a machine does slows it for seconds. Given a path, that program is
-# measured. Without fossil (Debian's package) its line is left out.
+# done in turn, and the best of twelve turns counts, since what else a machine does slows it for seconds; where one processor is twice as
+# fast in one second as in the next, the best on one and the best on four are of different seconds, so the middle of the turns' own ratios
+# stands beside theirs. Given a path, that program is measured. Without fossil (Debian's package) its line is left out.
 source "$(dirname "${BASH_SOURCE[0]}")/program.sh" || exit 1
 measured <<'PYTHON'
 import os, shutil, subprocess, sys, time
@@ -63,11 +64,16 @@ if shutil.which('fossil'):
 turns = [{name: step() for name, step in steps.items()} for _ in range(ROUNDS)]
 best = {name: min(turn[name] for turn in turns) for name in steps}
 ours, twice, alone = best['ours'], best['twice'], best['alone']
+
+def middle(of, to):
+    """The middle of the turns' own ratios."""
+    return sorted(turn[of] / turn[to] for turn in turns)[ROUNDS // 2]
+
 for name, peer, wanted in ('fossil', 'fossil test-integrity', 5), ('git', 'git fsck --full', 15):
     if name in best:
         print(f'check of 2,000 revisions: {ours:.3f} s, {peer} {best[name]:.3f} s: {ours / best[name]:.2f} times (at most {wanted})')
 print(f'4,000 revisions: {twice:.3f} s, {twice / ours:.2f} times as long (at most 2.2)')
-print(f'on {count} processors to one: {ours / alone:.2f} ({alone:.3f} s; at most 0.5 on 4)')
-print(f'{count} loops with nothing shared, at once to one after the other: {best["loops"] / (count * best["loop"]):.2f}')
+print(f'on {count} processors to one: {ours / alone:.2f} ({alone:.3f} s), {middle("ours", "alone"):.2f} in the middle turn (at most 0.5 on 4)')
+print(f'{count} loops with nothing shared, at once to one after the other: {best["loops"] / (count * best["loop"]):.2f}, {middle("loops", "loop") / count:.2f} in the middle turn')
 print(f'peak memory over 2,000 revisions {peak([mtn, store, "check"]):.0f} MiB, over 4,000 {peak([mtn, longer, "check"]):.0f} MiB')
 PYTHON
