@@ -3,7 +3,7 @@ use Rattle.std.specs.Prelude.{slice_get, Contains}
 use Rattle.std.specs.Option.{option_map_or}
 use Rattle.std.specs.Int.{w64, to_be_bytes}
 use Rattle.std.proofs.Common.{◌≡◌, ◌≤◌, ◌<◌, ◌+◌, ◌^◌, ℕ, Bool, true, false, cond, List, [], ◌∷◌, ◌++◌, length, take, Option, Some, None, refl, sym, ap, ◌∙◌, subst, ◌⊎◌, inl, inr, arith}
-use Rattle.std.proofs.lemmas.List.{length-append, take_all, take-append-le, append_assoc}
+use Rattle.std.proofs.lemmas.List.{length-append, take_all, take-append-le, take-take, append_assoc}
 use Rattle.std.specs.FinMap.{get, insert, empty, same_map, slice_cmp-IsAntisymmetric, nat_cmp-IsAntisymmetric}
 use Rattle.std.proofs.lemmas.Cmp.{nat_list_cmp_total}
 use Rattle.std.specs.Prelude.{bytes_eq}
@@ -27,7 +27,7 @@ use Rattle.mtn_records.specs.declared.record.RosterRecord.TheVariants.{Whole, De
 use Rattle.mtn_ports.specs.Kept.{with_all}
 use Rattle.mtn_ports.specs.declared.batch.Put.{Put}
 use Rattle.mtn_history.specs.declared.pending.Pending.{Pending}
-use Rattle.mtn_history.specs.Records.{put_of, meta_puts, revision_puts, with_revision}
+use Rattle.mtn_history.specs.Records.{put_of, meta_puts, body_puts, revision_puts, with_revision}
 use Rattle.mtn_history.specs.Meta.{meta_of, count_key, version_key, version}
 use Rattle.mtn_history.specs.Revisions.{Kept, next_of, all_entries, depth_on, deeper, IsKept, AreKept, AreTexts, OnlyBelow, IsLogBody, AreLogged, IsRosterOf, IsRosterBody, AreRosters}
 use Rattle.mtn_ports.proofs.KeptLemmas.{with_all-append}
@@ -223,22 +223,31 @@ new_id f files log h l is none r m at same =
     let v = id_at f files log h is r m at in
     no_place h (id_of l.id) none r (v.0, v.1, v.2 ∙ ap id_of same)
 
-five : (b metas : List Put) (p q r t : Put) → ((((b ++ metas) ++ p ∷ []) ++ q ∷ []) ++ r ∷ []) ++ t ∷ [] ≡ b ++ (metas ++ p ∷ q ∷ r ∷ t ∷ [])
-five b metas p q r t = ap (λ (x : List Put). ((x ++ q ∷ []) ++ r ∷ []) ++ t ∷ []) (append_assoc b metas (p ∷ [])) ∙ ap (λ (x : List Put). (x ++ r ∷ []) ++ t ∷ []) (append_assoc b (metas ++ p ∷ []) (q ∷ []) ∙ ap (λ (x : List Put). b ++ x) (append_assoc metas (p ∷ []) (q ∷ []))) ∙ ap (λ (x : List Put). x ++ t ∷ []) (append_assoc b (metas ++ p ∷ q ∷ []) (r ∷ []) ∙ ap (λ (x : List Put). b ++ x) (append_assoc metas (p ∷ q ∷ []) (r ∷ []))) ∙ append_assoc b (metas ++ p ∷ q ∷ r ∷ []) (t ∷ []) ∙ ap (λ (x : List Put). b ++ x) (append_assoc metas (p ∷ q ∷ r ∷ []) (t ∷ []))
+four : (b : List Put) (p q r t : Put) → (((b ++ p ∷ []) ++ q ∷ []) ++ r ∷ []) ++ t ∷ [] ≡ b ++ p ∷ q ∷ r ∷ t ∷ []
+four b p q r t = ap (λ (x : List Put). (x ++ r ∷ []) ++ t ∷ []) (append_assoc b (p ∷ []) (q ∷ [])) ∙ ap (λ (x : List Put). x ++ t ∷ []) (append_assoc b (p ∷ q ∷ []) (r ∷ [])) ∙ append_assoc b (p ∷ q ∷ r ∷ []) (t ∷ [])
 
 -- the records of one more revision, put one behind the other
-pub all_put : (p : Pending) (l : Logged) (log roster : List ℕ) (b1 b2 b3 b4 b5 : List Put) (id text key next : List ℕ) →
-    b1 ≡ p.batch ++ meta_puts p.is_new p.count → b2 ≡ b1 ++ put_of 3 id text ∷ [] → b3 ≡ b2 ++ put_of 4 key log ∷ [] → b4 ≡ b3 ++ put_of 5 key roster ∷ [] → b5 ≡ b4 ++ put_of 1 count_key next ∷ [] →
-    id ≡ l.id → text ≡ number_text p.count ++ l.text → key ≡ number_text p.count → next ≡ to_be_bytes w64 (p.count + 1) →
-    record p { batch = b5 } ≡ record p { batch = p.batch ++ (meta_puts p.is_new p.count ++ revision_puts p.count l log roster) }
-all_put p l log roster b1 b2 b3 b4 b5 id text key next e1 e2 e3 e4 e5 is_id is_text is_key is_next =
-    ap (λ (b : List Put). record p { batch = b }) (e5 ∙ ap (λ (b : List Put). b ++ put_of 1 count_key next ∷ []) (e4 ∙ ap (λ (b : List Put). b ++ put_of 5 key roster ∷ []) (e3 ∙ ap (λ (b : List Put). b ++ put_of 4 key log ∷ []) (e2 ∙ ap (λ (b : List Put). b ++ put_of 3 id text ∷ []) e1)))
-    ∙ five p.batch (meta_puts p.is_new p.count) (put_of 3 id text) (put_of 4 key log) (put_of 5 key roster) (put_of 1 count_key next)
-    ∙ ap (λ (ps : List Put). p.batch ++ (meta_puts p.is_new p.count ++ ps))
-    (ap (λ (i : List ℕ). put_of 3 i text ∷ put_of 4 key log ∷ put_of 5 key roster ∷ put_of 1 count_key next ∷ []) is_id
-    ∙ ap (λ (x : List ℕ). put_of 3 l.id x ∷ put_of 4 key log ∷ put_of 5 key roster ∷ put_of 1 count_key next ∷ []) is_text
-    ∙ ap (λ (k : List ℕ). put_of 3 l.id (number_text p.count ++ l.text) ∷ put_of 4 k log ∷ put_of 5 k roster ∷ put_of 1 count_key next ∷ []) is_key
-    ∙ ap (λ (n : List ℕ). put_of 3 l.id (number_text p.count ++ l.text) ∷ put_of 4 (number_text p.count) log ∷ put_of 5 (number_text p.count) roster ∷ put_of 1 count_key n ∷ []) is_next))
+pub all_put : (n : ℕ) (i text log roster : List ℕ) (b1 b2 b3 b4 b5 : List Put) (id key next : List ℕ) →
+    b2 ≡ b1 ++ put_of 3 id text ∷ [] → b3 ≡ b2 ++ put_of 4 key log ∷ [] → b4 ≡ b3 ++ put_of 5 key roster ∷ [] → b5 ≡ b4 ++ put_of 1 count_key next ∷ [] →
+    id ≡ i → key ≡ number_text n → next ≡ to_be_bytes w64 (n + 1) → b5 ≡ b1 ++ body_puts n i text log roster
+all_put n i text log roster b1 b2 b3 b4 b5 id key next e2 e3 e4 e5 is_id is_key is_next =
+    e5 ∙ ap (λ (b : List Put). b ++ put_of 1 count_key next ∷ []) (e4 ∙ ap (λ (b : List Put). b ++ put_of 5 key roster ∷ []) (e3 ∙ ap (λ (b : List Put). b ++ put_of 4 key log ∷ []) e2))
+    ∙ four b1 (put_of 3 id text) (put_of 4 key log) (put_of 5 key roster) (put_of 1 count_key next)
+    ∙ ap (λ (ps : List Put). b1 ++ ps)
+    (ap (λ (x : List ℕ). put_of 3 x text ∷ put_of 4 key log ∷ put_of 5 key roster ∷ put_of 1 count_key next ∷ []) is_id
+    ∙ ap (λ (k : List ℕ). put_of 3 i text ∷ put_of 4 k log ∷ put_of 5 k roster ∷ put_of 1 count_key next ∷ []) is_key
+    ∙ ap (λ (m : List ℕ). put_of 3 i text ∷ put_of 4 (number_text n) log ∷ put_of 5 (number_text n) roster ∷ put_of 1 count_key m ∷ []) is_next)
+
+-- behind both records of table 1
+pub behind_metas : (p : Pending) (l : Logged) (log roster text : List ℕ) (b1 b2 : List Put) → b1 ≡ p.batch ++ meta_puts p.is_new p.count → b2 ≡ b1 ++ body_puts p.count l.id text log roster → text ≡ number_text p.count ++ l.text →
+    record p { batch = b2 } ≡ record p { batch = p.batch ++ (meta_puts p.is_new p.count ++ revision_puts p.count l log roster) }
+behind_metas p l log roster text b1 b2 e1 e2 is_text =
+    ap (λ (b : List Put). record p { batch = b }) (e2 ∙ ap (λ (b : List Put). b ++ body_puts p.count l.id text log roster) e1 ∙ append_assoc p.batch (meta_puts p.is_new p.count) (body_puts p.count l.id text log roster)
+    ∙ ap (λ (x : List ℕ). p.batch ++ (meta_puts p.is_new p.count ++ body_puts p.count l.id x log roster)) is_text)
+
+-- what stands in front of records that were put stays there
+pub in_front_of : (b1 b2 b3 : List Put) → take (length b1) b2 ≡ b1 → length b1 ≤ length b2 → take (length b2) b3 ≡ b2 → take (length b1) b3 ≡ b1
+in_front_of b1 b2 b3 first longer second = sym (take-take (length b1) (length b2) b3 longer) ∙ ap (λ (b : List Put). take (length b1) b) second ∙ first
 
 -- the state with its text
 abbrev pub with_text : State → Logged → State

@@ -1,11 +1,11 @@
 // Records that wait for the keeper.
-ghost use Rattle.std.specs.Prelude.{◌≡◌, ◌<◌, ◌≤◌, ◌+◌, ◌++◌, [], true, false, length, take, Err, IfErr, IfOk, IfSome, IsSome, OnOk, OnErr};
+ghost use Rattle.std.specs.Prelude.{◌≡◌, ◌<◌, ◌≤◌, ◌+◌, ◌^◌, ◌++◌, [], true, false, length, take, Err, IfErr, IfOk, IfSome, IsSome, OnOk, OnErr};
 ghost use Rattle.mtn_ports.specs.Causes.{Rose};
 ghost use Rattle.mtn_ports.specs.Kept.{Stays};
 ghost use Rattle.mtn_history.specs.Errors.{IfDamage};
 ghost use Rattle.mtn_history.specs.Memory.{Knows};
 ghost use Rattle.mtn_history.specs.Meta.{IsMetaOf, IsUnopened};
-ghost use Rattle.mtn_history.specs.Records.{meta_puts, record_puts};
+ghost use Rattle.mtn_history.specs.Records.{body_puts, meta_puts, record_puts};
 ghost use Rattle.mtn_records.specs.Fields.{number_text};
 
 use crate::memory::Memory;
@@ -27,7 +27,7 @@ pub struct Pending {
 }
 
 impl Pending {
-    ghost use Rattle.std.specs.Prelude.{◌^◌, List as Seq, ℕ, Some};
+    ghost use Rattle.std.specs.Prelude.{List as Seq, ℕ, Some};
     ghost use Rattle.mtn_model.specs.Table.{Contents};
     ghost use Rattle.mtn_history.specs.Records.{revision_puts, with_revision};
     ghost use Rattle.mtn_model.specs.State.{State};
@@ -145,14 +145,9 @@ impl Pending {
         ensures longer { length self.old.batch ≤ length self.new.batch }
         ensures rest { self.new ≡ record self.old { batch = self.new.batch } }
     {
-        let key = self.count.to_be_bytes();
-        let next = (self.count + 1).to_be_bytes();
         let text = placed_text(self.alloc, self.count, text)?;
         put_meta(&mut self.batch, self.is_new, self.count)?;
-        self.batch.put_owned(TEXTS, id.as_slice(), text)?;
-        self.batch.put_owned(LOG, &key, log)?;
-        self.batch.put_owned(ROSTERS, &key, roster)?;
-        self.batch.put(META, b"count", &next)?;
+        put_records(&mut self.batch, self.count, id, text, log, roster)?;
         Ok(())
     }
 }
@@ -180,7 +175,29 @@ fn put_meta(batch: &mut Batch, is_new: bool, count: u64) -> Result<(), NoMemory>
     Ok(())
 }
 
-// Puts the records. An error leaves some of them.
+// Puts the records of the revision at a position, with the bodies of all three, and the count with it. An error leaves some of them.
+fn put_records(
+    batch: &mut Batch,
+    at: u64,
+    id: Id,
+    text: Bytes,
+    log: Bytes,
+    roster: Bytes,
+) -> Result<(), NoMemory>
+    requires { at < 2 ^ 63 }
+    ensures ok { OnOk result (batch.new ≡ batch.old ++ body_puts at id.0 text log roster) }
+    ensures front { take (length batch.old) batch.new ≡ batch.old }
+    ensures longer { length batch.old ≤ length batch.new }
+{
+    let key = at.to_be_bytes();
+    batch.put_owned(TEXTS, id.as_slice(), text)?;
+    batch.put_owned(LOG, &key, log)?;
+    batch.put_owned(ROSTERS, &key, roster)?;
+    batch.put(META, b"count", &(at + 1).to_be_bytes())?;
+    Ok(())
+}
+
+// Puts a record, behind both of table 1 where there are none. An error may leave some of these.
 fn put_all(
     batch: &mut Batch,
     is_new: bool,

@@ -1,14 +1,15 @@
 // The rosters that records give.
-ghost use Rattle.std.specs.Prelude.{◌≡◌, ◌<◌, ◌≤◌, ◌+◌, length, slice_get, List, [], ℕ, Some, None, Ok, Err, IfOk, IfErr, IfSome, OnOk};
+ghost use Rattle.std.specs.Prelude.{◌≡◌, ◌<◌, ◌≤◌, ◌+◌, ◌++◌, ◌∷◌, length, slice_get, List, [], ℕ, Some, None, Ok, Err, IfOk, IfErr, IfSome, OnOk};
 ghost use Rattle.mtn_base.specs.declared.limits.TheConstants.{MAX_CHAIN};
 ghost use Rattle.mtn_marking.specs.Graph.{IsMarkedAt};
 ghost use Rattle.mtn_model.specs.State.{State};
 ghost use Rattle.mtn_ports.specs.Causes.{Rose};
 ghost use Rattle.mtn_ports.specs.Kept.{with_all};
 ghost use Rattle.mtn_records.specs.Bounds.{IsWithin};
+ghost use Rattle.mtn_records.specs.declared.record.RosterRecord.{RosterRecord as Record};
 ghost use Rattle.mtn_history.specs.Asking.{OnlyAsks};
 ghost use Rattle.mtn_history.specs.Errors.{IfDamage};
-ghost use Rattle.mtn_history.specs.Rosters.{AsksAlong, EndsAt, IsRostered, IsRosterHeld, IsWalk, IsWalkOf, UnrosteredAt, UnmadeBelow, Rebuilds, places};
+ghost use Rattle.mtn_history.specs.Rosters.{AsksAlong, EndsAt, IsRostered, IsRosterHeld, IsWalk, IsWalkOf, UnrosteredAt, UnmadeBelow, Rebuilds, base_of as base_in, places};
 ghost use Rattle.mtn_history.specs.Stands.{IsFounded};
 
 use crate::chains::{Chain, End, base_of, base_on, meeting_at, rebuilt_by};
@@ -68,6 +69,25 @@ impl<'a, K: Keeper> Draft<'a, K> {
         }
     }
 
+    // Puts the roster's record at a position behind others, and tells what it stands on.
+    fn push_rostered(
+        &mut self,
+        at: Pos,
+        records: &mut Vec<RosterRecord>,
+    ) -> Result<Option<Pos>, StoreError>
+        ensures asks { OnlyAsks K.contents K.leaves K.faults K.reads 1 self.old self.new }
+
+        ensures pushed { IfOk result (λ base. (x : Record) × (records.new.items ≡ records.old.items ++ x ∷ []) × (base ≡ base_in x) × IsWithin at x ×
+            IfSome (K.contents self.new.keeper.now) (λ c. IsRostered (with_all c self.old.pending.batch) at x)) }
+        ensures damaged { IfSome (K.contents self.new.keeper.now) (λ c. IfErr result (λ e. IfDamage e (UnrosteredAt (with_all c self.old.pending.batch) at))) }
+        ensures failed { result ≡ Err StoreError.Failed → Rose (K.faults self.old.keeper.now) (K.faults self.new.keeper.now) }
+    {
+        let record = self.rostered(at)?;
+        let base = base_of(&record);
+        records.push(record)?;
+        Ok(base)
+    }
+
     // What the records of a chain end at that stand above a position, if they end there: its roster is remembered, or it stands
     // on the chain beside it.
     fn end_at(&self, at: Pos, top: Pos, beside: &[RosterRecord]) -> Result<Option<End>, NoMemory>
@@ -102,9 +122,7 @@ impl<'a, K: Keeper> Draft<'a, K> {
             if let Some(end) = self.end_at(next, top, beside)? {
                 return Ok(Some(Chain { records, end }));
             }
-            let record = self.rostered(next)?;
-            let base = base_of(&record);
-            records.push(record)?;
+            let base = self.push_rostered(next, &mut records)?;
             match base {
                 Some(base) => next = base,
                 None => {
