@@ -4,6 +4,7 @@ use mtn_cli::{Status, run};
 use mtn_keeper::{DatabaseFile, LazyKeeper, Opener};
 use mtn_pieces::{FreeGate, Sha1Many};
 use mtn_ports::{Batch, KeepError, Keeper, MemKeeper, StdSink, StdSource};
+use sqlite::Connection;
 use std::fs;
 use std::thread::Threads;
 
@@ -28,19 +29,31 @@ pub fn in_file<T: Threads + Sync>(
     words: &[Bytes],
 ) -> Status {
     let file = DatabaseFile { rt, path };
-    let mut keeper = match keeper_of(file, is_missing(rt, path)) {
-        Ok(keeper) => keeper,
-        Err(KeepError::NoMemory) => return Status::NoMemory,
-        Err(KeepError::Failed) => return Status::StoreFault,
-    };
-    let status = over(threads, rt, words, &mut keeper);
-    if let Some(connection) = keeper.into_connection() {
+    let (status, connection) = in_database(threads, rt, words, file, is_missing(rt, path));
+    if let Some(connection) = connection {
         let _ = connection.close();
     }
     status
 }
 
-// The keeper over a database, which is opened at once where it may be there.
+// A command over a database, which is opened at once where it may be there; and its connection, where it was opened.
+fn in_database<T: Threads + Sync, O: Opener + Drop>(
+    threads: &T,
+    rt: &HostRuntime,
+    words: &[Bytes],
+    opener: O,
+    is_missing: bool,
+) -> (Status, Option<Connection<O::Store>>) {
+    match keeper_of(opener, is_missing) {
+        Ok(mut keeper) => {
+            let status = over(threads, rt, words, &mut keeper);
+            (status, keeper.into_connection())
+        }
+        Err(KeepError::NoMemory) => (Status::NoMemory, None),
+        Err(KeepError::Failed) => (Status::StoreFault, None),
+    }
+}
+
 fn keeper_of<O: Opener + Drop>(opener: O, is_missing: bool) -> Result<LazyKeeper<O>, KeepError> {
     if is_missing {
         Ok(LazyKeeper::missing(opener))

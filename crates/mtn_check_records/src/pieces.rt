@@ -36,8 +36,8 @@ fn judge_lot<R: Threads + Sync, I: Ident>(
 }
 
 // The same of many, a lot behind the other.
-#[cycle(piece)]
-fn judge_piece<R: Threads + Sync, I: Ident>(
+#[cycle(lots)]
+fn judge_lots<R: Threads + Sync, I: Ident>(
     rt: &R,
     alloc: Global,
     ident: &I,
@@ -53,7 +53,7 @@ fn judge_piece<R: Threads + Sync, I: Ident>(
     let (low, high) = positions.split_at(MAX_JOBS);
     let (left, right) = jobs.split_at(MAX_JOBS);
     let mut answers = judge_lot(rt, alloc, ident, low, left)?;
-    let mut more = judge_piece(rt, alloc, ident, high, right)?;
+    let mut more = judge_lots(rt, alloc, ident, high, right)?;
     answers.append(&mut more)?;
     Ok(answers)
 }
@@ -76,5 +76,5 @@ pub fn judge_run<R: Threads + Sync, I: Ident>(
         return Ok(Vec::new(alloc));
     }
     ident.pass(piece);
-    judge_piece(rt, alloc, ident, positions, jobs)
+    judge_lots(rt, alloc, ident, positions, jobs)
 }

@@ -12,10 +12,10 @@
 //! position give none, its text is accepted again over the records below, as `walk_log` does it, and tells whether there is damage,
 //! and which. So nothing rests on what is at hand but time.
 //!
-//! Cost: what reading all positions costs, or what judging them costs on the processors that are left beside it, if that is more; the
-//! memory of two stretches, of at most 300,000 nodes each, of the rosters at hand, and of one position for each piece. Where a text is
-//! accepted again, what that costs in a store of which nothing is remembered, and reading the rest of the stretch again with nothing
-//! at hand.
+//! Cost: what reading all positions and judging them costs, of which judging is shared out among the pieces, and reading is done by one
+//! of them: no walk takes less time than that. The memory of two stretches, of at most 300,000 nodes each, of the rosters at hand, and
+//! of one position for each piece. Where a text is accepted again, what that costs in a store of which nothing is remembered, and
+//! reading the rest of the stretch again with nothing at hand.
 #![tactic(auto)]
 
 mod errand;

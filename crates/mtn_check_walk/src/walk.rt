@@ -45,6 +45,23 @@ pub struct Ahead {
     pub walk: Walk,
 }
 
+/// What is to be read: the positions from one on, of so many that the log has, and the most of them.
+#[derive(Clone, Copy)]
+pub struct Extent {
+    pub from: u64,
+    pub count: u64,
+    pub most: u64,
+}
+
+/// How positions are shared out that are judged: so many runs go to threads of their own, of which the first is the piece with this
+/// number, and the thread that reads has so many positions.
+#[derive(Clone, Copy)]
+pub struct Shares {
+    pub piece: usize,
+    pub runs: usize,
+    pub own: usize,
+}
+
 // Reads a stretch with nothing at hand, where the walk has come.
 fn begin_at<I: Ident, K: Keeper>(
     alloc: Global,
@@ -74,24 +91,22 @@ fn read_and_go<K: Keeper, E: Errand>(
     keeper: &mut K,
     errand: &mut E,
     hands: &mut Hands,
-    from: u64,
-    count: u64,
-    most: u64,
+    extent: Extent,
 ) -> Result<Stretch, StoreError>
-    requires none { NoneFrom from hands.old }
-    requires within { from ≤ count }
-    requires held { IfSome (K.contents keeper.old) (E.holds errand.old count) }
+    requires none { NoneFrom extent.from hands.old }
+    requires within { extent.from ≤ extent.count }
+    requires held { IfSome (K.contents keeper.old) (E.holds errand.old extent.count) }
     ensures stays { Stays K.contents K.leaves K.faults keeper.old keeper.new }
     ensures long { IfOk result (λ stretch. length stretch.positions.items ≡ length stretch.jobs.items) }
-    ensures within { IfOk result (λ stretch. from + length stretch.jobs.items ≤ count) }
-    ensures none { IfOk result (λ stretch. NoneFrom (from + length stretch.jobs.items) hands.new) }
-    ensures read { IfSome (K.contents keeper.new) (λ c. IfOk result (λ stretch. AreRead c from hands.old stretch.positions.items stretch.jobs.items hands.new)) }
-    ensures held { IfSome (K.contents keeper.new) (E.holds errand.new count) }
+    ensures within { IfOk result (λ stretch. extent.from + length stretch.jobs.items ≤ extent.count) }
+    ensures none { IfOk result (λ stretch. NoneFrom (extent.from + length stretch.jobs.items) hands.new) }
+    ensures read { IfSome (K.contents keeper.new) (λ c. IfOk result (λ stretch. AreRead c extent.from hands.old stretch.positions.items stretch.jobs.items hands.new)) }
+    ensures held { IfSome (K.contents keeper.new) (E.holds errand.new extent.count) }
     ensures sound { IfErr result (λ e. IfDamage e (λ _. ⊥)) }
     ensures failed { result ≡ Err StoreError.Failed → Rose (K.faults keeper.old) (K.faults keeper.new) }
 {
-    let stretch = load_stretch(alloc, keeper, hands, from, count, most)?;
-    errand.go(alloc, count, keeper)?;
+    let stretch = load_stretch(alloc, keeper, hands, extent.from, extent.count, extent.most)?;
+    errand.go(alloc, extent.count, keeper)?;
     Ok(stretch)
 }
 
@@ -101,14 +116,20 @@ fn most_behind(stretch: &Stretch) -> u64 {
     len.saturating_add(len).min(MAX_POSITIONS)
 }
 
-// How many positions of a stretch the thread that reads judges as well, as one of so many pieces: an equal share, or half of one where
-// there is more to read.
-fn own_share(pieces: usize, positions: usize, reads: bool) -> usize
-    requires { 0 < pieces }
-    ensures { result ≤ positions }
+// How so many positions are shared out in so many pieces, of which the thread that reads judges one: an equal share, or half of one
+// where there is more to read.
+fn shares_of(pieces: usize, positions: usize, reads: bool) -> Shares
+    ensures first { result.piece ≡ 0 }
+    ensures runs { result.runs ≤ positions }
+    ensures own { result.own ≤ positions }
 {
+    let pieces = pieces.max(1).min(MAX_PIECES);
     let share = positions / pieces;
-    if reads { share / 2 } else { share }
+    Shares {
+        piece: 0,
+        runs: positions.min(pieces - 1),
+        own: if reads { share / 2 } else { share },
+    }
 }
 
 // The answers on some positions, and behind them those on others.
@@ -124,46 +145,48 @@ fn in_a_row(
     Ok(answers)
 }
 
-// Judges some positions, and reads the stretch behind them, with a step of an errand. So many runs are pieces on threads of their own,
-// numbered from `piece`; this thread begins them all, since threads that others begin share processors with these for a while. Then it
-// reads, and judges so many positions of its own, or what the runs leave, as the last piece.
+// Judges some positions, and reads the stretch behind them, with a step of an errand. This thread begins all runs, since threads that
+// others begin share processors with these for a while. Then it reads, and judges its own positions, or what the runs leave, as the
+// last piece.
 #[cycle(beside)]
 fn judge_beside<R: Threads + Sync, I: Ident, K: Keeper, E: Errand>(
     rt: &R,
     alloc: Global,
     ident: &I,
-    piece: usize,
-    runs: usize,
-    own: usize,
+    shares: Shares,
     positions: &[Position],
     jobs: &[CheckJob],
     keeper: &mut K,
     errand: &mut E,
     hands: &mut Hands,
-    from: u64,
-    count: u64,
-    most: u64,
+    extent: Extent,
 ) -> (
     Result<Vec<JobAnswer>, NoMemory>,
     Result<Stretch, StoreError>,
 )
     requires same { length positions.now ≡ length jobs.now }
-    requires own { own ≤ length jobs.now }
-    requires pieces { piece + runs < 2 ^ 64 }
-    requires none { NoneFrom from hands.old }
-    requires within { from ≤ count }
-    requires held { IfSome (K.contents keeper.old) (E.holds errand.old count) }
+    requires own { shares.own ≤ length jobs.now }
+    requires pieces { shares.piece + shares.runs < 2 ^ 64 }
+    requires none { NoneFrom extent.from hands.old }
+    requires within { extent.from ≤ extent.count }
+    requires held { IfSome (K.contents keeper.old) (E.holds errand.old extent.count) }
     ensures answers { IfOk result.0 (λ v. AnswersAll (I.meaning ident.now) positions.now jobs.now v.items) }
-    ensures next { IsNextStretch K.contents K.leaves K.faults (E.holds errand.new count) from count keeper.old keeper.new hands.old hands.new result.1 }
+    ensures next { IsNextStretch K.contents K.leaves K.faults (E.holds errand.new extent.count) extent.from extent.count keeper.old keeper.new hands.old hands.new result.1 }
 {
+    let Shares { piece, runs, own } = shares;
     if runs == 0 {
-        let next = read_and_go(alloc, keeper, errand, hands, from, count, most);
+        let next = read_and_go(alloc, keeper, errand, hands, extent);
         return (judge_run(rt, alloc, ident, piece, positions, jobs), next);
     }
     let size = (jobs.len() - own) / runs;
     let (low, high) = positions.split_at(size);
     let (left, right) = jobs.split_at(size);
-    let (front, (rest, next)) = join_mut(
+    let rest = Shares {
+        piece: piece + 1,
+        runs: runs - 1,
+        own,
+    };
+    let (front, (behind, next)) = join_mut(
         rt,
         &mut || -> Result<Vec<JobAnswer>, NoMemory>
             requires { length low.now ≡ length left.now }
@@ -173,29 +196,16 @@ fn judge_beside<R: Threads + Sync, I: Ident, K: Keeper, E: Errand>(
             Result<Vec<JobAnswer>, NoMemory>,
             Result<Stretch, StoreError>,
         )
-            requires { (length high.now ≡ length right.now) × (own ≤ length right.now) × (0 < runs) × (piece + runs < 2 ^ 64) × NoneFrom from hands.now × (from ≤ count) × IfSome (K.contents keeper.now) (E.holds errand.now count) }
+            requires { (length high.now ≡ length right.now) × (rest.own ≤ length right.now) × (rest.piece + rest.runs < 2 ^ 64) × NoneFrom extent.from hands.now × (extent.from ≤ extent.count) × IfSome (K.contents keeper.now) (E.holds errand.now extent.count) }
             ensures { IfOk result.0 (λ v. AnswersAll (I.meaning ident.entry.now) high.entry.now right.entry.now v.items) ×
-                IsNextStretch K.contents K.leaves K.faults (E.holds errand.exit.now count) from count keeper.entry.now keeper.exit.now hands.entry.now hands.exit.now result.1 }
+                IsNextStretch K.contents K.leaves K.faults (E.holds errand.exit.now extent.count) extent.from extent.count keeper.entry.now keeper.exit.now hands.entry.now hands.exit.now result.1 }
         {
             judge_beside(
-                rt,
-                alloc,
-                ident,
-                piece + 1,
-                runs - 1,
-                own,
-                high,
-                right,
-                keeper,
-                errand,
-                hands,
-                from,
-                count,
-                most,
+                rt, alloc, ident, rest, high, right, keeper, errand, hands, extent,
             )
         },
     );
-    (in_a_row(front, rest), next)
+    (in_a_row(front, behind), next)
 }
 
 // Judges a stretch in so many pieces beside one another, and reads the one behind it.
@@ -208,36 +218,27 @@ fn judge_and_read<R: Threads + Sync, I: Ident, K: Keeper, E: Errand>(
     keeper: &mut K,
     errand: &mut E,
     hands: &mut Hands,
-    from: u64,
-    count: u64,
+    extent: Extent,
 ) -> (Result<Judged, NoMemory>, Result<Stretch, StoreError>)
     requires same { length stretch.now.positions.items ≡ length stretch.now.jobs.items }
-    requires none { NoneFrom from hands.old }
-    requires within { from ≤ count }
-    requires held { IfSome (K.contents keeper.old) (E.holds errand.old count) }
+    requires none { NoneFrom extent.from hands.old }
+    requires within { extent.from ≤ extent.count }
+    requires held { IfSome (K.contents keeper.old) (E.holds errand.old extent.count) }
     ensures judged { IfOk result.0 (IsJudged (I.meaning ident.now) stretch.now) }
-    ensures next { IsNextStretch K.contents K.leaves K.faults (E.holds errand.new count) from count keeper.old keeper.new hands.old hands.new result.1 }
+    ensures next { IsNextStretch K.contents K.leaves K.faults (E.holds errand.new extent.count) extent.from extent.count keeper.old keeper.new hands.old hands.new result.1 }
 {
-    let most = most_behind(stretch);
-    let pieces = pieces.max(1).min(MAX_PIECES);
-    let len = stretch.jobs.len();
-    let own = own_share(pieces, len, from < count);
-    let runs = len.min(pieces - 1);
+    let shares = shares_of(pieces, stretch.jobs.len(), extent.from < extent.count);
     let (answers, next) = judge_beside(
         rt,
         alloc,
         ident,
-        0,
-        runs,
-        own,
+        shares,
         &stretch.positions,
         &stretch.jobs,
         keeper,
         errand,
         hands,
-        from,
-        count,
-        most,
+        extent,
     );
     (tell(alloc, ident, stretch, answers), next)
 }
@@ -272,13 +273,17 @@ fn look_ahead<R: Threads + Sync, I: Ident, K: Keeper, E: Errand>(
         stretch,
         mut hands,
     } = walk;
-    let behind = at + stretch.jobs.len() as u64;
+    let extent = Extent {
+        from: at + stretch.jobs.len() as u64,
+        count,
+        most: most_behind(&stretch),
+    };
     let (judged, next) = judge_and_read(
-        rt, alloc, ident, pieces, &stretch, keeper, errand, &mut hands, behind, count,
+        rt, alloc, ident, pieces, &stretch, keeper, errand, &mut hands, extent,
     );
     let judged = judged?;
     let walk = Walk {
-        at: behind,
+        at: extent.from,
         stretch: next?,
         hands,
     };

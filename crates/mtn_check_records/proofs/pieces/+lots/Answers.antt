@@ -1,7 +1,7 @@
 -- The answers of the first lot and of the others are those of the whole.
 use Rattle.std.proofs.Common.{◌∙◌, sym}
 use Rattle.mtn_check_records.proofs.Answers.{both_answered}
-use Rattle.mtn_check_records.proofs.pieces.+piece.Goals as goal
+use Rattle.mtn_check_records.proofs.pieces.+lots.Goals as goal
 
 pub returns : goal.returns
 returns g t c =
