@@ -26,7 +26,7 @@ use Rattle.mtn_roster.specs.Tree.{Tree, entry_of}
 use Rattle.mtn_base.proofs.Tests.{same_id-is, same_id-self}
 use Rattle.mtn_roster_deltas.specs.Chain.{Entries, ascend, deepest}
 use Rattle.mtn_roster_deltas.specs.Difference.{IsDeltaTo, IsDifference}
-use Rattle.mtn_roster_deltas.specs.Numbering.{all_of, fresh, number_among, AreKnown, IsNumbering}
+use Rattle.mtn_roster_deltas.specs.Numbering.{all_of, fresh, number_among, IsNumbering}
 use Rattle.mtn_roster_deltas.proofs.Known.{known_is, there_spelled, spelled_there, numbering_over, same_fresh}
 use Rattle.mtn_roster_deltas.proofs.Places.{among_was, contains_cons}
 use Rattle.mtn_roster_deltas.specs.Spelled.{Spells}
@@ -38,7 +38,7 @@ use Rattle.mtn_history.specs.Revisions.{AreKept, Kept, next_of, all_entries, dee
 use Rattle.mtn_history.specs.Stands.{IsDraft, IsFounded}
 use Rattle.mtn_history.specs.declared.pending.Pending.{Pending}
 use Rattle.mtn_history.proofs.Extending.{Adds, draft_more}
-use Rattle.mtn_put_revision.specs.Keeping.{AreKeptAt, AreParents, IsDeltaBody, IsFirstDepth, IsFirstRebuilt, IsLogBodyOf, IsMade, IsRecordOn, with_text}
+use Rattle.mtn_put_revision.specs.Keeping.{AreKeptAt, AreParents, IsDeltaBody, IsFirstDepth, IsFirstRebuilt, IsLogBodyOf, IsMade, IsNumberedOn, IsRecordOn, with_text}
 use Rattle.mtn_put_revision.specs.Writing.{AllAscend}
 use Rattle.mtn_put_revision.proofs.Numbers.{all_are_known, parents_known, kept_among, among_entries, entries_of, in_kept, sub_all}
 
@@ -186,11 +186,10 @@ known_ascend h ks kept places known are es c =
 
 -- the draft with the records of a revision stands for the state with its text
 pub kept_draft : (f : List ℕ → List ℕ) (told : Option Contents) (p : Pending) (s : State) (d : IsFounded f told p s) (id : Id) (text : List ℕ) (edges : List Edge) (t : MarkedTree) (places : List ℕ) (known : List Entries)
-    (depth next free deep : ℕ) (entries : Entries) (roster log : List ℕ) (q : Pending) → p.count < 2147483648 → next ≡ next_of d.stands.kept →
-    (AreKnown known next → IsNumbering known next t entries) → (AreKnown known next → free ≡ next + length (fresh known t.tree)) → IsRecordOn places known depth entries p.count roster deep →
+    (depth free deep : ℕ) (entries : Entries) (roster log : List ℕ) (q : Pending) → p.count < 2147483648 → IsNumberedOn d.stands.kept known t entries free → IsRecordOn places known depth entries p.count roster deep →
     IsLogBodyOf id free places p.count log → q ≡ with_revision p (record { id = id.0; text = text }) log roster → IsMade d.stands.history edges id t → AreParents d.stands.history d.stands.kept edges places known depth →
     IsNext f s.files d.stands.history (record { id = id.0; text = text }) (made d.stands.history id edges) → IsDraft f d.records q (with_text s (record { id = id.0; text = text }))
-kept_draft f told p s d id text edges t places known depth next free deep entries roster log q low is_next numbers is_free written log_at put made_is parents accepted =
+kept_draft f told p s d id text edges t places known depth free deep entries roster log q low is_numbered written log_at put made_is parents accepted =
     let record_is = on_of places known depth entries p.count roster deep written in
     let r = record_is.0 in
     let hist = d.stands.history in
@@ -198,16 +197,16 @@ kept_draft f told p s d id text edges t places known depth next free deep entrie
     let l : Logged = record { id = id.0; text = text } in
     let v = made hist id edges in
     let new : Kept = record { entries = entries; next = free; depth = depth_on kepts (parents_of hist edges) } in
-    let are : AreKnown known next = subst (AreKnown known) (sym is_next) (parents_known f s.files s.log hist kepts d.stands.spelled d.stands.revisions places known parents.kept) in
-    let numbered = numbers are in
+    let are = parents_known f s.files s.log hist kepts d.stands.spelled d.stands.revisions places known parents.kept in
+    let numbered = is_numbered.numbers are in
     let same = λ (n : NodeName) (some : IsSome (entry_of t.tree n)). same_number f told p s d l v accepted places known parents.kept parents.stand n (subst (λ (tr : Tree). IsSome (entry_of tr n)) made_is.tree some) in
-    let over_all = numbering_over known (all_entries kepts) next t entries same numbered in
+    let over_all = numbering_over known (all_entries kepts) (next_of kepts) t entries same numbered in
     let eta : t ≡ record { tree = v.tree; marks = t.marks } = ap (λ (tr : Tree). record { tree = tr; marks = t.marks }) made_is.tree in
     let adds : Adds hist kepts v new = record {
       marks = t.marks;
       marked = subst (IsMarkedAt (hist ++ v ∷ []) (length hist)) eta made_is.marked;
-      numbered = subst (λ (u : MarkedTree). IsNumbering (all_entries kepts) (next_of kepts) u entries) eta (subst (λ n. IsNumbering (all_entries kepts) n t entries) is_next over_all);
-      next = is_free are ∙ ap (λ n. n + length (fresh known t.tree)) is_next ∙ ap (λ (ns : List NodeName). next_of kepts + length ns) (same_fresh known (all_entries kepts) t.tree same)
+      numbered = subst (λ (u : MarkedTree). IsNumbering (all_entries kepts) (next_of kepts) u entries) eta over_all;
+      next = is_numbered.next are ∙ ap (λ (ns : List NodeName). next_of kepts + length ns) (same_fresh known (all_entries kepts) t.tree same)
           ∙ ap (λ (tr : Tree). next_of kepts + length (fresh (all_entries kepts) tr)) made_is.tree;
       depth = refl;
     } in

@@ -9,8 +9,9 @@ use Rattle.mtn_changes.specs.declared.change.Edge.{Edge}
 use Rattle.mtn_changes.specs.declared.change.Revision.{Revision as Spelled}
 use Rattle.mtn_roster_deltas.specs.Chain.{Entries, ascend, deepest}
 use Rattle.mtn_roster_deltas.specs.Difference.{IsDeltaTo}
+use Rattle.mtn_roster_deltas.specs.Numbering.{fresh, AreKnown, IsNumbering}
 use Rattle.mtn_history_laws.specs.History.{Revision}
-use Rattle.mtn_history.specs.Revisions.{Kept}
+use Rattle.mtn_history.specs.Revisions.{Kept, next_of}
 use Rattle.mtn_history.specs.Rosters.{IsRebuilt}
 use Rattle.mtn_replay.specs.Lawful.{Spells}
 use Rattle.mtn_replay.specs.Making.{made, made_tree, parents_of, place_of, log_full, unknown_parent, refusal_of}
@@ -53,6 +54,12 @@ IsWrittenOn places known depth entries at w = IsRecordOn places known depth entr
 abbrev pub IsFirstRebuilt : Contents → List ℕ → List Entries → ℕ → Type 0
 IsFirstRebuilt c (p ∷ ps) (below ∷ more) depth = (t : MarkedTree) × IsRebuilt c p below t depth
 IsFirstRebuilt c _ _ depth = ⊤
+
+-- the entries of a tree under the numbers that are due behind those that are kept, and the least that is free then, where each known
+-- node has one of its own
+pub record IsNumberedOn (ks : List Kept) (known : List Entries) (t : MarkedTree) (entries : Entries) (free : ℕ) : Type 0 where
+  pub numbers : AreKnown known (next_of ks) → IsNumbering known (next_of ks) t entries
+  pub next : AreKnown known (next_of ks) → free ≡ next_of ks + length (fresh known t.tree)
 
 -- the body of the log's record
 pub record IsLogBodyOf (id : Id) (next : ℕ) (places : List ℕ) (at : ℕ) (body : List ℕ) : Type 0 where

@@ -2,6 +2,7 @@
 ghost use Rattle.std.specs.Prelude.{◌≡◌, ◌<◌, ◌≤◌, [], All, List, ℕ, length, Ok, Err, false, IfOk, IfErr, IfSome, IsTrue, OnErr, ◌+◌};
 ghost use Rattle.mtn_base.specs.declared.limits.TheConstants.{MAX_LOG, MAX_NODES};
 ghost use Rattle.mtn_roster_deltas.specs.Numbering.{shown};
+ghost use Rattle.mtn_roster_deltas.specs.Spelled.{Spells};
 ghost use Rattle.mtn_changes.specs.declared.change.Edge.{Edge};
 ghost use Rattle.mtn_history_laws.specs.History.{Revision};
 ghost use Rattle.mtn_replay.specs.Lawful.{IsNext};
@@ -13,7 +14,7 @@ ghost use Rattle.mtn_ports.specs.Kept.{Stays, with_all};
 ghost use Rattle.mtn_history.specs.Errors.{IfDamage};
 ghost use Rattle.mtn_history.specs.Stands.{IsDraft, IsFounded};
 ghost use Rattle.mtn_put_revision.specs.Finding.{IsFound};
-ghost use Rattle.mtn_put_revision.specs.Keeping.{AreKeptAt, AreParents, IsFirstRebuilt, IsMade, with_text};
+ghost use Rattle.mtn_put_revision.specs.Keeping.{AreKeptAt, AreParents, IsFirstRebuilt, IsMade, IsNumberedOn, with_text};
 ghost use Rattle.mtn_put_revision.specs.Writing.{AllAscend, IsNextTree};
 
 use crate::records::{KeptParents, Written, log_body, next_number, write_record};
@@ -23,9 +24,44 @@ use mtn_base::Id;
 use mtn_history::{Draft, Rebuilt, StoreError};
 use mtn_marking::MarkedRoster;
 use mtn_ports::Keeper;
+use mtn_records::Numbered;
 use mtn_roster::Stop;
 use mtn_roster_deltas::{NumberError, number};
 use std::alloc::Global;
+
+// The entries of a tree, whose walk the caller has, under their numbers behind those that the log has given, and the least number that
+// is free then. A clash is damage.
+fn number_behind<K: Keeper>(
+    alloc: Global,
+    draft: &mut Draft<'_, K>,
+    roster: &MarkedRoster,
+    stops: &[Stop],
+    known: &KeptParents<'_>,
+) -> Result<(Numbered, u64), StoreError>
+    requires nodes { length roster.now.tree ≤ MAX_NODES }
+    requires walk { AreStops roster.now.tree stops.now }
+    requires below { All (λ p. p < draft.old.pending.count) known.now.places.now }
+    requires unknown { known.now.places.now ≡ [] → shown known.now.entries.now ≡ [] }
+    requires parents { (f : List ℕ → List ℕ) (s : State) → (d : IsFounded f (K.contents draft.old.keeper.now) draft.old.pending s) →
+        AreKeptAt d.stands.kept known.now.places.now (shown known.now.entries.now) }
+    ensures same_reference { draft.new.keeper.ghost_name ≡ draft.old.keeper.ghost_name }
+    ensures stays { Stays K.contents K.leaves K.faults draft.old.keeper.now draft.new.keeper.now }
+    ensures pending { draft.new.pending ≡ draft.old.pending }
+    ensures spells { IfOk result (λ r. Spells r.0 roster.now) }
+    ensures numbered { (f : List ℕ → List ℕ) (s : State) → (d : IsFounded f (K.contents draft.new.keeper.now) draft.old.pending s) →
+        IfOk result (λ r. IsNumberedOn d.stands.kept (shown known.now.entries.now) roster.now r.0 r.1) }
+    ensures reads { (f : List ℕ → List ℕ) (s : State) → IsFounded f (K.contents draft.new.keeper.now) draft.old.pending s → K.reads draft.new.keeper.now ≤ K.reads draft.old.keeper.now + 1 }
+    ensures damaged { IfSome (K.contents draft.new.keeper.now) (λ c. IfErr result (λ e. IfDamage e
+        (IsFound (K.contents draft.new.keeper.now) draft.old.pending (with_all c draft.old.pending.batch)))) }
+    ensures failed { result ≡ Err StoreError.Failed → Rose (K.faults draft.old.keeper.now) (K.faults draft.new.keeper.now) }
+{
+    let next = next_number(draft)?;
+    match number(alloc, roster, stops, known.entries, next) {
+        Ok(numbers) => Ok(numbers),
+        Err(NumberError::Clash) => Err(unfit(draft, known.places.first().copied())),
+        Err(NumberError::NoMemory) => Err(StoreError::NoMemory),
+    }
+}
 
 /// Puts the records of a revision with this tree, whose walk the caller has, and these parents, and the draft remembers its roster; and tells whether it
 /// did, as it does with each tree that a history may have next. Otherwise, and with an error, what is pending is as it was.
@@ -62,12 +98,7 @@ pub fn keep<K: Keeper>(
     ensures failed { result ≡ Err StoreError.Failed → Rose (K.faults draft.old.keeper.now) (K.faults draft.new.keeper.now) }
 {
     let at = Pos(draft.count());
-    let next = next_number(draft)?;
-    let (entries, free) = match number(alloc, &roster, stops, known.entries, next) {
-        Ok(numbers) => numbers,
-        Err(NumberError::Clash) => return Err(unfit(draft, known.places.first().copied())),
-        Err(NumberError::NoMemory) => return Err(StoreError::NoMemory),
-    };
+    let (entries, free) = number_behind(alloc, draft, &roster, stops, known)?;
     let Some(written) = write_record(alloc, known, entries, at)? else {
         return Ok(false);
     };
