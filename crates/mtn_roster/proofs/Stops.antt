@@ -1,6 +1,6 @@
 -- The loop of the walk.
 use Rattle.std.specs.Prelude.{map, reverse, slice_get}
-use Rattle.std.proofs.Common.{◌≡◌, ℕ, ◌+◌, ◌-◌, ◌<◌, ◌≤◌, List, [], ◌∷◌, ◌++◌, length, get_or, Some, refl, sym, ◌∙◌, ap, subst, inl, inr, arith, length-append, append-nil, append_assoc, drop, drop-cons, add-one}
+use Rattle.std.proofs.Common.{◌≡◌, ℕ, zero, suc, ◌+◌, ◌-◌, ◌<◌, ◌≤◌, List, [], ◌∷◌, ◌++◌, length, get_or, Some, refl, sym, ◌∙◌, ap, subst, inl, inr, arith, length-append, append-nil, append_assoc, drop, drop-cons, add-one}
 use Rattle.std.proofs.lemmas.List.{reverse-append, reverse-reverse}
 use Rattle.std.proofs.Math.Seq.{drop-length}
 use Rattle.std.proofs.lemmas.Option.{slice_get-get_or}
@@ -20,6 +20,14 @@ use Rattle.mtn_roster.proofs.Leading.{IsLed, led_begins, led_on, led_ends}
 
 abbrev place_of_stop : Stop → ℕ
 place_of_stop s = s.place
+
+-- what holds of what stands at each place, and of one more
+pub one_more : {X : Type 0} (P : ℕ → X → Type 0) (xs : List X) (x d : X) → ((k : ℕ) → k < length xs → P k (get_or xs k d)) → P (length xs) x
+    → (k : ℕ) → k < length xs + 1 → P k (get_or (xs ++ x ∷ []) k d)
+one_more P [] x d each own zero low = own
+one_more P [] x d each own (suc k) low = absurd (omega (arith, low))
+one_more P (y ∷ ys) x d each own zero low = each 0 (omega arith)
+one_more P (y ∷ ys) x d each own (suc k) low = one_more (λ j v. P (suc j) v) ys x d (λ j l. each (suc j) (omega (arith, l))) own k (omega (arith, low))
 
 pub map-snoc : {X Y : Type 0} (f : X → Y) (xs : List X) (x : X) → map f (xs ++ x ∷ []) ≡ map f xs ++ f x ∷ []
 map-snoc f [] x = refl
