@@ -17,7 +17,7 @@ use Rattle.mtn_make_roster.specs.Basis.{made_refusal}
 use Rattle.mtn_manifest.specs.Manifest.{manifest_of}
 use Rattle.mtn_model.specs.Table.{Table}
 use Rattle.mtn_roster.specs.Tree.{Tree}
-use Rattle.mtn_put_revision.specs.Finding.{made_refusal_of}
+use Rattle.mtn_put_revision.specs.Finding.{made_refusal_of, text_refusal}
 use Rattle.mtn_put_revision.specs.Keeping.{IsNew}
 use Rattle.mtn_put_revision.specs.declared.over.NewRevision.{NewRevision}
 
@@ -52,27 +52,28 @@ module _ (f : List ℕ → List ℕ) (files : Table) (h : List Revision) (new : 
   pub made_back : made_refusal_of f files h new r ≡ None → made_refusal h new r.edges ≡ None
   made_back e = back_four (bad_change h 1 r.edges) (bad_join h new r.edges) (too_many (made_tree h new r.edges)) (too_long (made_tree h new r.edges)) _ e
 
+  -- what is left is the text's
+  pub made_left : (t : Tree) → made_refusal h new r.edges ≡ None → t ≡ made_tree h new r.edges → made_refusal_of f files h new r ≡ text_refusal f files r t
+  made_left t e is = made_past e ∙ ap (text_refusal f files r) (sym is)
+
+module _ (f : List ℕ → List ℕ) (files : Table) (r : Spelled) (t : Tree) where
   -- a content that is not held
-  pub made_unheld : (id : Id) → made_refusal h new r.edges ≡ None → Some id ≡ find (λ (i : Id). is_none (get files i.0)) (new_contents r.edges) → made_refusal_of f files h new r ≡ Some (UnknownFile id)
-  made_unheld id e found = made_past e ∙ ap (λ o. or_else (option_map UnknownFile o) (other_manifest f (made_tree h new r.edges) r.manifest)) (sym found)
+  pub unheld : (id : Id) → Some id ≡ find (λ (i : Id). is_none (get files i.0)) (new_contents r.edges) → text_refusal f files r t ≡ Some (UnknownFile id)
+  unheld id found = ap (λ o. or_else (option_map UnknownFile o) (other_manifest f t r.manifest)) (sym found)
 
-  made_manifest : made_refusal h new r.edges ≡ None → None ≡ find (λ (i : Id). is_none (get files i.0)) (new_contents r.edges) → made_refusal_of f files h new r ≡ other_manifest f (made_tree h new r.edges) r.manifest
-  made_manifest e held = made_past e ∙ ap (λ o. or_else (option_map UnknownFile o) (other_manifest f (made_tree h new r.edges) r.manifest)) (sym held)
+  all_held : None ≡ find (λ (i : Id). is_none (get files i.0)) (new_contents r.edges) → text_refusal f files r t ≡ other_manifest f t r.manifest
+  all_held held = ap (λ o. or_else (option_map UnknownFile o) (other_manifest f t r.manifest)) (sym held)
 
-  -- another manifest
-  pub made_differs : (t : Tree) (computed : Id) → made_refusal h new r.edges ≡ None → None ≡ find (λ (i : Id). is_none (get files i.0)) (new_contents r.edges) → t ≡ made_tree h new r.edges →
-      computed.0 ≡ f (spelling (manifest_of t)) → bytes_eq computed.0 r.manifest.0 ≡ false → made_refusal_of f files h new r ≡ Some (ManifestDiffers computed)
-  made_differs t computed e held is computes differs =
-      made_manifest e held
-      ∙ ap (λ (bytes : List ℕ). cond (bytes_eq bytes r.manifest.0) None (Some (ManifestDiffers (id_of bytes)))) (ap (λ (u : Tree). f (spelling (manifest_of u))) (sym is) ∙ sym computes)
-      ∙ ap (λ b. cond b None (Some (ManifestDiffers computed))) differs
+  module _ (computed : Id) (held : None ≡ find (λ (i : Id). is_none (get files i.0)) (new_contents r.edges)) (computes : computed.0 ≡ f (spelling (manifest_of t))) where
+    named : text_refusal f files r t ≡ (cond (bytes_eq computed.0 r.manifest.0) None (Some (ManifestDiffers computed)))
+    named = all_held held ∙ ap (λ (bytes : List ℕ). cond (bytes_eq bytes r.manifest.0) None (Some (ManifestDiffers (id_of bytes)))) (sym computes)
 
-  pub made_fine : (t : Tree) (computed : Id) → made_refusal h new r.edges ≡ None → None ≡ find (λ (i : Id). is_none (get files i.0)) (new_contents r.edges) → t ≡ made_tree h new r.edges →
-      computed.0 ≡ f (spelling (manifest_of t)) → bytes_eq computed.0 r.manifest.0 ≡ true → made_refusal_of f files h new r ≡ None
-  made_fine t computed e held is computes same =
-      made_manifest e held
-      ∙ ap (λ (bytes : List ℕ). cond (bytes_eq bytes r.manifest.0) None (Some (ManifestDiffers (id_of bytes)))) (ap (λ (u : Tree). f (spelling (manifest_of u))) (sym is) ∙ sym computes)
-      ∙ ap (λ b. cond b None (Some (ManifestDiffers computed))) same
+    -- another manifest
+    pub differs : bytes_eq computed.0 r.manifest.0 ≡ false → text_refusal f files r t ≡ Some (ManifestDiffers computed)
+    differs other = named ∙ ap (λ b. cond b None (Some (ManifestDiffers computed))) other
+
+    pub fine : bytes_eq computed.0 r.manifest.0 ≡ true → text_refusal f files r t ≡ None
+    fine same = named ∙ ap (λ b. cond b None (Some (ManifestDiffers computed))) same
 
 -- what a test of two ids tells of their bytes
 pub not_same : (a b : Id) (test told : Bool) → test ≡ not (bytes_eq a.0 b.0) → test ≡ told → bytes_eq a.0 b.0 ≡ not told

@@ -9,8 +9,9 @@ use Rattle.mtn_history_laws.specs.History.{Revision, IsPlaceOf}
 use Rattle.mtn_join.specs.Join.{id_cmp}
 use Rattle.mtn_changes.specs.declared.change.Change.{Change}
 use Rattle.mtn_changes.specs.declared.change.Revision.{Revision as Spelled}
+use Rattle.mtn_roster.specs.Tree.{Tree}
 use Rattle.mtn_changeset_laws.specs.Changes.{or_else}
-use Rattle.mtn_replay.specs.Making.{place_of, bad_change, bad_join, made_tree, new_content, tree_refusal}
+use Rattle.mtn_replay.specs.Making.{place_of, bad_change, bad_join, made_tree, new_content, tree_refusal, unknown_file, other_manifest}
 use Rattle.mtn_model.specs.State.{State}
 use Rattle.mtn_model.specs.Table.{Table, Contents}
 use Rattle.mtn_ports.specs.Kept.{with_all}
@@ -66,6 +67,10 @@ IfFailed _ P = Unit {0}
 abbrev pub made_refusal_of : (List ℕ → List ℕ) → Table → List Revision → Id → Spelled → Option Cause
 made_refusal_of f files h new r =
     or_else (bad_change h 1 r.edges) (or_else (bad_join h new r.edges) (tree_refusal f files r (made_tree h new r.edges)))
+
+-- what a text refuses of the tree that its edges make: a content that is not held, and another manifest
+abbrev pub text_refusal : (List ℕ → List ℕ) → Table → Spelled → Tree → Option Cause
+text_refusal f files r t = or_else (unknown_file files r.edges) (other_manifest f t r.manifest)
 
 -- a change's content that is not held
 abbrev pub unknown_in : Table → Change → Option Id

@@ -12,7 +12,7 @@ ghost use Rattle.mtn_ports.specs.Causes.{Rose};
 ghost use Rattle.mtn_ports.specs.Kept.{Stays, with_all};
 ghost use Rattle.mtn_history.specs.Errors.{IfStoreDamage};
 ghost use Rattle.mtn_history.specs.Stands.{IsFounded};
-ghost use Rattle.mtn_put_revision.specs.Finding.{IsFound, IsRefusal, made_refusal_of};
+ghost use Rattle.mtn_put_revision.specs.Finding.{IsFound, IsRefusal, made_refusal_of, text_refusal};
 ghost use Rattle.mtn_ports.specs.Ident.{MakesIds};
 
 use crate::contents::unknown_content;
@@ -40,6 +40,39 @@ fn manifest_id<I: Ident>(
     let mut text = Vec::new(alloc);
     write_along(roster, stops, &mut text)?;
     Ok(ident.id(&text))
+}
+
+// Refuses a made tree over a content that is not held, or whose manifest is another than the text names.
+fn accept_tree<I: Ident, K: Keeper>(
+    alloc: Global,
+    ident: &I,
+    draft: &mut Draft<'_, K>,
+    read: &Revision,
+    made: &WalkedTree,
+) -> Result<(), HistoryError>
+    requires walk { AreStops made.now.tree made.now.stops.items }
+    ensures same_reference { draft.new.keeper.ghost_name ≡ draft.old.keeper.ghost_name }
+    ensures stays { Stays K.contents K.leaves K.faults draft.old.keeper.now draft.new.keeper.now }
+    ensures pending { draft.new.pending ≡ draft.old.pending }
+    ensures fine { (s : State) → IsFounded (I.meaning ident.now) (K.contents draft.new.keeper.now) draft.old.pending s →
+        OnOk result (text_refusal (I.meaning ident.now) s.files read.now made.now.tree ≡ None) }
+    ensures refused { (s : State) → IsFounded (I.meaning ident.now) (K.contents draft.new.keeper.now) draft.old.pending s →
+        IfErr result (IsRefusal (text_refusal (I.meaning ident.now) s.files read.now made.now.tree)) }
+    ensures reads { (f : List ℕ → List ℕ) (s : State) → IsFounded f (K.contents draft.new.keeper.now) draft.old.pending s → MakesIds f →
+        K.reads draft.new.keeper.now ≤ K.reads draft.old.keeper.now + (length (new_contents read.now.edges) + 1) }
+    ensures few { (f : List ℕ → List ℕ) (s : State) → IsFounded f (K.contents draft.new.keeper.now) draft.old.pending s → MakesIds f →
+        OnOk result (K.reads draft.new.keeper.now ≤ K.reads draft.old.keeper.now + length (new_contents read.now.edges)) }
+    ensures sound { IfErr result (λ e. IfStoreDamage e (λ _. ⊥)) }
+    ensures failed { result ≡ Err (HistoryError.Store StoreError.Failed) → Rose (K.faults draft.old.keeper.now) (K.faults draft.new.keeper.now) }
+{
+    if let Some(id) = unknown_content(draft, read.edges.as_slice())? {
+        return Err(HistoryError::Refused(Cause::UnknownFile { id }));
+    }
+    let computed = manifest_id(alloc, ident, &made.tree, &made.stops)?;
+    if computed != read.manifest {
+        return Err(HistoryError::Refused(Cause::ManifestDiffers { computed }));
+    }
+    Ok(())
 }
 
 /// The tree that a text's edges make over the basis, with its walk, or the first refusal that is not the parents': of a change, of joining,
@@ -77,19 +110,12 @@ pub fn tree_of<I: Ident, K: Keeper>(
         (IsFound (K.contents draft.new.keeper.now) draft.old.pending (with_all c draft.old.pending.batch)))) }
     ensures failed { result ≡ Err (HistoryError.Store StoreError.Failed) → Rose (K.faults draft.old.keeper.now) (K.faults draft.new.keeper.now) }
 {
-    let edges = read.edges.as_slice();
-    let made = match make(alloc, edges, basis, new) {
+    let made = match make(alloc, read.edges.as_slice(), basis, new) {
         Ok(made) => made,
         Err(MakeError::Refused(cause)) => return Err(HistoryError::Refused(cause)),
         Err(MakeError::Damaged) => return Err(HistoryError::Store(unfit(draft, parent))),
         Err(MakeError::NoMemory) => return Err(HistoryError::Store(StoreError::NoMemory)),
     };
-    if let Some(id) = unknown_content(draft, edges)? {
-        return Err(HistoryError::Refused(Cause::UnknownFile { id }));
-    }
-    let computed = manifest_id(alloc, ident, &made.tree, &made.stops)?;
-    if computed != read.manifest {
-        return Err(HistoryError::Refused(Cause::ManifestDiffers { computed }));
-    }
+    accept_tree(alloc, ident, draft, read, &made)?;
     Ok(made)
 }
