@@ -4,8 +4,7 @@ use mtn_cli::{Status, run};
 use mtn_keeper::{DatabaseFile, LazyKeeper, Opener};
 use mtn_pieces::{FreeGate, Sha1Many};
 use mtn_ports::{Batch, KeepError, Keeper, MemKeeper, StdSink, StdSource};
-use sqlite::FileStore;
-use sqlite_disk::Disk;
+use sqlite::Connection;
 use std::fs;
 use std::thread::Threads;
 
@@ -21,7 +20,8 @@ pub fn in_memory<T: Threads + Sync>(threads: &T, rt: &HostRuntime, words: &[Byte
     }
 }
 
-/// A command over a store in a file.
+/// A command over a store in a file. Closing folds the log of changes into the file; where that fails they stay in the log,
+/// and the next opening finds them.
 pub fn in_file<T: Threads + Sync>(
     threads: &T,
     rt: &HostRuntime,
@@ -29,28 +29,28 @@ pub fn in_file<T: Threads + Sync>(
     words: &[Bytes],
 ) -> Status {
     let file = DatabaseFile { rt, path };
-    in_database(threads, rt, words, file, is_missing(rt, path))
+    let (status, connection) = in_database(threads, rt, words, file, is_missing(rt, path));
+    if let Some(connection) = connection {
+        let _ = connection.close();
+    }
+    status
 }
 
-// A command over a database, which is opened at once where it may be there. Closing folds the log of changes into the file; where
-// that fails they stay in the log, and the next opening finds them.
-fn in_database<T: Threads + Sync, D: Disk + Drop, O: Opener<Store = FileStore<D>> + Drop>(
+// A command over a database, which is opened at once where it may be there; and its connection, where it was opened.
+fn in_database<T: Threads + Sync, O: Opener + Drop>(
     threads: &T,
     rt: &HostRuntime,
     words: &[Bytes],
     opener: O,
     is_missing: bool,
-) -> Status {
+) -> (Status, Option<Connection<O::Store>>) {
     match keeper_of(opener, is_missing) {
         Ok(mut keeper) => {
             let status = over(threads, rt, words, &mut keeper);
-            if let Some(connection) = keeper.into_connection() {
-                let _ = connection.close();
-            }
-            status
+            (status, keeper.into_connection())
         }
-        Err(KeepError::NoMemory) => Status::NoMemory,
-        Err(KeepError::Failed) => Status::StoreFault,
+        Err(KeepError::NoMemory) => (Status::NoMemory, None),
+        Err(KeepError::Failed) => (Status::StoreFault, None),
     }
 }
 
