@@ -22,7 +22,13 @@ pub roster_by_delta : (bytes rest : List ℕ) → bytes ≡ 1 ∷ rest → Begin
 roster_by_delta bytes rest is none (Whole v) r form e = absurd cc
 roster_by_delta bytes rest is none (Delta b d g c) r form e = none (b, (d, (g, c))) r form cc
 
--- four texts, one behind the other
+-- texts, one behind the other
+pub two : (out a b one all : List ℕ) → one ≡ out ++ a → all ≡ one ++ b → all ≡ out ++ (a ++ b)
+two out a b one all p q = q ∙ ap (λ x. x ++ b) p ∙ append_assoc out a b
+
+pub three : (out a b c one more all : List ℕ) → one ≡ out ++ a → more ≡ one ++ b → all ≡ more ++ c → all ≡ out ++ (a ++ (b ++ c))
+three out a b c one more all p q r = two out a (b ++ c) one all p (two one b c more all q r)
+
 pub four : (out a b c d one two three all : List ℕ) → one ≡ out ++ a → two ≡ one ++ b → three ≡ two ++ c → all ≡ three ++ d → all ≡ out ++ (a ++ (b ++ (c ++ d)))
 four out a b c d one two three all p q r s =
     s ∙ ap (λ x. x ++ d) (r ∙ ap (λ x. x ++ c) (q ∙ ap (λ x. x ++ b) p))

@@ -3,7 +3,8 @@ ghost use Rattle.std.specs.Prelude.{◌≡◌, IfOk};
 
 use crate::entry::{Numbered, NumberedAttr, NumberedBody, NumberedEntry};
 use crate::record::RosterRecord;
-use mtn_base::{Bytes, List, NoMemory};
+use mtn_ancestry::PosSet;
+use mtn_base::{Bytes, List, NoMemory, NodeName, ShortBytes};
 use std::alloc::Global;
 
 /// An equal value of an attribute.
@@ -69,16 +70,37 @@ impl NumberedEntry {
     pub fn copy(&self, alloc: Global) -> Result<NumberedEntry, NoMemory>
         ensures { IfOk result (λ e. e ≡ self.now) }
     {
+        let (node, name, slot_marks) = self.copy_place(alloc)?;
+        let (body, attrs) = self.copy_contents(alloc)?;
         Ok(NumberedEntry {
             number: self.number,
             birth_at: self.birth_at,
-            node: self.node.copy(alloc)?,
+            node,
             parent: self.parent,
-            name: self.name.copy(alloc)?,
-            slot_marks: self.slot_marks.copy()?,
-            body: self.body.copy()?,
-            attrs: List::from_vec(copy_attrs(alloc, self.attrs.as_slice())?),
+            name,
+            slot_marks,
+            body,
+            attrs,
         })
+    }
+
+    // The node's name, the name below the parent, and the marks of that.
+    fn copy_place(&self, alloc: Global) -> Result<(NodeName, ShortBytes, PosSet), NoMemory>
+        ensures { IfOk result (λ p. p ≡ (self.now.node, self.now.name, self.now.slot_marks)) }
+    {
+        Ok((
+            self.node.copy(alloc)?,
+            self.name.copy(alloc)?,
+            self.slot_marks.copy()?,
+        ))
+    }
+
+    fn copy_contents(&self, alloc: Global) -> Result<(NumberedBody, List<NumberedAttr>), NoMemory>
+        ensures { IfOk result (λ p. p ≡ (self.now.body, self.now.attrs)) }
+    {
+        let body = self.body.copy()?;
+        let attrs = copy_attrs(alloc, self.attrs.as_slice())?;
+        Ok((body, List::from_vec(attrs)))
     }
 }
 

@@ -1,6 +1,7 @@
 // Entries in a body.
 ghost use Rattle.std.specs.Prelude.{◌≡◌, ◌↔◌, ◌++◌, [], length, take, IfOk, OnOk, OnErr, IsErrOf, IsTrue};
 ghost use Rattle.mtn_records.specs.Fields.{Begins, BeginsWithNone, list_text, IsList, IsNumber, IsField, IsSet};
+ghost use Rattle.mtn_records.specs.EntriesApart.{with_parts};
 ghost use Rattle.mtn_records.specs.Entries.{birth_text, body_text, below_text, head_text, named_text, place_text, IsBody, IsBodyOf, IsHead, IsName, KeysAscend, NumbersAscend};
 
 use crate::entry::{Numbered, NumberedAttr, NumberedBody, NumberedEntry};
@@ -144,6 +145,34 @@ fn write_head(entry: &NumberedEntry, out: &mut Vec<u8>) -> Result<(), NoMemory>
 // Number, birth position, name, kind, the parent's number, the name below it, and the marks of both.
 type Head = (u64, (Pos, (NodeName, (bool, (u64, (ShortBytes, PosSet))))));
 
+// The entry of this head, body and attributes.
+fn with_parts(head: Head, body: NumberedBody, attrs: List<NumberedAttr>) -> NumberedEntry
+    ensures { result ≡ with_parts head body attrs }
+{
+    let (number, (birth_at, (node, (_, (parent, (name, slot_marks)))))) = head;
+    NumberedEntry {
+        number,
+        birth_at,
+        node,
+        parent,
+        name,
+        slot_marks,
+        body,
+        attrs,
+    }
+}
+
+// The entry, where a root slot has no name and the keys ascend.
+fn sound(entry: NumberedEntry) -> Result<NumberedEntry, RecordError>
+    ensures ok { IfOk result (λ e. (e ≡ entry) × ((e.parent ≡ 0 → e.name ≡ []) × KeysAscend e.attrs)) }
+    ensures bad { OnErr result ((entry.parent ≡ 0 → entry.name ≡ []) × KeysAscend entry.attrs → ⊥) }
+{
+    if !is_sound(entry.parent, &entry.name, &entry.attrs) {
+        return Err(RecordError::Bad);
+    }
+    Ok(entry)
+}
+
 impl Field for NumberedEntry {
     ghost use Rattle.mtn_records.specs.Entries.{entry_text, IsEntry};
     ghost use Rattle.mtn_records.specs.EntriesApart.{entry_apart};
@@ -154,22 +183,10 @@ impl Field for NumberedEntry {
 
     fn read(alloc: Global, bytes: &[u8]) -> Result<(NumberedEntry, &[u8]), RecordError> {
         let (head, rest) = Head::read(alloc, bytes)?;
-        let (number, (birth_at, (node, (file, (parent, (name, slot_marks)))))) = head;
-        let (body, rest) = read_body(alloc, file, rest)?;
+        let (_, (_, (_, (file, _)))) = &head;
+        let (body, rest) = read_body(alloc, *file, rest)?;
         let (attrs, rest) = read_list(alloc, rest)?;
-        if !is_sound(parent, &name, &attrs) {
-            return Err(RecordError::Bad);
-        }
-        let entry = NumberedEntry {
-            number,
-            birth_at,
-            node,
-            parent,
-            name,
-            slot_marks,
-            body,
-            attrs,
-        };
+        let entry = sound(with_parts(head, body, attrs))?;
         Ok((entry, rest))
     }
 

@@ -1,5 +1,7 @@
 -- Part by part: what a part is read from is what the one before left.
-use Rattle.std.proofs.Common.{rules}
+use Rattle.std.proofs.Common.{◌≡◌, ◌∙◌, subst, [], rules}
+use Rattle.mtn_records.specs.declared.entry.NumberedEntry.{NumberedEntry}
+use Rattle.mtn_records.specs.Entries.{KeysAscend}
 use Rattle.mtn_records.proofs.Entering.{none_by_head, none_by_body, none_by_attrs, none_by_form, begins}
 use Rattle.mtn_records.proofs.entries.NumberedEntryField.read.Goals as goal
 
@@ -13,12 +15,14 @@ pub returns-in_err-attrs-clause-bad : goal.returns-in_err-attrs-clause-bad
 returns-in_err-attrs-clause-bad c is =
     none_by_attrs c.args.bytes.now c.in_ok-head.rest.now c.in_ok-head.head c.in_ok-head.ensures.ok c.in_ok-body.body c.in_ok-body.rest.now c.in_ok-body.ensures.ok (c.in_err-attrs.ensures.bad (search rules))
 
-pub returns-then-not-is_sound-clause-bad : goal.returns-then-not-is_sound-clause-bad
-returns-then-not-is_sound-clause-bad c is =
+pub returns-in_err-entry-clause-bad : goal.returns-in_err-entry-clause-bad
+returns-in_err-entry-clause-bad c is =
     none_by_form c.args.bytes.now c.in_ok-head.rest.now c.in_ok-head.head c.in_ok-head.ensures.ok c.in_ok-body.body c.in_ok-body.rest.now c.in_ok-body.ensures.ok c.in_ok-attrs.attrs c.in_ok-attrs.rest.now c.in_ok-attrs.ensures.ok
-    (λ entry. let sound = c.is_sound.ensures.1 (entry.root, entry.keys) in absurd (cc (sound, c.if-not-is_sound.true)))
+    (λ entry. c.in_err-entry.ensures.bad (rw c.with_parts.ensures (entry.root, entry.keys)))
 
 pub returns-clause-ok : goal.returns-clause-ok
 returns-clause-ok c =
-    let sound = c.is_sound.ensures.0 c.if-not-is_sound.false in
-    begins c.args.bytes.now c.in_ok-head.rest.now c.in_ok-head.head c.in_ok-head.ensures.ok c.in_ok-body.body c.in_ok-body.rest.now c.in_ok-body.ensures.ok c.in_ok-attrs.attrs c.in_ok-attrs.rest.now c.in_ok-attrs.ensures.ok sound.0 sound.1
+    let entry = c.in_ok-entry.ensures.ok in
+    let is = entry.0 ∙ c.with_parts.ensures in
+    let sound = subst (λ (e : NumberedEntry). (e.parent ≡ 0 → e.name ≡ []) × KeysAscend e.attrs) is entry.1 in
+    rw is (begins c.args.bytes.now c.in_ok-head.rest.now c.in_ok-head.head c.in_ok-head.ensures.ok c.in_ok-body.body c.in_ok-body.rest.now c.in_ok-body.ensures.ok c.in_ok-attrs.attrs c.in_ok-attrs.rest.now c.in_ok-attrs.ensures.ok sound.0 sound.1)
