@@ -1,7 +1,7 @@
 #!/usr/bin/env python3
-"""Works out the canonical changeset of each case on standard input, written as crates/mtn_cases_between reads it, and prints
-what that program must print. Each node of either tree is asked what changes of it, and the changes are sorted at the end; no
-tree is walked along another. `changesets.py SEED COUNT` prints so many random cases instead."""
+"""Works out the canonical changeset of each case on standard input, written as crates/mtn_cases_merges reads it for `between`,
+and prints what that program must print. Each node of either tree is asked what changes of it, and the changes are sorted at the
+end; no tree is walked along another. `changesets.py SEED COUNT` prints so many random cases instead."""
 import random
 import sys
 
@@ -127,6 +127,7 @@ def random_cases(seed, count):
         print('# random %d' % number)
         spelled(old, 'old')
         spelled(new, 'new')
+        print('between')
 
 
 def main():

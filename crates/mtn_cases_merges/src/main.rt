@@ -1,4 +1,5 @@
-//! Tries the calls of `mtn_decide` and `mtn_conflicts` on the cases of standard input, and prints what each answers.
+//! Tries the calls of `mtn_decide`, `mtn_conflicts` and `mtn_between` on the cases of standard input, and prints what each
+//! answers.
 //!
 //! A case begins with `#` and a title, which is printed again. Its other lines make a history or decisions, or ask. Trees are
 //! spelled as `mtn_case_trees` says, and a revision's id by its digit.
@@ -11,11 +12,14 @@
 //! - `none LEFT RIGHT`: prints whether there is none.
 //! - `write LEFT RIGHT`: prints the text of the conflicts; the first id is the lesser.
 //! - `result LEFT RIGHT ID`: prints the tree of a merge without conflicts.
+//! - `between`: prints the text of the canonical changeset from the tree of the lines `old ENTRY` to that of the lines
+//!   `new ENTRY`.
 //! - `choices`, `lives`: print the answer of `merge_scalar` and of `lives` for all sets of two positions.
 //!
 //! `no answer` is printed where none can be given.
 #![tactic(auto)]
 
+mod changes;
 mod choices;
 mod decided;
 mod listed;
@@ -29,12 +33,24 @@ use question::question;
 use std::alloc::Global;
 use std::io::{self, Read, Write};
 
+/// Answers a line of one word, if it asks.
+fn of_word(alloc: Global, case: &[u8], word: &str, out: &mut Vec<u8>) -> Option<()> {
+    match word {
+        "between" => changes::put_between(alloc, case, out),
+        "choices" => choices::choices(alloc, out),
+        "lives" => choices::living(alloc, out),
+        _ => Some(()),
+    }
+}
+
 /// Answers the words of a line, if they ask.
 fn of_words(alloc: Global, case: &[u8], words: &[&[u8]], out: &mut Vec<u8>) -> Option<()> {
     match words {
-        [b"choices"] => choices::choices(alloc, out),
-        [b"lives"] => choices::living(alloc, out),
-        [word, left, right, rest @ ..] => question(alloc, case, word, [*left, *right], rest, out),
+        [word] => of_word(alloc, case, str::from_utf8(word).ok()?, out),
+        [word, left, right, rest @ ..] => {
+            let word = str::from_utf8(word).ok()?;
+            question(alloc, case, word, [*left, *right], rest, out)
+        }
         _ => Some(()),
     }
 }

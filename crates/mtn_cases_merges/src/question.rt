@@ -40,10 +40,10 @@ fn put_written(found: &Conflicts, sides: [&[u8]; 2], out: &mut Vec<u8>) -> Optio
     put_text(left, id_of(sides[1])?, found, out)
 }
 
-fn put_found(found: &Conflicts, word: &[u8], sides: [&[u8]; 2], out: &mut Vec<u8>) -> Option<()> {
+fn put_found(found: &Conflicts, word: &str, sides: [&[u8]; 2], out: &mut Vec<u8>) -> Option<()> {
     match word {
-        b"conflicts" => put_lists(found, out),
-        b"write" => put_written(found, sides, out),
+        "conflicts" => put_lists(found, out),
+        "write" => put_written(found, sides, out),
         _ => put_none(found, out),
     }
 }
@@ -71,13 +71,13 @@ fn put_merged(
 fn put_answer(
     alloc: Global,
     case: &[u8],
-    word: &[u8],
+    word: &str,
     sides: [&[u8]; 2],
     out: &mut Vec<u8>,
 ) -> Option<()> {
     match word {
-        b"decide" => put_decided(alloc, case, sides, out),
-        b"conflicts" | b"none" | b"write" => {
+        "decide" => put_decided(alloc, case, sides, out),
+        "conflicts" | "none" | "write" => {
             put_found(&conflicts_of(alloc, case, sides)?, word, sides, out)
         }
         _ => Some(()),
@@ -88,14 +88,14 @@ fn put_answer(
 pub fn question(
     alloc: Global,
     case: &[u8],
-    word: &[u8],
+    word: &str,
     sides: [&[u8]; 2],
     rest: &[&[u8]],
     out: &mut Vec<u8>,
 ) -> Option<()> {
     match rest {
         [] => put_answer(alloc, case, word, sides, out),
-        [id] if word == b"result".as_slice() => put_merged(alloc, case, sides, id, out),
+        [id] if word == "result" => put_merged(alloc, case, sides, id, out),
         _ => Some(()),
     }
 }
