@@ -1,8 +1,8 @@
 // Entries in a body.
 ghost use Rattle.std.specs.Prelude.{◌≡◌, ◌↔◌, ◌++◌, [], length, take, IfOk, OnOk, OnErr, IsErrOf, IsTrue};
-ghost use Rattle.mtn_records.specs.Fields.{Begins, BeginsWithNone, list_text, IsList, IsNumber, IsField, IsSet};
+ghost use Rattle.mtn_records.specs.Fields.{Begins, BeginsWithNone, list_text, pair_text, IsList, IsNumber, IsField, IsPair, IsSet};
 ghost use Rattle.mtn_records.specs.EntriesApart.{with_parts};
-ghost use Rattle.mtn_records.specs.Entries.{birth_text, body_text, below_text, head_text, named_text, place_text, IsBody, IsBodyOf, IsHead, IsName, KeysAscend, NumbersAscend};
+ghost use Rattle.mtn_records.specs.Entries.{attr_text, birth_text, body_text, below_text, head_text, named_text, place_text, IsAttr, IsBody, IsBodyOf, IsHead, IsName, KeysAscend, NumbersAscend};
 
 use crate::entry::{Numbered, NumberedAttr, NumberedBody, NumberedEntry};
 use crate::error::RecordError;
@@ -145,11 +145,24 @@ fn write_head(entry: &NumberedEntry, out: &mut Vec<u8>) -> Result<(), NoMemory>
 // Number, birth position, name, kind, the parent's number, the name below it, and the marks of both.
 type Head = (u64, (Pos, (NodeName, (bool, (u64, (ShortBytes, PosSet))))));
 
+type Contents = (NumberedBody, List<NumberedAttr>);
+
+// The body of a file, or of a directory, and the attributes.
+fn read_contents(alloc: Global, file: bool, bytes: &[u8]) -> Result<(Contents, &[u8]), RecordError>
+    ensures ok { IfOk result (λ r. Begins (pair_text body_text (list_text attr_text)) (IsPair (IsBodyOf file) (IsList IsAttr)) bytes.now r.0 r.1.now) }
+    ensures bad { IsErrOf result RecordError.Bad → BeginsWithNone (pair_text body_text (list_text attr_text)) (IsPair (IsBodyOf file) (IsList IsAttr)) bytes.now }
+{
+    let (body, rest) = read_body(alloc, file, bytes)?;
+    let (attrs, rest) = read_list(alloc, rest)?;
+    Ok(((body, attrs), rest))
+}
+
 // The entry of this head, body and attributes.
-fn with_parts(head: Head, body: NumberedBody, attrs: List<NumberedAttr>) -> NumberedEntry
-    ensures { result ≡ with_parts head body attrs }
+fn with_parts(head: Head, contents: Contents) -> NumberedEntry
+    ensures { result ≡ with_parts head contents.0 contents.1 }
 {
     let (number, (birth_at, (node, (_, (parent, (name, slot_marks)))))) = head;
+    let (body, attrs) = contents;
     NumberedEntry {
         number,
         birth_at,
@@ -184,9 +197,8 @@ impl Field for NumberedEntry {
     fn read(alloc: Global, bytes: &[u8]) -> Result<(NumberedEntry, &[u8]), RecordError> {
         let (head, rest) = Head::read(alloc, bytes)?;
         let (_, (_, (_, (file, _)))) = &head;
-        let (body, rest) = read_body(alloc, *file, rest)?;
-        let (attrs, rest) = read_list(alloc, rest)?;
-        let entry = sound(with_parts(head, body, attrs))?;
+        let (contents, rest) = read_contents(alloc, *file, rest)?;
+        let entry = sound(with_parts(head, contents))?;
         Ok((entry, rest))
     }
 

@@ -1,5 +1,5 @@
 -- What an error leaves begins with what was there.
-use Rattle.std.proofs.Common.{◌≡◌, ap, ◌∙◌, ◌++◌}
+use Rattle.std.proofs.Common.{ap, ◌∙◌, ◌++◌}
 use Rattle.std.proofs.lemmas.Result.{on_ok_weaker, on_err_weaker}
 use Rattle.mtn_records.specs.Fields.{flag_text, number_text}
 use Rattle.mtn_records.specs.Entries.{is_file, below_text}
