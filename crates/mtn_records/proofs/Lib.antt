@@ -3,3 +3,4 @@ pub mod Entering
 pub mod Recording
 pub mod Lengths
 pub mod PathRefused
+pub mod Turns
