@@ -1,8 +1,9 @@
 -- What one turn of a loop adds.
 use Rattle.std.proofs.Common.{◌≡◌, sym, ap, ◌∙◌, subst, ℕ, ◌+◌, ◌<◌, List, [], ◌∷◌, ◌++◌, length, take, get_or}
 use Rattle.std.specs.List.{AllByRecursion, flat_map}
-use Rattle.std.proofs.lemmas.List.{flat_map_more, take_more}
+use Rattle.std.proofs.lemmas.List.{append_assoc, flat_map_more, take_more}
 use Rattle.std.proofs.lemmas.List.Elements.{All-from_recursion}
+use Rattle.mtn_records.specs.Fields.{number_text, list_text}
 
 module _ {A : Type 0} (xs : List A) (i : ℕ) (x : A) (low : i < length xs) (is : x ≡ get_or xs i x) where
   front_more : take i xs ++ x ∷ [] ≡ take (i + 1) xs
@@ -18,3 +19,8 @@ module _ {A : Type 0} (xs : List A) (i : ℕ) (x : A) (low : i < length xs) (is 
 
   pub item_formed : (f : A → Type 0) → AllByRecursion f xs → f x
   item_formed f all = subst f (sym is) (All-from_recursion f xs all i x low)
+
+-- all items behind their count
+pub list_behind : {A : Type 0} (t : A → List ℕ) (xs seen : List A) (out one all : List ℕ) → seen ≡ xs → one ≡ out ++ number_text (length seen) → all ≡ one ++ flat_map t seen → all ≡ out ++ list_text t xs
+list_behind t xs seen out one all same p q =
+    q ∙ ap (λ l. l ++ flat_map t seen) p ∙ append_assoc out (number_text (length seen)) (flat_map t seen) ∙ ap (λ l. out ++ list_text t l) same
