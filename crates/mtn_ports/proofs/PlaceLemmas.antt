@@ -1,5 +1,5 @@
 -- A map from keys to places, read by the bytes of its keys.
-use Rattle.std.proofs.Common.{◌≡◌, ℕ, suc, zero, Bool, true, false, cond, List, [], ◌∷◌, ◌++◌, Option, Some, None, refl, sym, ap, ◌∙◌, subst}
+use Rattle.std.proofs.Common.{◌≡◌, ◌<◌, ℕ, suc, zero, Bool, true, false, cond, List, [], ◌∷◌, ◌++◌, length, get_or, Option, Some, None, refl, sym, ap, ◌∙◌, subst, ltb}
 use Rattle.std.specs.Prelude.{bytes_eq, slice_get, Vec, IsSome}
 use Rattle.std.specs.BTreeMap as tree
 use Rattle.std.specs.BTreeMap.{BTreeMap, is_at}
@@ -11,9 +11,11 @@ use Rattle.std.specs.declared.cmp.Ordering.TheVariants.{Less}
 use Rattle.std.specs.declared.ops.Bound.TheVariants.{Excluded, Unbounded}
 use Rattle.std.specs.Cmp.{eq_by_cmp_equiv}
 use Rattle.std.specs.Cmp.Lexicographic.{slice_cmp}
+use Rattle.std.proofs.lemmas.Bool.{ltb-true}
 use Rattle.std.proofs.lemmas.Cmp.{nat_list_cmp_total}
 use Rattle.std.proofs.lemmas.Slice.Eq.{bytes_eq-Decides}
 use Rattle.std.proofs.lemmas.Map.Text.{is_eq-slice_cmp}
+use Rattle.std.proofs.lemmas.Option.{slice_get_read}
 use Rattle.mtn_ports.specs.Kept.{LeastOf, IsAbove}
 use Rattle.mtn_ports.specs.Newest.{place_under, place_of, SetsUnder}
 
@@ -111,3 +113,12 @@ place_of-append [] m empty zero key = ap (lookup (is_at (λ k. slice_cmp nat_cmp
 place_of-append [] m empty (suc table) key = refl
 place_of-append (n ∷ ms) m empty zero key = refl
 place_of-append (n ∷ ms) m empty (suc table) key = place_of-append ms m empty table key
+
+-- the map of a table, as indexing reads it
+pub map_at : {X : Type 0} (ms : List X) (i table : ℕ) (m : X) → i ≡ table → table < length ms → m ≡ get_or ms i m → slice_get ms table ≡ Some m
+map_at ms i table m same below at = slice_get_read ms (length ms) table m refl below (subst (λ (j : ℕ). m ≡ get_or ms j m) same at)
+
+-- the same, as `get` reads it
+pub map_at_lent : {X : Type 0} (lent ms : List X) (i table : ℕ) (m : X) → lent ≡ ms → i ≡ table → true ≡ ltb i (length lent) → m ≡ get_or lent i m → slice_get ms table ≡ Some m
+map_at_lent {X} lent ms i table m whole same below at =
+    subst (λ (xs : List X). slice_get xs table ≡ Some m) whole (map_at lent i table m same (subst (λ (j : ℕ). j < length lent) same (ltb-true i (length lent) (sym below))) at)
