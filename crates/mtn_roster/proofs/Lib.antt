@@ -4,6 +4,7 @@ pub mod Looking
 pub mod Ordered
 pub mod Searching
 pub mod BySlot
+pub mod Reading
 pub mod Childless
 pub mod Near
 pub mod Pathing

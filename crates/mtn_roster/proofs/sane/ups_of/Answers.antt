@@ -6,12 +6,9 @@ use Rattle.mtn_roster.specs.declared.entry.Slot.{Slot}
 use Rattle.mtn_roster.specs.Tree.{Tree}
 use Rattle.mtn_roster.specs.Index.{slot_in}
 use Rattle.mtn_roster.specs.Building.{IsUp, hangs_well}
-use Rattle.mtn_roster.proofs.BySlot.{slot_is}
+use Rattle.mtn_roster.proofs.Reading.{slot_read}
 use Rattle.mtn_roster.proofs.Stops.{one_more}
 use Rattle.mtn_roster.proofs.sane.ups_of.Goals as goal
-
-slot_read : (t : Tree) (k : ℕ) (e : Entry) → k < length t → e ≡ get_or t k e → e.slot ≡ slot_in t k
-slot_read t k e low is = sym (slot_is t k e (slice_get-get_or t k e low ∙ ap Some (sym is)))
 
 pub loop-own-preserved : goal.loop-own-preserved
 loop-own-preserved c =

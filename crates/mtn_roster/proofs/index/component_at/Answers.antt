@@ -1,0 +1,16 @@
+-- By what was read.
+use Rattle.std.proofs.Common.{ap, ◌∙◌}
+use Rattle.mtn_roster.specs.declared.entry.Slot.TheVariants.{Root, Below}
+use Rattle.mtn_roster.specs.Walk.{component}
+use Rattle.mtn_roster.proofs.Reading.{slot_past, slot_found}
+use Rattle.mtn_roster.proofs.index.component_at.Goals as goal
+
+pub returns-in-None : goal.returns-in-None
+returns-in-None c = ap component (slot_past c.args.entries.now c.args.at c.in-None.ensures.lookup.3)
+
+pub returns-in-Root : goal.returns-in-Root
+returns-in-Root c = ap component (slot_found c.args.entries.now c.args.at c.in-Some.entry.now Root c.in-Some.ensures.lookup.3 c.in-Root.is)
+
+pub returns-in-Below : goal.returns-in-Below
+returns-in-Below c =
+    c.bytes.ensures.value ∙ ap component (slot_found c.args.entries.now c.args.at c.in-Some.entry.now (Below c.in-Below.parent c.in-Below.name) c.in-Some.ensures.lookup.3 c.in-Below.is)
