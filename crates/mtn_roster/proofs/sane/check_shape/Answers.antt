@@ -1,8 +1,10 @@
 -- By the tests.
 use Rattle.std.proofs.Common.{◌≡◌, ◌<◌, ℕ, length, Some, sym, ◌∙◌, ap, slice_get, get_or}
-use Rattle.std.proofs.lemmas.Option.{slice_get-get_or}
+use Rattle.std.proofs.lemmas.Bool.{false≢true}
+use Rattle.std.proofs.lemmas.Option.{slice_get-get_or, none-some}
 use Rattle.mtn_roster.specs.declared.entry.Entry.{Entry}
 use Rattle.mtn_roster.specs.Tree.{Tree, root_of, is_dir}
+use Rattle.mtn_roster.proofs.Forest.{same_some}
 use Rattle.mtn_roster.proofs.Telling.{top_is, sane_by_test, root_by_sane, reach_by_sane}
 use Rattle.mtn_roster.proofs.sane.check_shape.Goals as goal
 
@@ -11,18 +13,15 @@ held : (t : Tree) (at : ℕ) (e : Entry) → at < length t → e ≡ get_or t at
 held t at e low is = slice_get-get_or t at e low ∙ ap Some (sym is)
 
 pub returns-in_default-clause-insane : goal.returns-in_default-clause-insane
-returns-in_default-clause-insane c = λ _ s. let a = root_by_sane c.args.entries.now c.requires.rising s in let b = c.in_default.ensures.entry in absurd cc
+returns-in_default-clause-insane c = λ _ s. absurd (none-some s.root.1 (c.in_default.ensures.entry ∙ root_by_sane c.args.entries.now c.requires.rising s))
 
 pub returns-then-not-is_dir-clause-insane : goal.returns-then-not-is_dir-clause-insane
 returns-then-not-is_dir-clause-insane c = λ _ s.
-    let a = root_by_sane c.args.entries.now c.requires.rising s in
-    let b = c.in-Some.ensures.entry in
+    let t = c.args.entries.now in
     let e : Entry = c.index-entries-root.result in
-    let i = held c.args.entries.now c.in-Some.root e c.in-Some.ensures.within c.index-entries-root.is in
-    let d = s.root.4 in
-    let f = c.if-not-is_dir.ensures in
-    let same : e ≡ s.root.1 = cc in
-    absurd cc
+    let i = held t c.in-Some.root e c.in-Some.ensures.within c.index-entries-root.is in
+    let same : e ≡ s.root.1 = same_some (sym c.in-Some.ensures.entry ∙ i) (root_by_sane t c.requires.rising s) in
+    absurd (false≢true (c.if-not-is_dir.ensures ∙ sym (ap (λ (f : Entry). is_dir f) c.index-entries-root.is) ∙ ap (λ (f : Entry). is_dir f) same ∙ s.root.4))
 
 pub all_lead-requires-clause-top : goal.all_lead-requires-clause-top
 all_lead-requires-clause-top c =

@@ -1,9 +1,6 @@
 -- One more place.
-use Rattle.std.proofs.Common.{◌≡◌, ◌<◌, ◌∙◌, ℕ, List, [], ◌∷◌, length, length-append, get_or, true, false, Some, refl, sym, ap, subst, arith}
-use Rattle.std.proofs.lemmas.Option.{slice_get-get_or}
-use Rattle.mtn_roster.specs.declared.entry.Entry.{Entry}
+use Rattle.std.proofs.Common.{◌≡◌, List, ℕ, [], ◌∷◌, length, length-append, get_or, true, false, refl, sym, ap, subst, arith}
 use Rattle.mtn_roster.specs.declared.entry.Slot.{Slot}
-use Rattle.mtn_roster.specs.Tree.{Tree}
 use Rattle.mtn_roster.specs.Index.{slot_in}
 use Rattle.mtn_roster.specs.Building.{IsUp, hangs_well}
 use Rattle.mtn_roster.proofs.Reading.{slot_read}
