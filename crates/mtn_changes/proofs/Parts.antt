@@ -2,6 +2,7 @@
 use Rattle.std.proofs.Common.{◌≡◌, ℕ, zero, suc, ◌+◌, ◌<◌, Bool, true, false, cond, List, [], ◌∷◌, ◌++◌, length, get_or, take, drop, map, refl, sym, ap, subst, ◌∙◌, arith}
 use Rattle.std.specs.Prelude.{◌||◌, not}
 use Rattle.std.specs.List.{list_any}
+use Rattle.std.specs.Prelude.{OnOk, Result, Ok, Err}
 use Rattle.std.proofs.lemmas.Bool.{not-true, not-false}
 use Rattle.std.proofs.lemmas.List.{length-take-le, length-map}
 use Rattle.std.proofs.lemmas.List.Folds.{list_any-append}
@@ -18,7 +19,7 @@ use Rattle.mtn_changes.specs.declared.error.ChangeTextError.{ChangeTextError}
 use Rattle.mtn_changes.specs.Stanzas.{stanza_of}
 use Rattle.mtn_changes.specs.Faults.{numbered_of}
 use Rattle.mtn_changes.specs.ChangesText.{AreChanges, IsFaultAt, IsListFault}
-use Rattle.mtn_changes.specs.Lists.{last_rank, is_taken, IsFault}
+use Rattle.mtn_changes.specs.Lists.{last_rank, is_taken, IsFault, IsPart, StandsBehind, IsNextChange}
 
 pub last_rank-push : (cs : List Change) (c : Change) → last_rank (cs ++ c ∷ []) ≡ rank c
 last_rank-push [] c = refl
@@ -76,3 +77,17 @@ list_fault ss at cs s BadOrder e lt is lawful read fault same = let P : ChangeTe
 list_fault ss at cs s Repeated e lt is lawful read fault same = let P : ChangeTextError → Type 0 = λ x. IsListFault ss x in subst P (sym same) (fault_of ss at cs s Repeated lt is lawful read fault)
 list_fault ss at cs s BadEdge e lt is lawful read fault same = absurd fault
 list_fault ss at cs s NoMemory e lt is lawful read fault same = let P : ChangeTextError → Type 0 = λ x. IsListFault ss x in subst P (sym same) tt
+
+-- a part's changes are those that were read
+pub whole_part : (read changes : List Change) (targets : BTreeSet Target) (last : ℕ) → IsPart read changes targets last → IsPart changes changes targets last
+whole_part read changes targets last part = subst (λ (cs : List Change). IsPart cs changes targets last) (sym part.same) part
+
+-- no changes are lawful
+pub none_lawful : (cs : List Change) → cs ≡ [] → AreChanges cs
+none_lawful cs none k d lt = absurd (omega (arith, ap length none, lt))
+
+-- the change of the stanza stands behind the others
+pub next_put : (r : Result (Unit {0}) Fault) (before after : List Change) (s : List LineText) (c : Change) (targets : BTreeSet Target) (last : ℕ) → s ≡ stanza_of c → OnOk r (IsPart (before ++ c ∷ []) after targets last)
+    → OnOk r (StandsBehind before c) → OnOk r (IsNextChange before s after)
+next_put (Ok u) before after s c targets last is part stands = (c, is, stands, part.same)
+next_put (Err e) before after s c targets last is part stands = tt

@@ -10,7 +10,7 @@ use Rattle.mtn_changes.specs.declared.change.Change.{Change}
 use Rattle.mtn_changes.specs.Changes.{IsChange, rank}
 use Rattle.mtn_changes.specs.Stanzas.{stanza_of}
 use Rattle.mtn_changes.specs.Targets.{AreApart}
-use Rattle.mtn_changes.specs.Lists.{last_rank}
+use Rattle.mtn_changes.specs.Lists.{last_rank, StandsBehind}
 use Rattle.mtn_changes.specs.ChangesText.{AreChanges}
 use Rattle.mtn_changes.specs.Runs.{AreRising, EndsRun, IsRun}
 use Rattle.mtn_changes.proofs.Sorted.{fresh}
@@ -18,20 +18,28 @@ use Rattle.mtn_changes.proofs.Sorted.{fresh}
 abbrev Rises : List Change → Change → Type 0
 Rises before c = IsChange c × (last_rank before ≤ rank c)
 
-pub rising_more : (cs : List Change) (c : Change) → AreRising cs → IsChange c → last_rank cs ≤ rank c → AreRising (cs ++ c ∷ [])
-rising_more cs c rising is up k d lt = by (nat_lt k (length cs)) refl where
-  by : (b : Bool) → nat_lt k (length cs) ≡ b → Rises (take k (cs ++ c ∷ [])) (get_or (cs ++ c ∷ []) k d)
+-- what holds of each change behind those before it holds with one change more
+each_more : (P : List Change → Change → Type 0) (cs : List Change) (c : Change) → ((k : ℕ) (d : Change) → k < length cs → P (take k cs) (get_or cs k d)) → P cs c → (k : ℕ) (d : Change) → k < length (cs ++ c ∷ [])
+    → P (take k (cs ++ c ∷ [])) (get_or (cs ++ c ∷ []) k d)
+each_more P cs c each is k d lt = by (nat_lt k (length cs)) refl where
+  by : (b : Bool) → nat_lt k (length cs) ≡ b → P (take k (cs ++ c ∷ [])) (get_or (cs ++ c ∷ []) k d)
   by true e =
       let low : k < length cs = grind (arith, nat_tests) in
       let front : take k (cs ++ c ∷ []) ≡ take k cs = take-append-le k cs (c ∷ []) (omega arith) in
       let here : get_or (cs ++ c ∷ []) k d ≡ get_or cs k d = get_or_append_left cs (c ∷ []) d k low in
-      rw (front, here) (rising k d low)
+      rw (front, here) (each k d low)
   by false e =
       let high : length cs ≤ k = grind (arith, nat_tests) in
       let last : k ≡ length cs = omega (arith, lt, length-append cs (c ∷ [])) in
       let front : take (length cs) (cs ++ c ∷ []) ≡ cs = take-append_seam cs (c ∷ []) in
       let here : get_or (cs ++ c ∷ []) (length cs) d ≡ c = get_or-append_seam cs c [] d in
-      rw (last, front, here) (is, up)
+      rw (last, front, here) is
+
+pub rising_more : (cs : List Change) (c : Change) → AreRising cs → IsChange c → last_rank cs ≤ rank c → AreRising (cs ++ c ∷ [])
+rising_more cs c rising is up = each_more Rises cs c rising (is, up)
+
+pub lawful_more : (cs : List Change) (c : Change) → AreChanges cs → StandsBehind cs c → AreChanges (cs ++ c ∷ [])
+lawful_more cs c lawful stands = each_more StandsBehind cs c lawful stands
 
 pub rising_lawful : (cs : List Change) → AreRising cs → AreApart cs → AreChanges cs
 rising_lawful cs rising apart k d lt = record { lawful = (rising k d lt).0; ordered = (rising k d lt).1; fresh = fresh cs apart k d lt }
