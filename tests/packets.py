@@ -2,6 +2,7 @@
 """Answers the cases on standard input as crates/mtn_cases_packets has to: inputs are matched by regular expressions and decoded by
 Python's base64. `packets.py SEED COUNT` prints so many random cases instead, most of them packets with a few bytes changed."""
 import base64
+import hashlib
 import random
 import re
 import sys
@@ -109,6 +110,20 @@ def long(count):
     return write(('file', name, b'a' * count)) + write(('cert', name, b'n', 'id', name, b'a' * count, b's' * count))
 
 
+def ids(texts):
+    return b'%d' % len(texts) + b''.join(b' ' + hashlib.sha1(text).hexdigest().encode() for text in texts)
+
+
+def in_pieces(word, fields):
+    """Ids, or what texts with blanks behind each are read as; in how many pieces changes neither."""
+    numbers = 1 if word == b'ids' else 2
+    if len(fields) < numbers or not all(field.isdigit() for field in fields[:numbers]):
+        return b'?'
+    if word == b'ids':
+        return ids(fields[1:])
+    return told(read_all(b''.join(text + b' ' * int(fields[1]) for text in fields[2:])), True)
+
+
 def answer(line):
     word, _, rest = line.partition(b' ')
     if word == b'read':
@@ -120,6 +135,10 @@ def answer(line):
     if word == b'long':
         return long(int(rest))
     fields = [plain(field) for field in rest.split(b' ')]
+    if word in (b'ids', b'pieces'):
+        return in_pieces(word, fields)
+    if word not in (b'file', b'revision', b'cert', b'passed'):
+        return b'?'
     if word == b'cert':
         fields[2] = fields[2].decode()
     return write((word.decode(), *fields)) or b'no'

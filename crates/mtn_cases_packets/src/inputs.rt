@@ -65,9 +65,9 @@ fn put_error(alloc: Global, error: PacketError, said: &mut Said) {
     }
 }
 
-/// `read INPUT`: the number of packets and what they hold, or the first bad one's number and fault.
-fn read(alloc: Global, text: &[u8], said: &mut Said) {
-    match read_all(alloc, text) {
+/// What an input was read as: the number of packets and what they hold, or the first bad one's number and fault.
+pub fn put_read(alloc: Global, read: Result<Vec<Packet>, PacketError>, said: &mut Said) {
+    match read {
         Ok(packets) => {
             said.put_number(alloc, packets.len() as u64);
             put_packets(&packets, said);
@@ -128,10 +128,10 @@ fn cuts(alloc: Global, text: &[u8], said: &mut Said) {
     put_run(alloc, count, &before, said);
 }
 
-/// `read INPUT`, `again INPUT`, `cuts INPUT`.
+/// `read INPUT`: what it is read as; `again INPUT`, `cuts INPUT`.
 pub fn answer(alloc: Global, word: &str, text: &[u8], said: &mut Said) -> Option<()> {
     match word {
-        "read" => read(alloc, text, said),
+        "read" => put_read(alloc, read_all(alloc, text), said),
         "cuts" => cuts(alloc, text, said),
         _ => return again(alloc, text, said),
     }

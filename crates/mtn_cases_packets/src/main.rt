@@ -1,49 +1,64 @@
-//! Tries the calls of `mtn_packets` on lines of standard input, and prints what each answers in a line of its own.
+//! Tries the calls of `mtn_packets` and `mtn_pieces` on lines of standard input, and prints what each answers in a line of its own.
 //!
-//! A line is a word, a blank, and what it takes: an input, which is the rest of the line, or fields with a blank between two.
-//! Bytes stand in Rust's escapes, here and in the output: `\n`, `\\`, `\xff`. A line that begins with `#` is a remark. `?` is
-//! printed where a line is no case.
+//! A line is a word, a blank, and what it takes: an input, which is the rest of the line, or fields with a blank between two,
+//! where two blanks in a row hold the empty field between them. Bytes stand in Rust's escapes, here and in the output: `\n`,
+//! `\\`, `\xff`. A line that begins with `#` is a remark. `?` is printed where a line is no case.
 #![tactic(auto)]
 
 mod inputs;
 mod made;
+mod pieces;
 mod said;
 mod words;
 
 use said::Said;
 use std::alloc::Global;
 use std::io::{self, Read, Write};
+use std::thread::Threads;
 
 // A word takes an input, or fields.
-fn of_word(alloc: Global, word: &str, rest: &[u8], said: &mut Said) -> Option<()> {
+fn of_word<R: Threads + Sync>(
+    rt: &R,
+    alloc: Global,
+    word: &str,
+    rest: &[u8],
+    said: &mut Said,
+) -> Option<()> {
     match word {
         "read" | "again" | "cuts" => {
             inputs::answer(alloc, word, &words::plain(alloc, rest)?, said)
         }
+        "ids" => pieces::ids(rt, alloc, &words::fields(alloc, rest)?, said),
+        "pieces" => pieces::read(rt, alloc, &words::fields(alloc, rest)?, said),
         _ => made::answer(alloc, word, &words::fields(alloc, rest)?, said),
     }
 }
 
-fn answer(alloc: Global, line: &[u8], said: &mut Said) -> Option<()> {
+fn answer<R: Threads + Sync>(rt: &R, alloc: Global, line: &[u8], said: &mut Said) -> Option<()> {
     let at = line
         .iter()
         .position(|byte| *byte == b' ')
         .unwrap_or(line.len());
     let word = str::from_utf8(&line[..at]).ok()?;
-    of_word(alloc, word, line.get(at + 1..).unwrap_or(&[]), said)
+    of_word(rt, alloc, word, line.get(at + 1..).unwrap_or(&[]), said)
 }
 
 // What a line prints.
-fn said_of(alloc: Global, line: &[u8]) -> Said {
+fn said_of<R: Threads + Sync>(rt: &R, alloc: Global, line: &[u8]) -> Said {
     let mut said = Said::new(alloc);
-    if answer(alloc, line, &mut said).is_none() {
+    if answer(rt, alloc, line, &mut said).is_none() {
         said.is_whole = false;
     }
     said
 }
 
-fn print(alloc: Global, line: &[u8], out: &mut Vec<u8>) -> io::Result<()> {
-    let said = said_of(alloc, line);
+fn print<R: Threads + Sync>(
+    rt: &R,
+    alloc: Global,
+    line: &[u8],
+    out: &mut Vec<u8>,
+) -> io::Result<()> {
+    let said = said_of(rt, alloc, line);
     if said.is_whole {
         words::escape(&said.text, out)?;
     } else {
@@ -53,10 +68,15 @@ fn print(alloc: Global, line: &[u8], out: &mut Vec<u8>) -> io::Result<()> {
     Ok(())
 }
 
-fn print_all(alloc: Global, text: &[u8], out: &mut Vec<u8>) -> io::Result<()> {
+fn print_all<R: Threads + Sync>(
+    rt: &R,
+    alloc: Global,
+    text: &[u8],
+    out: &mut Vec<u8>,
+) -> io::Result<()> {
     for line in text.split(|byte| *byte == b'\n') {
         if !line.is_empty() && !line.starts_with(b"#") {
-            print(alloc, line, out)?;
+            print(rt, alloc, line, out)?;
         }
     }
     Ok(())
@@ -67,7 +87,7 @@ fn main(rt: HostRuntime) -> io::Result<()> {
     let mut text = Vec::new(alloc);
     rt.stdin().read_to_end(&mut text)?;
     let mut out = Vec::new(alloc);
-    print_all(alloc, &text, &mut out)?;
+    print_all(&rt, alloc, &text, &mut out)?;
     rt.stdout().write_all(&out)?;
     Ok(())
 }
