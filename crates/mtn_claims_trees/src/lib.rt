@@ -6,7 +6,6 @@
 #![tactic(auto)]
 
 pub mod applied;
-pub mod graphs;
 pub mod joined;
 pub mod made;
 pub mod marks;

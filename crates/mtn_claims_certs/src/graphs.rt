@@ -120,7 +120,7 @@ pub fn toposort(graph: &Graph, alloc: Global, of: &[Pos]) -> Result<Vec<Pos>, No
     graph.toposort(alloc, of)
 }
 
-/// `uncommon`.
+/// `uncommon`, what it answers.
 pub fn uncommon_of<P: Parents>(
     alloc: Global,
     graph: &mut P,
@@ -134,6 +134,19 @@ pub fn uncommon_of<P: Parents>(
     ensures right { IfOk result (λ sets. (count : ℕ) (parents : ℕ → List ℕ) →
         P.tells graph.new count parents → IsAscendingListOf (IsUncommon parents right left) sets.1) }
     ensures within { IfOk result (λ sets. All (λ x. x ≤ max left right) sets.0 × All (λ x. x ≤ max left right) sets.1) }
+{
+    uncommon(alloc, graph, left, right)
+}
+
+/// `uncommon`, what it asks for and leaves.
+pub fn uncommon_asks<P: Parents>(
+    alloc: Global,
+    graph: &mut P,
+    left: Pos,
+    right: Pos,
+) -> Result<(PosSet, PosSet), WalkError<P::Error>>
+    requires { (count : ℕ) (parents : ℕ → List ℕ) →
+        P.tells graph.old count parents → (left < count) × (right < count) }
     ensures same_graph { (count : ℕ) (parents : ℕ → List ℕ) →
         P.tells graph.new count parents → P.tells graph.old count parents }
     ensures count { (count : ℕ) (parents : ℕ → List ℕ) (low : ℕ) →
@@ -142,5 +155,5 @@ pub fn uncommon_of<P: Parents>(
     ensures stays { P.stays graph.old graph.new }
     ensures caused { IfErr result (λ e. IfAsked e (P.caused graph.old graph.new)) }
 {
-    uncommon(alloc, graph, left, right)
+    mtn_ancestry::uncommon(alloc, graph, left, right)
 }
