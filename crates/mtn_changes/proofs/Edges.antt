@@ -178,15 +178,3 @@ third ss from p q cs next r n some run ascends count =
       place = omega (arith, count);
       fault = inl (Parent r, refl);
     }
-
--- a fault of the changes is one of the second edge
-second_from_run : (ss : List (List LineText)) (from : ℕ) (p q : Option Id) (number : ℕ) (why : Fault) → Ascend p q → IsRunFaultAt ss from number why → IsSecondFaultAt ss from p q number why
-second_from_run ss from p q number why up f = record { before = f.before; stanza = f.stanza; rest = f.rest; lawful = f.lawful; ascends = up; whole = f.whole; place = f.place; fault = f.fault }
-
-pub run_in_second : (ss : List (List LineText)) (from : ℕ) (p q : Option Id) (e : ChangeTextError) → Ascend p q → IsRunFault ss from e → IsSecondFault ss from p q e
-run_in_second ss from p q (NotText offset) up f = f
-run_in_second ss from p q (BadStanza number) up f = second_from_run ss from p q number one.BadStanza up f
-run_in_second ss from p q (BadOrder number) up f = second_from_run ss from p q number one.BadOrder up f
-run_in_second ss from p q (Repeated number) up f = second_from_run ss from p q number one.Repeated up f
-run_in_second ss from p q (BadEdge number) up f = absurd f
-run_in_second ss from p q NoMemory up f = tt

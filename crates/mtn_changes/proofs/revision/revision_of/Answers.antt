@@ -1,5 +1,4 @@
-use Rattle.std.proofs.Common.{◌+◌, ◌++◌, ◌∷◌, [], List, length, ap, ◌∙◌}
-use Rattle.std.proofs.lemmas.Result.{err_from_is_err_and}
+use Rattle.std.proofs.Common.{◌+◌, ◌++◌, ◌∷◌, [], List, length, ap, ◌∙◌, rules}
 use Rattle.mtn_changes.specs.declared.change.Change.{Change}
 use Rattle.mtn_changes.specs.declared.change.Edge.{Edge}
 use Rattle.mtn_changes.specs.RevisionText.{IsStanzasFault}
@@ -9,15 +8,13 @@ use Rattle.mtn_changes.proofs.revision.revision_of.Goals as goal
 pub returns-in_err-changes-clause-err : goal.returns-in_err-changes-clause-err
 returns-in_err-changes-clause-err c =
     let f : IsStanzasFault c.args.stanzas.now c.in_err-changes.field-0.0 = first_fault c.args.stanzas.now c.in_ok-manifest.field-0.manifest c.in_ok-manifest.field-0.parent c.in_err-changes.field-0.0 c.in_ok-manifest.ensures.ok c.in_err-changes.ensures.err in
-    let p = err_from_is_err_and c.from_residual-in_err-changes.result c.from_residual-in_err-changes.ensures.1 in
-    rw (p.1, p.2) f
+    search rules
 
 pub returns-in_err-second_of-clause-err : goal.returns-in_err-second_of-clause-err
 returns-in_err-second_of-clause-err c =
     let f : IsStanzasFault c.args.stanzas.now c.in_err-second_of.field-0.0 =
     second_fault c.args.stanzas.now c.in_ok-manifest.field-0.manifest c.in_ok-manifest.field-0.parent c.in-Some.next c.in_ok-changes.field-0.changes c.in_ok-changes.field-0.next (3 + length c.as_slice.result.now) c.in_err-second_of.field-0.0 c.in_ok-manifest.ensures.ok c.in-Some.is c.in_ok-changes.ensures.ok (ap (λ (l : List Change). 3 + length l) c.as_slice.ensures) c.in_err-second_of.ensures.err in
-    let p = err_from_is_err_and c.from_residual-in_err-second_of.result c.from_residual-in_err-second_of.ensures.1 in
-    rw (p.1, p.2) f
+    search rules
 
 pub returns-clause-ok : goal.returns-clause-ok
 returns-clause-ok c =
