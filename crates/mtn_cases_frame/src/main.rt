@@ -1,19 +1,16 @@
-// Runs three made-up commands through the frame, and claims of its calls for the wrong bodies of must-fail/.
-//
-// A line of standard input is `ROOM CALL KEY WORD INPUT`: how many bytes the sink takes, which call of the keeper fails (0: none),
-// the key of a record that should not be there (-: none), the one word, and what the source gives. For each line, over one keeper
-// in memory, the status and what was written, and what `get` answers then.
+//! Runs the three made-up commands of `mtn_claims_frame` through the frame.
+//!
+//! A line of standard input is `ROOM CALL KEY WORD INPUT`: how many bytes the sink takes, which call of the keeper fails (0: none),
+//! the key of a record that should not be there (-: none), the one word, and what the source gives. For each line, over one keeper
+//! in memory, the status and what was written, and what `get` answers then.
 #![tactic(auto)]
 
-mod claims;
-mod toy;
-
 use mtn_base::{Bytes, NoMemory};
+use mtn_claims_frame::toy::Toy;
 use mtn_frame::run_frame;
 use mtn_ports::{Batch, MemKeeper, MemSink, MemSource};
 use std::alloc::Global;
 use std::io::{self, Read, Write};
-use toy::Toy;
 
 // What stands before the first blank, and behind it.
 fn cut(line: &[u8]) -> Option<(&[u8], &[u8])> {
