@@ -26,12 +26,11 @@ pub fn numbers_of(alloc: Global, text: &[u8]) -> Option<Vec<u64>> {
     Some(numbers)
 }
 
-fn digit(byte: u8) -> Option<u8> {
-    match byte {
-        b'0'..=b'9' => Some(byte - b'0'),
-        b'a'..=b'f' => Some(byte - b'a' + 10),
-        _ => None,
-    }
+// The byte of two hexadecimal digits.
+fn byte_of(digits: &[u8]) -> Option<u8> {
+    let mut byte = [0];
+    hex::decode_to_slice(digits, &mut byte).ok()?;
+    Some(byte[0])
 }
 
 // The byte of an escape, and how long its spelling is behind the backslash.
@@ -40,7 +39,7 @@ fn escape(spelling: &[u8]) -> Option<(u8, usize)> {
         [b'n', ..] => Some((b'\n', 1)),
         [b's', ..] => Some((b' ', 1)),
         [b'\\', ..] => Some((b'\\', 1)),
-        [b'x', first, second, ..] => Some(((digit(*first)? << 4) | digit(*second)?, 3)),
+        [b'x', first, second, ..] => Some((byte_of(&[*first, *second])?, 3)),
         _ => None,
     }
 }
@@ -95,8 +94,9 @@ pub fn put_escaped(bytes: &[u8], out: &mut Vec<u8>) -> Option<()> {
 /// Appends bytes as hexadecimal digits.
 pub fn put_hex(bytes: &[u8], out: &mut Vec<u8>) -> Option<()> {
     for byte in bytes {
-        out.push(b"0123456789abcdef"[usize::from(byte >> 4)]).ok()?;
-        out.push(b"0123456789abcdef"[usize::from(byte & 15)]).ok()?;
+        let mut digits = [0; 2];
+        hex::encode_to_slice(&[*byte], &mut digits).ok()?;
+        out.extend_from_slice(&digits).ok()?;
     }
     Some(())
 }
