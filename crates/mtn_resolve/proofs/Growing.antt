@@ -1,7 +1,7 @@
 -- Lists that grow by an element a turn, and the table of resolutions.
-use Rattle.std.specs.Prelude.{drop, find, filter, map, not, option_and_then, slice_get, IfSome, ◌||◌}
+use Rattle.std.specs.Prelude.{drop, find, filter, map, not, option_and_then, slice_get, ◌||◌}
 use Rattle.std.specs.BTreeMap.{BTreeMap, get, is_at}
-use Rattle.std.proofs.Common.{◌≡◌, ℕ, ◌+◌, ◌<◌, Bool, true, false, cond, List, [], ◌∷◌, ◌++◌, length, take, get_or, append_assoc, Option, Some, sym, ◌∙◌, ap, subst}
+use Rattle.std.proofs.Common.{◌≡◌, ℕ, ◌+◌, ◌<◌, Bool, true, false, cond, List, [], ◌∷◌, ◌++◌, length, take, get_or, append_assoc, Option, Some, sym, ◌∙◌, ap}
 use Rattle.std.proofs.lemmas.List.{take_more, map-append}
 use Rattle.std.proofs.lemmas.List.Elements.{filter-append}
 use Rattle.mtn_base.proofs.Dropping.{drop_step}
@@ -39,7 +39,6 @@ pending_over rs xs ys = filter-append (λ (p : Pending). not (is_dropped rs p.en
 pub table_more : (rs : List Resolution) (i : ℕ) (r : Resolution) (s : Subject) (old new : BTreeMap Subject ℕ) → i < length rs → r ≡ get_or rs i r → s ≡ subject_of r →
     IsTable rs (i + 1) old → ((q : Subject) → get subject_cmp new q ≡ cond (is_at (subject_cmp s) q) (Some i) (get subject_cmp old q)) → IsTable rs i new
 table_more rs i r s old new lt is about table h = record {
-  within = λ q. subst (λ o. IfSome o (λ place. place < length rs)) (sym (h q)) (inside (is_at (subject_cmp s) q) (get subject_cmp old q) (table.within q));
   there = λ q.
       ap (option_and_then (slice_get rs)) (h q)
       ∙ here (is_at (subject_cmp s) q) (get subject_cmp old q) (table.there q)
@@ -47,10 +46,6 @@ table_more rs i r s old new lt is about table h = record {
       ∙ sym (ap (find (is_about q)) (drop_step rs i r lt is));
 }
   where
-    inside : (b : Bool) (o : Option ℕ) → IfSome o (λ place. place < length rs) → IfSome (cond b (Some i) o) (λ place. place < length rs)
-    inside true o g = lt
-    inside false o g = g
-
     at_place : slice_get rs i ≡ Some r
     at_place = let t = taken rs i lt in t.1 ∙ ap Some (sym (t.3 r) ∙ sym is)
 

@@ -1,7 +1,7 @@
 -- What overridden decisions have at a name.
-use Rattle.std.specs.Prelude.{find, filter, map, option_map, not, ◌||◌}
+use Rattle.std.specs.Prelude.{find, filter, map, option_map, not}
 use Rattle.std.specs.Option.{option_map_or}
-use Rattle.std.proofs.Common.{◌≡◌, Bool, true, false, cond, List, [], ◌∷◌, ◌++◌, Option, Some, None, ◌⊎◌, refl, sym, ◌∙◌, ap}
+use Rattle.std.proofs.Common.{◌≡◌, Bool, true, false, cond, List, [], ◌∷◌, ◌++◌, Option, Some, None, refl, sym, ◌∙◌, ap}
 use Rattle.mtn_base.specs.Names.{same_name, name_cmp}
 use Rattle.mtn_base.specs.declared.name.NodeName.{NodeName}
 use Rattle.mtn_base.specs.Lists.{ordered}

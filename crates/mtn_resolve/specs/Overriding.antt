@@ -1,5 +1,5 @@
 -- The decisions of a merge after resolutions. All resolutions speak of the decisions before any.
-use Rattle.std.specs.Prelude.{◌≡◌, ℕ, Bool, true, false, not, ◌||◌, List, ◌++◌, map, filter, filter_map, Option, Some, None, option_map, option_and_then}
+use Rattle.std.specs.Prelude.{ℕ, Bool, true, false, not, ◌||◌, List, ◌++◌, map, filter, filter_map, Option, Some, None, option_map, option_and_then}
 use Rattle.std.specs.Option.{option_map_or}
 use Rattle.mtn_base.specs.Names.{name_cmp}
 use Rattle.mtn_base.specs.declared.id.Id.{Id}

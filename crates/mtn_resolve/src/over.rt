@@ -1,19 +1,21 @@
 // The decisions after resolutions.
-ghost use Rattle.std.specs.Prelude.{◌≡◌, ◌↔◌, [], ◌∷◌, ◌++◌, IsTrue, IfOk, IfErr, OnOk, map, filter_map};
+ghost use Rattle.std.specs.Prelude.{◌≡◌, ◌↔◌, [], ◌∷◌, ◌++◌, IsTrue, IfOk, IfErr, OnOk, map, filter_map, option_and_then, option_copied};
+ghost use Rattle.std.specs.Option.{option_map_or};
 ghost use Rattle.std.specs.List.{IsDistinct};
 ghost use Rattle.mtn_base.specs.Names.{name_cmp, same_name};
 ghost use Rattle.mtn_base.specs.Lists.{ordered};
+ghost use Rattle.mtn_decide.specs.declared.decision.AttrChoice.TheVariants.{Fixed as FixedAttr};
 ghost use Rattle.mtn_decide.specs.declared.decision.Decision.{Decision};
 ghost use Rattle.mtn_conflicts.specs.Lists.{AreConflictsOf};
 ghost use Rattle.mtn_resolve.specs.Faults.{AreFitting, IsOverrideFault};
-ghost use Rattle.mtn_resolve.specs.Overriding.{is_dropped, is_kept, new_slot, new_content, new_attr, new_node, live_attr, content_in, with_content, reborn_of, still_pending, overridden};
+ghost use Rattle.mtn_resolve.specs.Overriding.{is_dropped, is_kept, new_slot, new_content, new_attr, new_node, live_attr, content_in, with_content, reborn_of, value_in, still_pending, overridden};
 ghost use Rattle.mtn_resolve.specs.Parts.{IsTable, undropped_after, kept_after};
 
 use crate::checking::check;
 use crate::error::OverrideError;
 use crate::resolution::{Resolution, Resolutions};
 use crate::subject::{Subject, attr, content, life, slot};
-use crate::table::{place_of, table_of};
+use crate::table::{resolution_of, table_of};
 use mtn_base::{Bytes, Id, List, NoMemory, NodeName};
 use mtn_conflicts::Conflicts;
 use mtn_decide::{
@@ -71,12 +73,9 @@ fn drops(
     ensures { IfOk result (λ b. b ≡ is_dropped resolutions.now node.now) }
 {
     let subject = life(alloc, node)?;
-    match place_of(resolutions, table, &subject) {
-        None => Ok(false),
-        Some(place) => match &resolutions[place] {
-            Resolution::Drop { node: _ } => Ok(true),
-            _ => Ok(false),
-        },
+    match resolution_of(resolutions, table, &subject) {
+        Some(Resolution::Drop { node: _ }) => Ok(true),
+        _ => Ok(false),
     }
 }
 
@@ -91,12 +90,9 @@ fn keeps(
     ensures { IfOk result (λ b. b ≡ is_kept resolutions.now node.now) }
 {
     let subject = life(alloc, node)?;
-    match place_of(resolutions, table, &subject) {
-        None => Ok(false),
-        Some(place) => match &resolutions[place] {
-            Resolution::Keep { node: _ } => Ok(true),
-            _ => Ok(false),
-        },
+    match resolution_of(resolutions, table, &subject) {
+        Some(Resolution::Keep { node: _ }) => Ok(true),
+        _ => Ok(false),
     }
 }
 
@@ -112,12 +108,9 @@ fn slot_after(
     ensures { IfOk result (λ c. c ≡ new_slot resolutions.now node.now old.now) }
 {
     let subject = slot(alloc, node)?;
-    match place_of(resolutions, table, &subject) {
-        None => copy_slot_choice(alloc, old),
-        Some(place) => match &resolutions[place] {
-            Resolution::Place { node: _, slot } => Ok(SlotChoice::Fixed(slot.copy(alloc)?)),
-            _ => copy_slot_choice(alloc, old),
-        },
+    match resolution_of(resolutions, table, &subject) {
+        Some(Resolution::Place { node: _, slot }) => Ok(SlotChoice::Fixed(slot.copy(alloc)?)),
+        _ => copy_slot_choice(alloc, old),
     }
 }
 
@@ -144,12 +137,30 @@ fn content_after(
     ensures { IfOk result (λ c. c ≡ new_content resolutions.now node.now old) }
 {
     let subject = content(alloc, node)?;
-    match place_of(resolutions, table, &subject) {
-        None => Ok(old),
-        Some(place) => match &resolutions[place] {
-            Resolution::Content { node: _, pick } => Ok(picked(*pick, old)),
-            _ => Ok(old),
-        },
+    match resolution_of(resolutions, table, &subject) {
+        Some(Resolution::Content { node: _, pick }) => Ok(picked(*pick, old)),
+        _ => Ok(old),
+    }
+}
+
+/// What is decided of a value, where this resolution speaks of it.
+fn choice_after(
+    alloc: Global,
+    resolution: Option<&Resolution>,
+    old: &AttrChoice,
+) -> Result<AttrChoice, NoMemory>
+    ensures { IfOk result (λ c. c ≡ option_map_or FixedAttr (option_and_then value_in (option_copied resolution.entry)) old.now) }
+{
+    match resolution {
+        Some(
+            Resolution::AttrSet {
+                node: _,
+                key: _,
+                value,
+            },
+        ) => Ok(AttrChoice::Fixed(Some(value.copy(alloc)?))),
+        Some(Resolution::AttrClear { node: _, key: _ }) => Ok(AttrChoice::Fixed(None)),
+        _ => copy_choice(alloc, old),
     }
 }
 
@@ -166,18 +177,11 @@ fn attr_after(
 {
     let key = old.key.copy(alloc)?;
     let subject = attr(alloc, node, &key)?;
-    let choice = match place_of(resolutions, table, &subject) {
-        None => copy_choice(alloc, &old.choice)?,
-        Some(place) => match &resolutions[place] {
-            Resolution::AttrSet {
-                node: _,
-                key: _,
-                value,
-            } => AttrChoice::Fixed(Some(value.copy(alloc)?)),
-            Resolution::AttrClear { node: _, key: _ } => AttrChoice::Fixed(None),
-            _ => copy_choice(alloc, &old.choice)?,
-        },
-    };
+    let choice = choice_after(
+        alloc,
+        resolution_of(resolutions, table, &subject),
+        &old.choice,
+    )?;
     Ok(AttrDecision { key, choice })
 }
 
