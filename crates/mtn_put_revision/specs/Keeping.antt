@@ -26,6 +26,7 @@ use Rattle.mtn_records.specs.declared.record.RosterRecord.{RosterRecord}
 use Rattle.mtn_records.specs.declared.record.RosterRecord.TheVariants.{Whole, Delta}
 use Rattle.mtn_roster.specs.Tree.{Tree}
 use Rattle.mtn_put_revision.specs.Finding.{made_refusal_of}
+use Rattle.mtn_put_revision.specs.declared.keep.NewRecord.{NewRecord}
 use Rattle.mtn_put_revision.specs.declared.over.NewRevision.{NewRevision}
 use Rattle.mtn_put_revision.specs.declared.records.Written.{Written}
 
@@ -49,6 +50,12 @@ IsRecordOn _ _ depth entries at body deep = IsRosterAt at body (Whole entries) �
 -- what was written of these entries
 abbrev pub IsWrittenOn : List ℕ → List Entries → ℕ → Entries → ℕ → Written → Type 0
 IsWrittenOn places known depth entries at w = IsRecordOn places known depth entries at w.body w.depth × (w.entries ≡ entries)
+
+-- the body of the record of a roster with these entries, and the same roster
+pub record IsNewRecord (places : List ℕ) (known : List Entries) (depth : ℕ) (numbered : Entries) (t : MarkedTree) (at : ℕ) (r : NewRecord) : Type 0 where
+  pub on : IsRecordOn places known depth numbered at r.body r.rebuilt.depth
+  pub entries : r.rebuilt.entries ≡ numbered
+  pub roster : r.rebuilt.roster ≡ t
 
 -- the first parent's entries are what its record gives, and so is its depth
 abbrev pub IsFirstRebuilt : Contents → List ℕ → List Entries → ℕ → Type 0

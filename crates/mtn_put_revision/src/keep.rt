@@ -1,5 +1,5 @@
 // The records of a new revision, put behind the others.
-ghost use Rattle.std.specs.Prelude.{◌≡◌, ◌<◌, ◌≤◌, [], All, List, ℕ, length, Ok, Err, false, IfOk, IfErr, IfSome, IsTrue, OnErr, ◌+◌};
+ghost use Rattle.std.specs.Prelude.{◌≡◌, ◌<◌, ◌≤◌, [], All, List, ℕ, length, Ok, Err, None, false, IfOk, IfErr, IfSome, IsTrue, OnErr, OnOk, ◌+◌};
 ghost use Rattle.mtn_base.specs.declared.limits.TheConstants.{MAX_LOG, MAX_NODES};
 ghost use Rattle.mtn_roster_deltas.specs.Numbering.{shown};
 ghost use Rattle.mtn_roster_deltas.specs.Spelled.{Spells};
@@ -12,15 +12,17 @@ ghost use Rattle.mtn_model.specs.State.{State};
 ghost use Rattle.mtn_ports.specs.Causes.{Rose};
 ghost use Rattle.mtn_ports.specs.Kept.{Stays, with_all};
 ghost use Rattle.mtn_history.specs.Errors.{IfDamage};
+ghost use Rattle.mtn_history.specs.Records.{with_revision};
+ghost use Rattle.mtn_history.specs.Rosters.{Rebuilds};
 ghost use Rattle.mtn_history.specs.Stands.{IsDraft, IsFounded};
 ghost use Rattle.mtn_put_revision.specs.Finding.{IsFound};
-ghost use Rattle.mtn_put_revision.specs.Keeping.{AreKeptAt, AreParents, IsFirstRebuilt, IsMade, IsNumberedOn, with_text};
-ghost use Rattle.mtn_put_revision.specs.Writing.{AllAscend, IsNextTree};
+ghost use Rattle.mtn_put_revision.specs.Keeping.{AreKeptAt, AreParents, IsFirstRebuilt, IsLogBodyOf, IsMade, IsNewRecord, IsNumberedOn, with_text};
+ghost use Rattle.mtn_put_revision.specs.Writing.{AllAscend, IsNextTree, NoneHas};
 
 use crate::records::{KeptParents, Written, log_body, next_number, write_record};
 use crate::unfit::unfit;
 use mtn_ancestry::Pos;
-use mtn_base::Id;
+use mtn_base::{Bytes, Id, NoMemory};
 use mtn_history::{Draft, Rebuilt, StoreError};
 use mtn_marking::MarkedRoster;
 use mtn_ports::Keeper;
@@ -63,6 +65,70 @@ fn number_behind<K: Keeper>(
     }
 }
 
+// The body of a roster's record, and what it gives back.
+#[derive(Drop)]
+struct NewRecord {
+    body: Bytes,
+    rebuilt: Rebuilt,
+}
+
+// The record of a roster whose entries have their numbers. There is none where it cannot be written.
+fn record_of(
+    alloc: Global,
+    roster: MarkedRoster,
+    entries: Numbered,
+    known: &KeptParents<'_>,
+    at: Pos,
+) -> Result<Option<NewRecord>, NoMemory>
+    ensures record { IfOk result (λ o. IfSome o (λ r. IsNewRecord known.now.places.now (shown known.now.entries.now) known.now.depth entries roster at r)) }
+    ensures none { result ≡ Ok None → All (λ p. p < at) known.now.places.now → AllAscend (shown known.now.entries.now) → NoneHas at entries }
+{
+    match write_record(alloc, known, entries, at)? {
+        None => Ok(None),
+        Some(
+            Written {
+                body,
+                entries,
+                depth,
+            },
+        ) => Ok(Some(NewRecord {
+            body,
+            rebuilt: Rebuilt {
+                entries,
+                roster,
+                depth,
+            },
+        })),
+    }
+}
+
+// Puts the records of a revision, and the draft remembers them.
+fn put_records<K: Keeper>(
+    alloc: Global,
+    draft: &mut Draft<'_, K>,
+    id: Id,
+    text: &[u8],
+    free: u64,
+    places: &[Pos],
+    fresh: NewRecord,
+) -> Result<(), NoMemory>
+    requires room { draft.old.pending.count < MAX_LOG }
+    requires few { length places.now ≤ 2 }
+    requires below { All (λ p. p < draft.old.pending.count) places.now }
+    requires right { (log : List ℕ) → IfSome (K.contents draft.old.keeper.now) (λ c.
+        Rebuilds (with_all c (with_revision draft.old.pending (record { id = id.0; text = text.now }) log fresh.body).batch) draft.old.pending.count fresh.rebuilt) }
+    ensures keeper { draft.new.keeper ≡ draft.old.keeper }
+    ensures ok { OnOk result ((log : List ℕ) × IsLogBodyOf id free places.now draft.old.pending.count log ×
+        (draft.new.pending ≡ with_revision draft.old.pending (record { id = id.0; text = text.now }) log fresh.body)) }
+    ensures err { OnErr result (draft.new.pending ≡ draft.old.pending) }
+{
+    let at = Pos(draft.count());
+    let (entry, log) = log_body(alloc, id, free, places, at)?;
+    draft.keep_revision(id, text, log, fresh.body, fresh.rebuilt)?;
+    draft.remember_log(at, &entry);
+    Ok(())
+}
+
 /// Puts the records of a revision with this tree, whose walk the caller has, and these parents, and the draft remembers its roster; and tells whether it
 /// did, as it does with each tree that a history may have next. Otherwise, and with an error, what is pending is as it was.
 pub fn keep<K: Keeper>(
@@ -99,21 +165,9 @@ pub fn keep<K: Keeper>(
 {
     let at = Pos(draft.count());
     let (entries, free) = number_behind(alloc, draft, &roster, stops, known)?;
-    let Some(written) = write_record(alloc, known, entries, at)? else {
+    let Some(fresh) = record_of(alloc, roster, entries, known, at)? else {
         return Ok(false);
     };
-    let Written {
-        body,
-        entries,
-        depth,
-    } = written;
-    let (entry, log) = log_body(alloc, id, free, known.places, at)?;
-    let rebuilt = Rebuilt {
-        entries,
-        roster,
-        depth,
-    };
-    draft.keep_revision(id, text, log, body, rebuilt)?;
-    draft.remember_log(at, &entry);
+    put_records(alloc, draft, id, text, free, known.places, fresh)?;
     Ok(true)
 }
