@@ -158,15 +158,21 @@ row "and where branches are" 8 '' "damaged 8 $astray \n" "$work/astray.mtn" bran
 row "and no file is" 0 '' 'abc' "$work/astray.mtn" get_file "$abc"
 
 # What is no store is left as it is.
+table='CREATE TABLE kept (kind INTEGER NOT NULL, name BLOB NOT NULL, body BLOB NOT NULL, PRIMARY KEY (kind, name)) STRICT'
 mkdir "$work/folder"
 row "a folder is no store" 6 x '' "$work/folder" put_file
 printf 'a text that is long enough to look at, and no database at all\n' >"$work/text"
 cp "$work/text" "$work/text.before"
 row "a text is no store" 6 x '' "$work/text" put_file
 verdict "the text is as it was" cmp -s "$work/text" "$work/text.before"
-sqlite3 "$work/other.db" 'CREATE TABLE note (id INTEGER PRIMARY KEY)'
-row "another database is no store" 6 x '' "$work/other.db" put_file
-verdict "the other database is as it was" asks "$work/other.db" 'SELECT count(*) FROM sqlite_schema' 1
+for made in 'CREATE TABLE note (id INTEGER PRIMARY KEY)' 'CREATE VIEW seen AS SELECT 1' 'CREATE TABLE KEPT (a INTEGER) STRICT' "${table/body BLOB NOT NULL/body BLOB}"; do
+    rm -f "$work"/other.db*
+    sqlite3 "$work/other.db" "$made"
+    row "another database is no store: $made" 6 x '' "$work/other.db" put_file
+    verdict "it is as it was: $made" asks "$work/other.db" 'SELECT sql FROM sqlite_schema' "$made"
+done
+sqlite3 "$work/alone.mtn" "$table"
+row "a database that has the table alone becomes a store" 0 abc "$abc\n" "$work/alone.mtn" put_file
 head -c 5000 "$store" >"$work/cut.mtn"
 row "a database that is cut off is no store" 6 '' '' "$work/cut.mtn" check
 ln "$work/bad.mtn" "$work/second.mtn"
@@ -192,6 +198,28 @@ wait "$first"
 verdict "the first program ends well" test $? = 0 -a "$(cat "$work/first")" = "$(printf later | sha1sum | cut -d' ' -f1)"
 verdict "a backup is made behind it" sqlite3 "$store" ".backup '$work/backup.mtn'"
 row "and has what was kept" 0 '' later "$work/backup.mtn" get_file "$(printf later | sha1sum | cut -d' ' -f1)"
+
+# meanwhile COMMAND..: runs it while a first program, over a store that is missing, waits for its input; the status of the first.
+meanwhile() {
+    ./mtn "$work/late.mtn" put_file <"$work/pipe" >"$work/first" 2>&1 &
+    first=$!
+    exec 8>"$work/pipe"
+    runs "$first"
+    sleep 0.5
+    "$@" </dev/null >"$work/out"
+    printf 'later' >&8
+    exec 8>&-
+    wait "$first"
+}
+later=$(printf later | sha1sum | cut -d' ' -f1)
+meanwhile ./mtn "$work/late.mtn" put_file
+verdict "a store that another program made meanwhile is a fault" test $? = 6 -a ! -s "$work/first"
+row "and has what that one kept" 0 '' '' "$work/late.mtn" get_file "$nothing"
+row "and no more" 1 '' "refused UnknownFile $later\n" "$work/late.mtn" get_file "$later"
+rm -f "$work"/late.mtn*
+meanwhile sqlite3 "$work/late.mtn" "$table"
+verdict "a table without records that was made meanwhile is taken" test $? = 0 -a "$(cat "$work/first")" = "$later"
+row "and has the file" 0 '' later "$work/late.mtn" get_file "$later"
 
 # A full disk.
 full() {

@@ -1,6 +1,6 @@
 #!/usr/bin/env python3
-"""Answers the cases on standard input as crates/mtn_cases_packets has to: inputs are matched by regular expressions and decoded by
-Python's base64. `packets.py SEED COUNT` prints so many random cases instead, most of them packets with a few bytes changed."""
+"""Answers the cases on standard input as crates/mtn_cases_packets has to, up to those of certificates, which begin with `##`: inputs
+are matched by regular expressions and decoded by Python's base64. `packets.py SEED COUNT` prints so many random cases instead, most of them packets with a few bytes changed."""
 import base64
 import hashlib
 import random
@@ -173,7 +173,7 @@ def main():
     if len(sys.argv) == 3:
         random_cases(int(sys.argv[1]), int(sys.argv[2]))
         return
-    for line in sys.stdin.buffer.read().split(b'\n'):
+    for line in sys.stdin.buffer.read().split(b'\n##')[0].split(b'\n'):
         if line and not line.startswith(b'#'):
             sys.stdout.buffer.write(escape(answer(line)) + b'\n')
 

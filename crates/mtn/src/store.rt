@@ -4,7 +4,6 @@ use mtn_cli::{Status, run};
 use mtn_keeper::{DatabaseFile, LazyKeeper, Opener};
 use mtn_pieces::{FreeGate, Sha1Many};
 use mtn_ports::{Batch, KeepError, Keeper, MemKeeper, StdSink, StdSource};
-use sqlite::Connection;
 use std::fs;
 use std::thread::Threads;
 
@@ -20,8 +19,7 @@ pub fn in_memory<T: Threads + Sync>(threads: &T, rt: &HostRuntime, words: &[Byte
     }
 }
 
-/// A command over a store in a file. Closing folds the log of changes into the file; where that fails they stay in the log,
-/// and the next opening finds them.
+/// A command over a store in a file.
 pub fn in_file<T: Threads + Sync>(
     threads: &T,
     rt: &HostRuntime,
@@ -29,28 +27,25 @@ pub fn in_file<T: Threads + Sync>(
     words: &[Bytes],
 ) -> Status {
     let file = DatabaseFile { rt, path };
-    let (status, connection) = in_database(threads, rt, words, file, is_missing(rt, path));
-    if let Some(connection) = connection {
-        let _ = connection.close();
-    }
-    status
+    in_database(threads, rt, words, file, is_missing(rt, path))
 }
 
-// A command over a database, which is opened at once where it may be there; and its connection, where it was opened.
+// A command over a database, which is opened at once where it may be there, and closed behind it.
 fn in_database<T: Threads + Sync, O: Opener + Drop>(
     threads: &T,
     rt: &HostRuntime,
     words: &[Bytes],
     opener: O,
     is_missing: bool,
-) -> (Status, Option<Connection<O::Store>>) {
+) -> Status {
     match keeper_of(opener, is_missing) {
         Ok(mut keeper) => {
             let status = over(threads, rt, words, &mut keeper);
-            (status, keeper.into_connection())
+            keeper.close();
+            status
         }
-        Err(KeepError::NoMemory) => (Status::NoMemory, None),
-        Err(KeepError::Failed) => (Status::StoreFault, None),
+        Err(KeepError::NoMemory) => Status::NoMemory,
+        Err(KeepError::Failed) => Status::StoreFault,
     }
 }
 

@@ -14,6 +14,9 @@
 //! - `next TABLE KEY`, `body TABLE KEY`, `reads`: what the keeper holds then, and how often it was read.
 //! - `rosters ID COUNT`: how many reads a draft takes that is asked so often for a revision's roster.
 //! - `parts WORD..`: how words are parted.
+//! - `frame ROOM CALL KEY WORD INPUT`: one of three made-up commands through the frame, over a keeper of its own: how many bytes
+//!   the sink takes, which call of the keeper fails (0: none), the key of a record that should not be there (-: none), the one word,
+//!   and what the source gives. It answers the status and what was written, and what `get` answers then.
 //! - `roster AT BODY`, `log AT BODY`, `fits AT BODY KEY`, `fronts AT BODY`: records.
 //! - `rebuild ..`, `delta ..`, `number ..`: chains of records.
 #![tactic(auto)]
@@ -23,6 +26,7 @@ mod ids;
 mod parts;
 mod running;
 mod session;
+mod toys;
 
 use mtn_case_records::{chains, records, text};
 use session::Session;
@@ -30,10 +34,11 @@ use std::alloc::Global;
 use std::io::{self, Read, Write};
 use std::thread::Threads;
 
-// What stands alone: words, records, chains.
+// What stands alone: words, made-up commands, records, chains.
 fn alone(alloc: Global, word: &str, rest: &[u8], out: &mut Vec<u8>) -> Option<()> {
     match word {
         "parts" => parts::parts(alloc, rest, out),
+        "frame" => toys::answer(alloc, rest, out),
         "roster" | "log" | "fits" | "fronts" => records::answer(alloc, word, rest, out),
         _ => chains::answer(alloc, word, rest, out),
     }

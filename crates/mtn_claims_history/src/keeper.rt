@@ -1,5 +1,5 @@
 //! The keepers over a database.
-ghost use Rattle.std.specs.Prelude.{◌≡◌, IfOk, IsErrOf, None, OnErr, OnOk, option_map};
+ghost use Rattle.std.specs.Prelude.{◌≡◌, true, Err, IfOk, IsErrOf, None, OnErr, OnOk, option_map};
 ghost use Rattle.mtn_keeper.specs.Missing.{told};
 ghost use Rattle.mtn_ports.specs.Causes.{Rose};
 ghost use Rattle.mtn_ports.specs.Kept.{Adds, Gets, Same};
@@ -12,6 +12,7 @@ use sqlite::{Alter, Connection};
 pub fn new_sqlite_keeper<S: Alter + Drop>(
     connection: Connection<S>,
 ) -> Result<SqliteKeeper<S>, KeepError>
+    ensures open { connection.in_transaction ≡ true → result ≡ Err KeepError.Failed }
     ensures faults { IfOk result (λ k. k.faults ≡ 0) }
     ensures reads { IfOk result (λ k. k.reads ≡ 0) }
 {

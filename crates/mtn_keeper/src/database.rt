@@ -1,12 +1,15 @@
-// What is asked of the connection, each in a function of its own and with no clause: nothing is claimed yet
-// of what a database holds.
+// What is asked of the connection, each in a function of its own. Nothing is claimed yet of what a database holds.
+ghost use Rattle.std.specs.Prelude.{◌≡◌, true, Err};
+
 use crate::statements::{ANY, MAKE, NEXT_RECORD, OTHERS, OURS, PUT};
 use mtn_ports::{Batch, Put};
 use sqlite::{Alter, Connection, Error, ErrorCode, Transaction, params};
 use sqlite_value::value::ValueRef;
 
 // Makes the table in a database that has nothing of its own, or finds it there alone.
-pub(crate) fn make_table<S: Alter>(connection: &mut Connection<S>) -> Result<(), Error> {
+pub(crate) fn make_table<S: Alter>(connection: &mut Connection<S>) -> Result<(), Error>
+    ensures open { connection.old.in_transaction ≡ true → result ≡ Err (Error.SqliteFailure ErrorCode.TransactionState) }
+{
     if !connection.is_autocommit() {
         return Err(Error::SqliteFailure(ErrorCode::TransactionState));
     }

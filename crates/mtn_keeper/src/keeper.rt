@@ -1,5 +1,5 @@
 // The keeper: each refusal of the database is counted as a fault, except want of memory.
-ghost use Rattle.std.specs.Prelude.{◌≡◌, ◌≤◌, None, ⊤, IfOk, IsErrOf};
+ghost use Rattle.std.specs.Prelude.{◌≡◌, ◌≤◌, true, None, Err, ⊤, IfOk, IsErrOf};
 ghost use Rattle.mtn_ports.specs.Causes.{Rose};
 
 use crate::database::{has_record, make_table, put_all, read_bytes, read_record};
@@ -21,6 +21,7 @@ impl<S: Alter + Drop> SqliteKeeper<S> {
     /// for another cause than memory, where a transaction is open, and where the database has any other table,
     /// view, index or trigger than our table; the database then is as it was.
     pub fn new(mut connection: Connection<S>) -> Result<SqliteKeeper<S>, KeepError>
+        ensures open { connection.in_transaction ≡ true → result ≡ Err KeepError.Failed }
         ensures faults { IfOk result (λ k. k.faults ≡ 0) }
         ensures reads { IfOk result (λ k. k.reads ≡ 0) }
     {
@@ -63,7 +64,9 @@ impl<S: Alter + Drop> SqliteKeeper<S> {
     }
 }
 
-pub(crate) fn cause_of(error: Error) -> KeepError {
+pub(crate) fn cause_of(error: Error) -> KeepError
+    ensures open { error ≡ Error.SqliteFailure ErrorCode.TransactionState → result ≡ KeepError.Failed }
+{
     match error {
         Error::SqliteFailure(ErrorCode::OutOfMemory) => KeepError::NoMemory,
         _ => KeepError::Failed,

@@ -7,12 +7,15 @@ use crate::keeper::{SqliteKeeper, cause_of};
 use mtn_ports::{Batch, KeepError, Keeper};
 use sqlite::{Alter, Connection, Error};
 
-/// What opens a database.
+/// What opens a database, and closes it.
 pub trait Opener {
     type Store: Alter + Drop;
 
     /// A connection to the database, which is made where it is not there.
     fn open(&self) -> Result<Connection<Self::Store>, Error>;
+
+    /// Closes what a connection was over. It takes no memory.
+    fn close(store: Self::Store);
 }
 
 /// Records in a SQLite database that may not be there yet: it is made at the first batch. Until then there are no records, which
@@ -63,6 +66,13 @@ impl<O: Opener + Drop> LazyKeeper<O> {
         match opened {
             Some(keeper) => Some(keeper.into_connection()),
             None => None,
+        }
+    }
+
+    /// Closes the database, where one was opened. It takes no memory.
+    pub fn close(self) {
+        if let Some(connection) = self.into_connection() {
+            O::close(connection.into_store());
         }
     }
 

@@ -1,8 +1,8 @@
 use Rattle.std.proofs.Common.{[]}
 use Rattle.mtn_base.specs.declared.id.Id.{Id}
 use Rattle.mtn_branches.specs.Graphs.{IsHeldBy}
-use Rattle.mtn_cases_certs.proofs.Held.{each_more}
-use Rattle.mtn_cases_certs.proofs.asking.are_held.Goals as goal
+use Rattle.mtn_cases_packets.proofs.Held.{each_more}
+use Rattle.mtn_cases_packets.proofs.asking.are_held.Goals as goal
 
 pub loop-id-preserved : goal.loop-id-preserved
 loop-id-preserved c =

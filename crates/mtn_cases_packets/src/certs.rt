@@ -1,23 +1,8 @@
-//! Tries the calls of `mtn_certs` and `mtn_branches` on the cases of standard input, and prints what each answers.
-//!
-//! A case begins with `#` and a title, which is printed again. An id is spelled by the letter that each of its bytes is.
-//!
-//! - `field TEXT`, `hex DIGITS`, `long COUNT`: whether a text is a field: the rest of the line, the bytes of digits, so many `a`.
-//! - `new NAME COUNT COUNT`: a certificate whose value and signature have so many bytes, or why there is none.
-//! - `rev ID PARENT..`: one more revision of the case's graph. `key ID NAME`: the name of a key.
-//! - `cert ID NAME KEY VALUE SIGNATURE`: one more certificate; `-` is an empty signature.
-//! - `members BRANCH`, `heads BRANCH`, `branches`, `list`: what the certificates of the case so far give.
-//!
-//! `no answer` is printed where none can be given.
-#![tactic(auto)]
-
-mod asking;
-mod case;
-mod fields;
-
-use case::Case;
+// Cases of certificates.
+use crate::case::Case;
+use crate::{asking, fields};
 use std::alloc::Global;
-use std::io::{self, Read, Write};
+use std::io;
 
 // What adds to a case.
 fn add(alloc: Global, case: &mut Case, word: &[u8], args: &[&[u8]]) -> Option<()> {
@@ -67,21 +52,17 @@ fn take_line(alloc: Global, case: &mut Case, line: &[u8], out: &mut Vec<u8>) -> 
     answer(alloc, case, word, args, out)
 }
 
-fn main(rt: HostRuntime) -> io::Result<()> {
-    let alloc = rt.alloc();
-    let mut text = Vec::new(alloc);
-    rt.stdin().read_to_end(&mut text)?;
-    let mut out = Vec::new(alloc);
+/// The title of a case behind its `##`, and what its lines answer.
+pub fn print(alloc: Global, text: &[u8], out: &mut Vec<u8>) -> io::Result<()> {
     let mut case = Case::new(alloc);
-    for line in text.split(|byte| *byte == b'\n') {
-        if line.starts_with(b"#") {
-            case = Case::new(alloc);
-            out.extend_from_slice(line)?;
-            out.push(b'\n')?;
-        } else if !line.is_empty() && take_line(alloc, &mut case, line, &mut out).is_none() {
+    let mut lines = text.split(|byte| *byte == b'\n');
+    out.extend_from_slice(b"##")?;
+    out.extend_from_slice(lines.next().unwrap_or(&[]))?;
+    out.push(b'\n')?;
+    for line in lines {
+        if !line.is_empty() && take_line(alloc, &mut case, line, out).is_none() {
             out.extend_from_slice(b"no answer\n")?;
         }
     }
-    rt.stdout().write_all(&out)?;
     Ok(())
 }

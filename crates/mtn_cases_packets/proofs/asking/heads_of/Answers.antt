@@ -1,7 +1,7 @@
 use Rattle.std.specs.Prelude.{Contains}
 use Rattle.std.proofs.Common.{List, sym, subst}
 use Rattle.mtn_base.specs.declared.id.Id.{Id}
-use Rattle.mtn_cases_certs.proofs.asking.heads_of.Goals as goal
+use Rattle.mtn_cases_packets.proofs.asking.heads_of.Goals as goal
 
 pub heads-requires : goal.heads-requires
 heads-requires c r member =
