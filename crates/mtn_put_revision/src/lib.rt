@@ -14,6 +14,7 @@
 mod contents;
 mod keep;
 mod over;
+mod pair;
 mod places;
 mod put;
 mod records;

@@ -20,9 +20,9 @@ ghost use Rattle.mtn_history_laws.specs.History.{parents_at};
 ghost use Rattle.mtn_put_revision.specs.Reads.{IsWindow};
 
 use crate::keep::keep;
+use crate::pair::two_parents;
 use crate::records::KeptParents;
 use crate::tree::tree_of;
-use crate::uncommon::uncommon_of;
 use crate::unfit::unfit;
 use mtn_ancestry::Pos;
 use mtn_base::{Id, MAX_NODES};
@@ -290,16 +290,15 @@ fn over_two<I: Ident, K: Keeper>(
         (IsFound (K.contents draft.new.keeper.now) draft.old.pending (with_all c draft.old.pending.batch)))) }
     ensures failed { result ≡ Err (HistoryError.Store StoreError.Failed) → Rose (K.faults draft.old.keeper.now) (K.faults draft.new.keeper.now) }
 {
-    let (held_left, held_right) = draft.rosters_at(left, right)?;
-    let (only_left, only_right) = uncommon_of(alloc, draft, left, right)?;
-    let first = held_left.as_ref();
-    let second = held_right.as_ref();
+    let pair = two_parents(alloc, draft, left, right)?;
+    let first = pair.left.as_ref();
+    let second = pair.right.as_ref();
     let entries = [&first.entries, &second.entries];
     let basis = Basis::Two {
         left: &first.roster,
         right: &second.roster,
-        only_left: &only_left,
-        only_right: &only_right,
+        only_left: &pair.only_left,
+        only_right: &pair.only_right,
     };
     let known = KeptParents {
         places,

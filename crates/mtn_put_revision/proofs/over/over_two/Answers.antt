@@ -1,14 +1,12 @@
 -- Two parents.
-use Rattle.std.proofs.Common.{◌∙◌, ◌+◌, ℕ, List, [], ◌∷◌, sym, ap, subst, ◌≤◌, ◌-◌, arith}
-use Rattle.std.specs.Prelude.{IfErr, IfSome, OnOk, max}
-use Rattle.std.proofs.lemmas.Result.{err_from_is_err_and}
+use Rattle.std.proofs.Common.{ℕ, List, [], ◌∷◌, sym, ap, subst, arith}
+use Rattle.std.specs.Prelude.{IfErr, IfSome, OnOk}
 use Rattle.mtn_ports.specs.Kept.{with_all}
 use Rattle.mtn_history.specs.Rosters.{IsRebuilt, Rebuilds}
 use Rattle.mtn_history.specs.declared.rosters.Rebuilt.{Rebuilt}
-use Rattle.mtn_history.proofs.Knowing.{told_back, mapped}
+use Rattle.mtn_history.proofs.Knowing.{mapped}
 use Rattle.mtn_roster_deltas.specs.Chain.{Entries}
 use Rattle.mtn_roster_deltas.specs.Numbering.{shown}
-use Rattle.mtn_make_roster.specs.Basis.{AreUncommonIn}
 use Rattle.mtn_model.specs.State.{State}
 use Rattle.mtn_ports.proofs.KeptLemmas.{stays_trans}
 use Rattle.mtn_history.specs.Stands.{IsFounded}
@@ -17,74 +15,56 @@ use Rattle.mtn_history.proofs.Founding.{back, grown}
 use Rattle.mtn_put_revision.specs.Finding.{IsRefusal, made_refusal_of}
 use Rattle.mtn_put_revision.specs.Keeping.{Accepts, AreParents, IsFirstRebuilt, IsNew}
 use Rattle.mtn_put_revision.proofs.Bases.{some_places, two_basis, moved_based, under}
-use Rattle.mtn_put_revision.proofs.Grounds.{moved, rebuilt_at, unmade_found}
+use Rattle.mtn_put_revision.proofs.Grounds.{moved, rebuilt_at}
 use Rattle.mtn_put_revision.proofs.Planning.{planned_on}
-use Rattle.mtn_ancestry.specs.Ancestors.{ReachesFrom}
 use Rattle.mtn_history_laws.specs.History.{parents_at}
 use Rattle.mtn_put_revision.specs.Reads.{IsWindow}
 use Rattle.mtn_put_revision.proofs.Counting.{as_pending}
 use Rattle.mtn_put_revision.proofs.over.over_two.Goals as goal
 
-pub returns-in_err-held_left-clause-damaged : goal.returns-in_err-held_left-clause-damaged
-returns-in_err-held_left-clause-damaged g c =
-    let p = err_from_is_err_and c.from_residual.result c.from_residual.ensures.1 in
-    let low = c.requires.below in
-    rw (p.1, p.2) (unmade_found (g.K.Keeper.contents c.rosters_at.new.self.keeper.now) c.args.draft.now.pending (max c.args.left c.args.right) c.in_err-held_left.field-0.0 (omega (arith, low.0, low.1)) c.in_err-held_left.ensures.damaged)
-
-pub returns-in_err-only_left-clause-stays : goal.returns-in_err-only_left-clause-stays
-returns-in_err-only_left-clause-stays g c = stays_trans g.K.Keeper.contents g.K.Keeper.leaves g.K.Keeper.faults _ _ _ c.rosters_at.ensures.asks.stays c.uncommon_of.ensures.stays
-
 pub over-requires-clause-first : goal.over-requires-clause-first
 over-requires-clause-first g c κs within =
-    let read = g.K.Keeper.contents c.rosters_at.new.self.keeper.now in
-    let told = g.K.Keeper.contents c.uncommon_of.new.draft.keeper.now in
+    let told = g.K.Keeper.contents c.two_parents.new.draft.keeper.now in
     let p = c.args.draft.now.pending in
-    let q = c.uncommon_of.new.draft.pending in
+    let q = c.two_parents.new.draft.pending in
     let first = c.as_ref-first.result.now in
-    let found = told_back read told (λ y. IsRebuilt (with_all y p.batch) c.args.left first.entries first.roster first.depth) c.uncommon_of.ensures.stays.same
-    (subst (λ (x : Rebuilt). IfSome read (λ y. Rebuilds (with_all y c.args.draft.now.pending.batch) c.args.left x)) (sym c.as_ref-first.ensures) c.in_ok-held_left.ensures.left) in
+    let found = subst (λ (x : Rebuilt). IfSome told (λ y. Rebuilds (with_all y c.args.draft.now.pending.batch) c.args.left x)) (sym c.as_ref-first.ensures) c.in_ok-pair.ensures.left in
     subst (λ ps. IfSome told (λ y. IsFirstRebuilt (with_all y q.batch) ps (shown c.as_slice.result.now) first.depth)) (sym c.requires.two)
     (subst (λ es. IfSome told (λ y. IsFirstRebuilt (with_all y q.batch) (c.args.left ∷ c.args.right ∷ []) es first.depth)) (sym (ap shown c.as_slice.ensures))
     (moved (λ (x : Pending). IfSome told (λ y. IsFirstRebuilt (with_all y x.batch) (c.args.left ∷ c.args.right ∷ []) (first.entries ∷ c.as_ref-second.result.now.entries ∷ []) first.depth)) p q
-    (sym (c.uncommon_of.ensures.pending ∙ c.rosters_at.ensures.asks.pending))
+    (sym c.in_ok-pair.ensures.pending)
     (mapped told (λ y. IsRebuilt (with_all y p.batch) c.args.left first.entries first.roster first.depth) _ (λ y h. (first.roster, h)) found)))
 
 pub over-requires-clause-based : goal.over-requires-clause-based
 over-requires-clause-based g c κs within =
-    let read = g.K.Keeper.contents c.rosters_at.new.self.keeper.now in
-    let told = g.K.Keeper.contents c.uncommon_of.new.draft.keeper.now in
+    let told = g.K.Keeper.contents c.two_parents.new.draft.keeper.now in
     let p = c.args.draft.now.pending in
-    let same = c.rosters_at.ensures.asks.pending in
-    moved_based told p c.uncommon_of.new.draft.pending (sym (c.uncommon_of.ensures.pending ∙ same)) c.args.fresh.now.read.now.edges _ c.args.fresh.now.id c.args.places.now (shown c.as_slice.result.now) c.as_ref-first.result.now.depth
+    moved_based told p c.two_parents.new.draft.pending (sym c.in_ok-pair.ensures.pending) c.args.fresh.now.read.now.edges _ c.args.fresh.now.id c.args.places.now (shown c.as_slice.result.now) c.as_ref-first.result.now.depth
     (λ f s d.
-    let here = back f read told p s c.uncommon_of.ensures.stays.same d in
-    let on = c.requires.parents f s (back f (g.K.Keeper.contents c.args.draft.now.keeper.now) read p s c.rosters_at.ensures.asks.stays.same here) in
-    let first = rebuilt_at f read p s here c.args.left c.as_ref-first.result.now.entries c.as_ref-first.result.now.roster c.as_ref-first.result.now.depth c.requires.below.0
-    (subst (λ (x : Rebuilt). IfSome read (λ y. Rebuilds (with_all y c.args.draft.now.pending.batch) c.args.left x)) (sym c.as_ref-first.ensures) c.in_ok-held_left.ensures.left) in
-    let second = rebuilt_at f read p s here c.args.right c.as_ref-second.result.now.entries c.as_ref-second.result.now.roster c.as_ref-second.result.now.depth c.requires.below.1
-    (subst (λ (x : Rebuilt). IfSome read (λ y. Rebuilds (with_all y c.args.draft.now.pending.batch) c.args.right x)) (sym c.as_ref-second.ensures) c.in_ok-held_left.ensures.right) in
-    let lefts = moved (λ (q : Pending). (f : List ℕ → List ℕ) (s : State) → (d : IsFounded f told q s) → AreUncommonIn d.stands.history c.args.left c.args.right c.in_ok-only_left.only_left) c.rosters_at.new.self.pending p same c.in_ok-only_left.ensures.lefts f s d in
-    let rights = moved (λ (q : Pending). (f : List ℕ → List ℕ) (s : State) → (d : IsFounded f told q s) → AreUncommonIn d.stands.history c.args.right c.args.left c.in_ok-only_left.only_right) c.rosters_at.new.self.pending p same c.in_ok-only_left.ensures.rights f s d in
+    let on = c.requires.parents f s (back f (g.K.Keeper.contents c.args.draft.now.keeper.now) told p s c.two_parents.ensures.stays.same d) in
+    let first = rebuilt_at f told p s d c.args.left c.as_ref-first.result.now.entries c.as_ref-first.result.now.roster c.as_ref-first.result.now.depth c.requires.below.0
+    (subst (λ (x : Rebuilt). IfSome told (λ y. Rebuilds (with_all y c.args.draft.now.pending.batch) c.args.left x)) (sym c.as_ref-first.ensures) c.in_ok-pair.ensures.left) in
+    let second = rebuilt_at f told p s d c.args.right c.as_ref-second.result.now.entries c.as_ref-second.result.now.roster c.as_ref-second.result.now.depth c.requires.below.1
+    (subst (λ (x : Rebuilt). IfSome told (λ y. Rebuilds (with_all y c.args.draft.now.pending.batch) c.args.right x)) (sym c.as_ref-second.ensures) c.in_ok-pair.ensures.right) in
     let b = two_basis d.stands.history d.stands.kept c.args.fresh.now c.args.places.now c.args.left c.args.right c.as_ref-first.result.now.entries c.as_ref-second.result.now.entries c.as_ref-first.result.now.roster c.as_ref-second.result.now.roster
-    c.as_ref-first.result.now.depth c.as_ref-second.result.now.depth c.in_ok-only_left.only_left c.in_ok-only_left.only_right c.requires.edges on c.requires.two first second lefts rights in (
+    c.as_ref-first.result.now.depth c.as_ref-second.result.now.depth c.in_ok-pair.pair.only_left c.in_ok-pair.pair.only_right c.requires.edges on c.requires.two first second (c.in_ok-pair.ensures.lefts f s d) (c.in_ok-pair.ensures.rights f s d) in (
       under d.stands.history c.args.fresh.now.read.now.edges _ c.args.fresh.now.id (b.0 ∷ b.1 ∷ []) (grown f told p s d) on.new b.2 b.3,
       subst (λ (es : List Entries). AreParents d.stands.history d.stands.kept c.args.fresh.now.read.now.edges c.args.places.now es c.as_ref-first.result.now.depth) (sym (ap shown c.as_slice.ensures)) b.4,
     ))
 
 pub over-requires-clause-planned : goal.over-requires-clause-planned
 over-requires-clause-planned g c κs within =
-    planned_on (g.I.Ident.meaning c.args.ident.now) (g.K.Keeper.contents c.args.draft.now.keeper.now) (g.K.Keeper.contents c.uncommon_of.new.draft.keeper.now) c.args.draft.now.pending c.uncommon_of.new.draft.pending c.args.fresh.now.text.now c.args.planned
-    (stays_trans g.K.Keeper.contents g.K.Keeper.leaves g.K.Keeper.faults _ _ _ c.rosters_at.ensures.asks.stays c.uncommon_of.ensures.stays).same
-    (c.uncommon_of.ensures.pending ∙ c.rosters_at.ensures.asks.pending) c.requires.planned
+    planned_on (g.I.Ident.meaning c.args.ident.now) (g.K.Keeper.contents c.args.draft.now.keeper.now) (g.K.Keeper.contents c.two_parents.new.draft.keeper.now) c.args.draft.now.pending c.two_parents.new.draft.pending c.args.fresh.now.text.now c.args.planned
+    c.two_parents.ensures.stays.same c.in_ok-pair.ensures.pending c.requires.planned
 
 pub returns-clause-stays : goal.returns-clause-stays
-returns-clause-stays g c = stays_trans g.K.Keeper.contents g.K.Keeper.leaves g.K.Keeper.faults _ _ _ (stays_trans g.K.Keeper.contents g.K.Keeper.leaves g.K.Keeper.faults _ _ _ c.rosters_at.ensures.asks.stays c.uncommon_of.ensures.stays) c.over.ensures.stays
+returns-clause-stays g c = stays_trans g.K.Keeper.contents g.K.Keeper.leaves g.K.Keeper.faults _ _ _ c.two_parents.ensures.stays c.over.ensures.stays
 
 pub returns-clause-accepts : goal.returns-clause-accepts
-returns-clause-accepts g c = moved (λ (q : Pending). (s : State) → (d : IsFounded (g.I.Ident.meaning c.args.ident.now) (g.K.Keeper.contents c.over.new.draft.keeper.now) q s) → IsNew (g.I.Ident.meaning c.args.ident.now) d.stands.history c.args.fresh.now → OnOk c.over.result (Accepts (g.I.Ident.meaning c.args.ident.now) d.records s d.stands.history c.args.fresh.now c.over.new.draft.pending)) c.uncommon_of.new.draft.pending c.args.draft.now.pending (c.uncommon_of.ensures.pending ∙ c.rosters_at.ensures.asks.pending) c.over.ensures.accepts
+returns-clause-accepts g c = moved (λ (q : Pending). (s : State) → (d : IsFounded (g.I.Ident.meaning c.args.ident.now) (g.K.Keeper.contents c.over.new.draft.keeper.now) q s) → IsNew (g.I.Ident.meaning c.args.ident.now) d.stands.history c.args.fresh.now → OnOk c.over.result (Accepts (g.I.Ident.meaning c.args.ident.now) d.records s d.stands.history c.args.fresh.now c.over.new.draft.pending)) c.two_parents.new.draft.pending c.args.draft.now.pending c.in_ok-pair.ensures.pending c.over.ensures.accepts
 
 pub returns-clause-refused : goal.returns-clause-refused
-returns-clause-refused g c = moved (λ (q : Pending). (s : State) → (d : IsFounded (g.I.Ident.meaning c.args.ident.now) (g.K.Keeper.contents c.over.new.draft.keeper.now) q s) → IfErr c.over.result (IsRefusal (made_refusal_of (g.I.Ident.meaning c.args.ident.now) s.files d.stands.history c.args.fresh.now.id c.args.fresh.now.read.now))) c.uncommon_of.new.draft.pending c.args.draft.now.pending (c.uncommon_of.ensures.pending ∙ c.rosters_at.ensures.asks.pending) c.over.ensures.refused
+returns-clause-refused g c = moved (λ (q : Pending). (s : State) → (d : IsFounded (g.I.Ident.meaning c.args.ident.now) (g.K.Keeper.contents c.over.new.draft.keeper.now) q s) → IfErr c.over.result (IsRefusal (made_refusal_of (g.I.Ident.meaning c.args.ident.now) s.files d.stands.history c.args.fresh.now.id c.args.fresh.now.read.now))) c.two_parents.new.draft.pending c.args.draft.now.pending c.in_ok-pair.ensures.pending c.over.ensures.refused
 
 pub over-requires-clause-root : goal.over-requires-clause-root
 over-requires-clause-root g c κs within = λ e. absurd (some_places _ _ c.args.places.now c.requires.two e)
@@ -92,26 +72,20 @@ over-requires-clause-root g c κs within = λ e. absurd (some_places _ _ c.args.
 pub over-requires-clause-unknown : goal.over-requires-clause-unknown
 over-requires-clause-unknown g c κs within = λ e. absurd (some_places _ _ c.args.places.now c.requires.two e)
 
-pub returns-in_err-only_left-clause-reads : goal.returns-in_err-only_left-clause-reads
-returns-in_err-only_left-clause-reads g c = λ f s d ids w within.
-    let told = g.K.Keeper.contents c.uncommon_of.new.draft.keeper.now in
-    let p = c.args.draft.now.pending in
+pub returns-in_err-pair-clause-reads : goal.returns-in_err-pair-clause-reads
+returns-in_err-pair-clause-reads g c = λ f s d ids w within.
     let window = subst (λ (ps : List ℕ). IsWindow (parents_at d.stands.history) ps w) c.requires.two within in
-    let walk = moved (λ (q : Pending). (f : List ℕ → List ℕ) (s : State) → (d : IsFounded f told q s) → (low : ℕ) → ReachesFrom (parents_at d.stands.history) c.args.left c.args.right low → g.K.Keeper.reads c.uncommon_of.new.draft.keeper.now ≤ g.K.Keeper.reads c.rosters_at.new.self.keeper.now + (max c.args.left c.args.right + 1 - low))
-    c.rosters_at.new.self.pending p c.rosters_at.ensures.asks.pending c.uncommon_of.ensures.reads f s d window.0 window.1 in
-    let few = c.in_ok-held_left.ensures.few in
+    let read = c.in_err-pair.ensures.reads f s d window.0 window.1 in
     let is = window.2 in
-    omega (arith, few, walk, is)
+    omega (arith, read, is)
 
 pub returns-clause-reads : goal.returns-clause-reads
 returns-clause-reads g c = λ f s d ids w within.
-    let told = g.K.Keeper.contents c.uncommon_of.new.draft.keeper.now in
+    let told = g.K.Keeper.contents c.two_parents.new.draft.keeper.now in
     let last = g.K.Keeper.contents c.over.new.draft.keeper.now in
     let p = c.args.draft.now.pending in
     let window = subst (λ (ps : List ℕ). IsWindow (parents_at d.stands.history) ps w) c.requires.two within in
-    let walk = moved (λ (q : Pending). (f : List ℕ → List ℕ) (s : State) → (d : IsFounded f told q s) → (low : ℕ) → ReachesFrom (parents_at d.stands.history) c.args.left c.args.right low → g.K.Keeper.reads c.uncommon_of.new.draft.keeper.now ≤ g.K.Keeper.reads c.rosters_at.new.self.keeper.now + (max c.args.left c.args.right + 1 - low))
-    c.rosters_at.new.self.pending p c.rosters_at.ensures.asks.pending c.uncommon_of.ensures.reads f s (back f told last p s c.over.ensures.stays.same d) window.0 window.1 in
-    let few = c.in_ok-held_left.ensures.few in
+    let few = c.in_ok-pair.ensures.few f s (back f told last p s c.over.ensures.stays.same d) window.0 window.1 in
     let is = window.2 in
-    let then = c.over.ensures.reads f s (as_pending f last p c.uncommon_of.new.draft.pending s (c.uncommon_of.ensures.pending ∙ c.rosters_at.ensures.asks.pending) d) ids in
-    omega (arith, few, walk, is, then)
+    let then = c.over.ensures.reads f s (as_pending f last p c.two_parents.new.draft.pending s c.in_ok-pair.ensures.pending d) ids in
+    omega (arith, few, is, then)
