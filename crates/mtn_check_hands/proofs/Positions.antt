@@ -9,7 +9,7 @@ use Rattle.mtn_ports.proofs.KeptLemmas.{if_same}
 use Rattle.mtn_ports.specs.Kept.{Same}
 use Rattle.mtn_check_records.specs.Reading.{ids_of, places_of, IsGivenAt}
 use Rattle.mtn_check_hands.specs.Hands.{IsHandRead}
-use Rattle.mtn_check_hands.specs.Putting.{read_of}
+use Rattle.mtn_check_hands.specs.Putting.{IsReadOf, read_of}
 use Rattle.mtn_check_hands.specs.Reading.{AreApart, AreKinAt, AreRecordsAt, IsNextAt, IsReadWith}
 use Rattle.mtn_check_hands.specs.declared.hands.Hands.{Hands}
 use Rattle.mtn_check_hands.specs.declared.kin.Kin.{Kin}
@@ -43,14 +43,16 @@ read_with c at hands records next kin stored are is_next are_kin named given = �
       stored = (stored.entries, refl, given);
     }
 
-pub told_read : (first second told : Option Contents) (at : ℕ) (hands : Hands) (records : Records) (next : ℕ) (kin : Kin) (stored : Stored) (read : Read) → Same first second → Same second told → read ≡ read_of at records next kin stored →
-    IfSome first (λ c. AreRecordsAt c at records) → IfSome second (λ c. IsNextAt c at hands next) → IfSome told (λ c. AreKinAt c at hands kin) → ids_of kin.parents ≡ records.mentions.parents →
-    IsGivenAt at records.roster.items kin.parents kin.records stored.entries stored.depth → IfSome told (λ c. IsReadWith c at hands read)
-told_read first second None at hands records next kin stored read same later is are is_next are_kin named given = tt
-told_read first second (Some c) at hands records next kin stored read same later is are is_next are_kin named given =
-    subst (IsReadWith c at hands) (sym is) (read_with c at hands records next kin stored
-    (if_same first (Some c) (λ d. AreRecordsAt d at records) (λ d told. same d (later d told)) are) (if_same second (Some c) (λ d. IsNextAt d at hands next) later is_next) are_kin named given)
+pub told_read : (first second told : Option Contents) (at : ℕ) (hands : Hands) (records : Records) (next : ℕ) (kin : Kin) (o : Option Read) → Same first second → Same second told →
+    IfSome first (λ c. IsNextAt c at hands next) → IfSome second (λ c. AreRecordsAt c at records) → IfSome told (λ c. AreKinAt c at hands kin) → ids_of kin.parents ≡ records.mentions.parents →
+    IfSome o (IsReadOf at records next kin) → IfSome told (λ c. IfSome o (IsReadWith c at hands))
+told_read first second None at hands records next kin o same later is_next are are_kin named from = tt
+told_read first second (Some c) at hands records next kin None same later is_next are are_kin named from = tt
+told_read first second (Some c) at hands records next kin (Some read) same later is_next are are_kin named from =
+    subst (IsReadWith c at hands) (sym from.1) (read_with c at hands records next kin from.0
+    (if_same second (Some c) (λ d. AreRecordsAt d at records) later are) (if_same first (Some c) (λ d. IsNextAt d at hands next) (λ d told. same d (later d told)) is_next) are_kin named from.2)
 
-pub hand_read : (at : ℕ) (records : Records) (next : ℕ) (kin : Kin) (stored : Stored) (read : Read) → read ≡ read_of at records next kin stored → IsHandRead read.position read.job read.hand
-hand_read at records next kin stored read is =
-    subst (λ (x : Read). IsHandRead x.position x.job x.hand) (sym is) (record { id = refl; next = refl; depth = refl; entries = refl })
+pub hand_read : (at : ℕ) (records : Records) (next : ℕ) (kin : Kin) (o : Option Read) → IfSome o (IsReadOf at records next kin) → IfSome o (λ (x : Read). IsHandRead x.position x.job x.hand)
+hand_read at records next kin None from = tt
+hand_read at records next kin (Some read) from =
+    subst (λ (x : Read). IsHandRead x.position x.job x.hand) (sym from.1) (record { id = refl; next = refl; depth = refl; entries = refl })

@@ -111,15 +111,21 @@ fn kin_of_none(alloc: Global) -> Result<Kin, NoMemory>
     })
 }
 
+fn parent_of(place: u64, hand: &Hand) -> Parent
+    ensures { result ≡ record { at = place; id = hand.now.id; depth = hand.now.depth } }
+{
+    Parent {
+        at: Pos(place),
+        id: hand.id,
+        depth: hand.depth,
+    }
+}
+
 fn kin_of_one(alloc: Global, place: u64, hand: Hand) -> Result<Kin, NoMemory>
     ensures parents { IfOk result (λ k. k.parents ≡ record { at = place; id = hand.id; depth = hand.depth } ∷ []) }
     ensures records { IfOk result (λ k. k.records ≡ Whole hand.entries ∷ []) }
 {
-    let parent = Parent {
-        at: Pos(place),
-        id: hand.id,
-        depth: hand.depth,
-    };
+    let parent = parent_of(place, &hand);
     let whole = hand.entries.whole()?;
     Ok(Kin {
         parents: List::from_vec(vec![in alloc; parent]?),
@@ -129,34 +135,33 @@ fn kin_of_one(alloc: Global, place: u64, hand: Hand) -> Result<Kin, NoMemory>
     })
 }
 
+// The whole records of two rosters.
+fn both_whole(alloc: Global, left: &Hand, right: &Hand) -> Result<List<SharedRecord>, NoMemory>
+    ensures { IfOk result (λ rs. rs ≡ Whole left.now.entries ∷ Whole right.now.entries ∷ []) }
+{
+    let first = left.entries.whole()?;
+    let second = right.entries.whole()?;
+    Ok(List::from_vec(vec![in alloc; first, second]?))
+}
+
 fn kin_of_two(
     alloc: Global,
     places: (u64, u64),
-    left: Hand,
-    right: Hand,
+    left: &Hand,
+    right: &Hand,
     apart: (Uncommon, Uncommon),
 ) -> Result<Kin, NoMemory>
-    ensures parents { IfOk result (λ k. k.parents ≡ record { at = places.0; id = left.id; depth = left.depth } ∷ record { at = places.1; id = right.id; depth = right.depth } ∷ []) }
-    ensures records { IfOk result (λ k. k.records ≡ Whole left.entries ∷ Whole right.entries ∷ []) }
+    ensures parents { IfOk result (λ k. k.parents ≡ record { at = places.0; id = left.now.id; depth = left.now.depth } ∷ record { at = places.1; id = right.now.id; depth = right.now.depth } ∷ []) }
+    ensures records { IfOk result (λ k. k.records ≡ Whole left.now.entries ∷ Whole right.now.entries ∷ []) }
     ensures left { IfOk result (λ k. k.only_left ≡ apart.0) }
     ensures right { IfOk result (λ k. k.only_right ≡ apart.1) }
 {
     let (only_left, only_right) = apart;
-    let first = Parent {
-        at: Pos(places.0),
-        id: left.id,
-        depth: left.depth,
-    };
-    let second = Parent {
-        at: Pos(places.1),
-        id: right.id,
-        depth: right.depth,
-    };
-    let whole = left.entries.whole()?;
-    let other = right.entries.whole()?;
+    let first = parent_of(places.0, left);
+    let second = parent_of(places.1, right);
     Ok(Kin {
         parents: List::from_vec(vec![in alloc; first, second]?),
-        records: List::from_vec(vec![in alloc; whole, other]?),
+        records: both_whole(alloc, left, right)?,
         only_left,
         only_right,
     })
@@ -204,7 +209,8 @@ fn two_parents<K: Keeper>(
     let Some(apart) = apart_at(alloc, keeper, at, left, right)? else {
         return Ok(None);
     };
-    Ok(Some(kin_of_two(alloc, (left, right), first, second, apart)?))
+    let kin = kin_of_two(alloc, (left, right), &first, &second, apart)?;
+    Ok(Some(kin))
 }
 
 // The parents that the record of the log tells.

@@ -4,7 +4,7 @@ ghost use Rattle.mtn_ports.specs.Causes.{Rose};
 ghost use Rattle.mtn_ports.specs.Kept.{Stays};
 ghost use Rattle.mtn_history.specs.Errors.{IfDamage};
 ghost use Rattle.mtn_check_hands.specs.Hands.{IsHandRead};
-ghost use Rattle.mtn_check_hands.specs.Putting.{read_of};
+ghost use Rattle.mtn_check_hands.specs.Putting.{IsReadOf, read_of};
 ghost use Rattle.mtn_check_hands.specs.Reading.{IsNextAt, IsReadWith};
 
 use crate::Hands;
@@ -95,6 +95,22 @@ fn put_together(
     })
 }
 
+// What was read of a position, with the roster that its record gives over its parents', if it gives one.
+fn with_roster(
+    alloc: Global,
+    at: u64,
+    records: Records,
+    next: u64,
+    kin: Kin,
+) -> Result<Option<Read>, NoMemory>
+    ensures { IfOk result (λ o. IfSome o (IsReadOf at records next kin)) }
+{
+    match stored_in(alloc, at, &records, &kin)? {
+        Some(stored) => Ok(Some(put_together(alloc, at, records, next, kin, stored)?)),
+        None => Ok(None),
+    }
+}
+
 /// A position with what is at hand, where no record that is asked for is missing or bad.
 pub fn read_at<K: Keeper>(
     alloc: Global,
@@ -108,17 +124,14 @@ pub fn read_at<K: Keeper>(
     ensures sound { IfErr result (λ e. IfDamage e (λ _. ⊥)) }
     ensures failed { result ≡ Err StoreError.Failed → Rose (K.faults keeper.old) (K.faults keeper.new) }
 {
-    let Some(records) = records_at(alloc, keeper, at)? else {
+    let Some(next) = next_at(alloc, keeper, hands, at)? else {
         return Ok(None);
     };
-    let Some(next) = next_at(alloc, keeper, hands, at)? else {
+    let Some(records) = records_at(alloc, keeper, at)? else {
         return Ok(None);
     };
     let Some(kin) = kin_at(alloc, keeper, hands, at, &records)? else {
         return Ok(None);
     };
-    match stored_in(alloc, at, &records, &kin)? {
-        Some(stored) => Ok(Some(put_together(alloc, at, records, next, kin, stored)?)),
-        None => Ok(None),
-    }
+    Ok(with_roster(alloc, at, records, next, kin)?)
 }
