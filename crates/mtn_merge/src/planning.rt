@@ -1,5 +1,5 @@
 // The calls `plan` and `look`.
-ghost use Rattle.std.specs.Prelude.{◌≡◌, ◌<◌, List, ℕ, None, Err, IfOk, IfErr, IfSome, OnOk, [], option_copied};
+ghost use Rattle.std.specs.Prelude.{◌≡◌, ◌<◌, List, ℕ, None, Ok, Err, IfOk, IfErr, IfSome, OnOk, [], option_copied};
 ghost use Rattle.mtn_conflicts.specs.ConflictText.{IsLesser};
 ghost use Rattle.mtn_conflicts.specs.Lists.{AreConflictsOf};
 ghost use Rattle.mtn_conflicts.specs.Result.{ParentsAreDirs};
@@ -15,7 +15,7 @@ ghost use Rattle.mtn_ports.specs.Causes.{Rose};
 ghost use Rattle.mtn_ports.specs.Kept.{Stays, with_all};
 ghost use Rattle.mtn_put_revision.specs.Finding.{IsRefusal};
 ghost use Rattle.mtn_resolve.specs.Texts.{AreResolutions};
-ghost use Rattle.mtn_merge.specs.Given.{GivesResolutions, OverridesAll};
+ghost use Rattle.mtn_merge.specs.Given.{GivesResolutions, Overrides, OverridesAll};
 ghost use Rattle.mtn_merge.specs.Plans.{AreShown, Gives, HasClear, HasIds, HasTree, MergesText, outcomes};
 ghost use Rattle.mtn_merge.specs.Sides.{IsSideOf};
 
@@ -25,7 +25,8 @@ use crate::given::{read_resolutions, resolve};
 use crate::made::merged;
 use crate::sides::{Compared, sides_of};
 use mtn_base::Id;
-use mtn_conflicts::conflicts;
+use mtn_conflicts::{Conflicts, conflicts};
+use mtn_decide::Decisions;
 use mtn_history::{Draft, HistoryError, StoreError};
 use mtn_plans::MergeOutcome;
 use mtn_ports::{Ident, Keeper};
@@ -120,6 +121,31 @@ fn ends<I: Ident, K: Keeper>(
     merged(alloc, ident, &left, &right, &decisions)
 }
 
+// Decisions after resolutions, and their conflicts.
+fn decided_anew<K: Keeper>(
+    alloc: Global,
+    draft: &mut Draft<'_, K>,
+    decisions: &Decisions,
+    found: &Conflicts,
+    resolutions: &Resolutions,
+) -> Result<(Decisions, Conflicts), HistoryError>
+    requires conflicts { AreConflictsOf decisions.now found.now }
+    ensures same_reference { draft.new.keeper.ghost_name ≡ draft.old.keeper.ghost_name }
+    ensures stays { Stays K.contents K.leaves K.faults draft.old.keeper.now draft.new.keeper.now }
+    ensures pending { draft.new.pending ≡ draft.old.pending }
+    ensures overrides { (f : List ℕ → List ℕ) (s : State) → IsFounded f (K.contents draft.new.keeper.now) draft.old.pending s →
+        IfOk result (λ r. Overrides s.files decisions.now found.now resolutions.now (Ok r.0)) }
+    ensures refuses { (f : List ℕ → List ℕ) (s : State) → IsFounded f (K.contents draft.new.keeper.now) draft.old.pending s →
+        IfErr result (λ e. Overrides s.files decisions.now found.now resolutions.now (Err e)) }
+    ensures conflicts { IfOk result (λ r. AreConflictsOf r.0 r.1) }
+    ensures sound { IfErr result (λ e. IfStoreDamage e (λ _. ⊥)) }
+    ensures failed { result ≡ Err (HistoryError.Store StoreError.Failed) → Rose (K.faults draft.old.keeper.now) (K.faults draft.new.keeper.now) }
+{
+    let decisions = resolve(alloc, draft, decisions, found, resolutions)?;
+    let conflicts = conflicts(alloc, &decisions)?;
+    Ok((decisions, conflicts))
+}
+
 // The same sides with the decisions after resolutions, and their conflicts.
 fn overridden<K: Keeper>(
     alloc: Global,
@@ -139,14 +165,13 @@ fn overridden<K: Keeper>(
     ensures sound { IfErr result (λ e. IfStoreDamage e (λ _. ⊥)) }
     ensures failed { result ≡ Err (HistoryError.Store StoreError.Failed) → Rose (K.faults draft.old.keeper.now) (K.faults draft.new.keeper.now) }
 {
-    let decisions = resolve(
+    let (decisions, conflicts) = decided_anew(
         alloc,
         draft,
         &compared.decisions,
         &compared.conflicts,
         resolutions,
     )?;
-    let conflicts = conflicts(alloc, &decisions)?;
     Ok(Compared {
         left: compared.left,
         right: compared.right,

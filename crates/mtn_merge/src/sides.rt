@@ -8,15 +8,15 @@ ghost use Rattle.mtn_history.specs.Errors.{IfDamage, IfStoreDamage};
 ghost use Rattle.mtn_history.specs.Marked.{IsCounted};
 ghost use Rattle.mtn_history.specs.Rosters.{IsRosterThere};
 ghost use Rattle.mtn_history.specs.Stands.{IsFounded};
-ghost use Rattle.mtn_history_laws.specs.History.{parents_at};
+ghost use Rattle.mtn_history_laws.specs.History.{IsGrown, Revision, parents_at};
 ghost use Rattle.mtn_mark_laws.specs.Rule.{AreUncommon};
 ghost use Rattle.mtn_model.specs.State.{State};
 ghost use Rattle.mtn_ports.specs.Causes.{Rose};
 ghost use Rattle.mtn_ports.specs.Kept.{Stays, with_all};
-ghost use Rattle.mtn_merge.specs.Sides.{Compares, FindsSides, IsSideOf};
+ghost use Rattle.mtn_merge.specs.Sides.{AreCompared, Compares, FindsSides, IsSideOf};
 
 use mtn_ancestry::{Pos, PosSet, WalkError, uncommon};
-use mtn_base::{Cause, Id};
+use mtn_base::{Cause, Id, NoMemory};
 use mtn_conflicts::{Conflicts, conflicts};
 use mtn_decide::{Decisions, decide};
 use mtn_history::{Draft, HistoryError, SharedRoster, StoreError};
@@ -74,6 +74,36 @@ fn uncommon_of<K: Keeper>(
     }
 }
 
+// Both sides and what is decided of them, by the sets of what each has above it that the other lacks.
+fn decided(
+    alloc: Global,
+    left: Side,
+    right: Side,
+    only_left: &PosSet,
+    only_right: &PosSet,
+) -> Result<Compared, NoMemory>
+    ensures compared { IfOk result (λ x. (h : List Revision) → IsGrown h → IsSideOf h left → IsSideOf h right →
+        AreUncommon (parents_at h) left.at right.at only_left.now → AreUncommon (parents_at h) right.at left.at only_right.now → AreCompared h left.id right.id x) }
+    ensures left { IfOk result (λ x. x.left ≡ left) }
+    ensures right { IfOk result (λ x. x.right ≡ right) }
+    ensures conflicts { IfOk result (λ x. AreConflictsOf x.decisions x.conflicts) }
+{
+    let decisions = decide(
+        alloc,
+        left.roster.marked(),
+        right.roster.marked(),
+        only_left,
+        only_right,
+    )?;
+    let conflicts = conflicts(alloc, &decisions)?;
+    Ok(Compared {
+        left,
+        right,
+        decisions,
+        conflicts,
+    })
+}
+
 // What is decided of two sides, the lesser first; Related where one is above the other.
 fn compare<K: Keeper>(
     alloc: Global,
@@ -108,20 +138,7 @@ fn compare<K: Keeper>(
             newer: left.id,
         }));
     }
-    let decisions = decide(
-        alloc,
-        left.roster.marked(),
-        right.roster.marked(),
-        &only_left,
-        &only_right,
-    )?;
-    let conflicts = conflicts(alloc, &decisions)?;
-    Ok(Compared {
-        left,
-        right,
-        decisions,
-        conflicts,
-    })
+    Ok(decided(alloc, left, right, &only_left, &only_right)?)
 }
 
 /// The sides of a merge with what is decided of them; UnknownRevision for the first that is not held, or Related. Each roster
