@@ -1,11 +1,8 @@
 // Fields, and what becomes a certificate.
+use crate::words::size;
 use mtn_base::{Field, Id};
 use mtn_certs::{Cert, CertError, is_field};
 use std::alloc::Global;
-
-fn number(text: &[u8]) -> Option<usize> {
-    std::str::from_utf8(text).ok()?.parse::<usize>().ok()
-}
 
 /// `field TEXT`.
 pub fn put_field(text: &[u8], out: &mut Vec<u8>) -> Option<()> {
@@ -21,7 +18,7 @@ pub fn put_hex(alloc: Global, digits: &[u8], out: &mut Vec<u8>) -> Option<()> {
 
 /// `long COUNT`.
 pub fn put_long(alloc: Global, count: &[u8], out: &mut Vec<u8>) -> Option<()> {
-    let bytes = vec![in alloc; b'a'; number(count)?].ok()?;
+    let bytes = vec![in alloc; b'a'; size(count)?].ok()?;
     put_field(&bytes, out)
 }
 
@@ -47,8 +44,8 @@ pub fn put_new(
     signature: &[u8],
     out: &mut Vec<u8>,
 ) -> Option<()> {
-    let value = vec![in alloc; b'v'; number(value)?].ok()?;
-    let signature = vec![in alloc; b's'; number(signature)?].ok()?;
+    let value = vec![in alloc; b'v'; size(value)?].ok()?;
+    let signature = vec![in alloc; b's'; size(signature)?].ok()?;
     let id = Id([0; 20]);
     match Cert::new(alloc, id, name, id, &value, &signature) {
         Ok(_) => out.extend_from_slice(b"certificate\n").ok(),

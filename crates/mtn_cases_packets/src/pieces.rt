@@ -1,16 +1,12 @@
 // Ids and inputs in pieces.
 use crate::inputs::put_read;
 use crate::said::Said;
-use crate::words::number;
+use crate::words::{number, size};
 use mtn_base::{Bytes, NoMemory};
 use mtn_pieces::{FreeGate, Sha1Many, read_in_pieces};
 use mtn_ports::Ident;
 use std::alloc::Global;
 use std::thread::Threads;
-
-fn count(word: &Bytes) -> Option<usize> {
-    usize::try_from(number(word.as_slice())?).ok()
-}
 
 /// `ids PIECES TEXT..`: the number of texts, and their ids, hashed in so many pieces.
 pub fn ids<R: Threads + Sync>(
@@ -22,7 +18,7 @@ pub fn ids<R: Threads + Sync>(
     let [pieces, texts @ ..] = args else {
         return None;
     };
-    let ident = Sha1Many::new(FreeGate, count(pieces)?);
+    let ident = Sha1Many::new(FreeGate, size(pieces.as_slice())?);
     let ids = ident.ids(rt, alloc, texts).ok()?;
     said.put_number(alloc, ids.len() as u64);
     for id in &ids {
@@ -55,7 +51,7 @@ pub fn read<R: Threads + Sync>(
         return None;
     };
     let text = input(alloc, number(blanks.as_slice())?, texts).ok()?;
-    let read = read_in_pieces(rt, alloc, count(pieces)?, &text);
+    let read = read_in_pieces(rt, alloc, size(pieces.as_slice())?, &text);
     put_read(alloc, read, said);
     Some(())
 }

@@ -42,3 +42,8 @@ pub fn escape(text: &[u8], out: &mut Vec<u8>) -> io::Result<()> {
 pub fn number(text: &[u8]) -> Option<u64> {
     std::str::from_utf8(text).ok()?.parse::<u64>().ok()
 }
+
+/// A decimal number of bytes, or of pieces.
+pub fn size(text: &[u8]) -> Option<usize> {
+    usize::try_from(number(text)?).ok()
+}
