@@ -173,6 +173,8 @@ for made in 'CREATE TABLE note (id INTEGER PRIMARY KEY)' 'CREATE VIEW seen AS SE
 done
 sqlite3 "$work/alone.mtn" "$table"
 row "a database that has the table alone becomes a store" 0 abc "$abc\n" "$work/alone.mtn" put_file
+cp "$work/alone.mtn" "$work/folded.mtn"
+row "what was kept stands in the one file, without the log of changes" 0 '' abc "$work/folded.mtn" get_file "$abc"
 head -c 5000 "$store" >"$work/cut.mtn"
 row "a database that is cut off is no store" 6 '' '' "$work/cut.mtn" check
 ln "$work/bad.mtn" "$work/second.mtn"
@@ -220,6 +222,10 @@ rm -f "$work"/late.mtn*
 meanwhile sqlite3 "$work/late.mtn" "$table"
 verdict "a table without records that was made meanwhile is taken" test $? = 0 -a "$(cat "$work/first")" = "$later"
 row "and has the file" 0 '' later "$work/late.mtn" get_file "$later"
+rm -f "$work"/late.mtn*
+meanwhile sqlite3 "$work/late.mtn" 'CREATE TABLE note (a INTEGER)'
+verdict "a table of others that was made meanwhile is a fault" test $? = 6 -a ! -s "$work/first"
+verdict "and is as it was" asks "$work/late.mtn" 'SELECT sql FROM sqlite_schema' 'CREATE TABLE note (a INTEGER)'
 
 # A full disk.
 full() {
