@@ -12,7 +12,7 @@ use Rattle.mtn_history.specs.Rosters.{Rebuilds}
 use Rattle.mtn_history.specs.Stands.{IsFounded, StandsFor}
 use Rattle.mtn_history.specs.declared.errors.StoreError.{StoreError}
 use Rattle.mtn_history.specs.declared.pending.Pending.{Pending}
-use Rattle.mtn_history.specs.declared.rosters.Rebuilt.{Rebuilt}
+use Rattle.mtn_history.specs.Remembered.{RebuiltRoster}
 use Rattle.mtn_put_revision.proofs.Grounds.{rebuilt_at}
 use Rattle.mtn_check_laws.specs.Fronts.{Front, IsFrontAt}
 use Rattle.mtn_check_laws.proofs.Cutting.{stands_walk}
@@ -31,7 +31,7 @@ one_kept : (o : Option Kept) (a b : Kept) → o ≡ Some a → o ≡ Some b → 
 one_kept o a b x y = cc
 
 -- a record of the log and what was rebuilt beside it
-pub hand_is : (f : List ℕ → List ℕ) (told : Option Contents) (p : Pending) (s : State) (d : IsFounded f told p s) (at : ℕ) (log : LogRecord) (x : Rebuilt) (es : Entries) → es ≡ x.entries → at < p.count →
+pub hand_is : (f : List ℕ → List ℕ) (told : Option Contents) (p : Pending) (s : State) (d : IsFounded f told p s) (at : ℕ) (log : LogRecord) (x : RebuiltRoster) (es : Entries) → es ≡ x.entries → at < p.count →
     IsLogOf d.stands.history d.stands.kept at log → IfSome told (λ c. Rebuilds (with_all c p.batch) at x) →
     IsHandOf (front_with s.log d.stands.history d.stands.kept) at (record { id = log.id; next = log.next_node; depth = x.depth; entries = es })
 hand_is f told p s d at log x es all lt is made =

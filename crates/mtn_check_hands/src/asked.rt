@@ -43,12 +43,12 @@ fn hand_of<K: Keeper>(alloc: Global, draft: &mut Draft<'_, K>, at: u64) -> Resul
     let log = draft.log_at(Pos(at))?;
     let rebuilt = draft.roster_at(Pos(at))?;
     let held = rebuilt.as_ref();
-    let copied = held.entries.copy(alloc)?;
+    let copied = held.entries(alloc)?;
     let entries = SharedEntries::new(alloc, copied)?;
     Ok(Hand {
         id: log.id,
         next: log.next_node,
-        depth: held.depth,
+        depth: held.depth(),
         entries,
     })
 }

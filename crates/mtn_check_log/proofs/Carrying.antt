@@ -23,7 +23,7 @@ use Rattle.mtn_history.specs.Stands.{StandsFor}
 use Rattle.mtn_history.specs.declared.cache.Cache.{Cache}
 use Rattle.mtn_history.specs.declared.memory.Memory.{Memory}
 use Rattle.mtn_history.specs.declared.meta.Meta.{Meta}
-use Rattle.mtn_history.specs.declared.rosters.Rebuilt.{Rebuilt}
+use Rattle.mtn_history.specs.Remembered.{RebuiltRoster}
 use Rattle.mtn_check_laws.specs.Fronts.{StandsTo}
 use Rattle.mtn_check_laws.proofs.Cutting.{stands_walk}
 use Rattle.mtn_check_laws.proofs.Due.{one_due}
@@ -84,7 +84,7 @@ module _ (f : List ℕ → List ℕ) (a b : Contents) (s : State) (first : Stand
   chain_too q (Whole entries ∷ rest) down = (rostered_too q (Whole entries) down.0, down.1)
   chain_too q (Delta base depth gone changed ∷ rest) down = (rostered_too q (Delta base depth gone changed) down.0, chain_too base rest down.1)
 
-  rebuilt_too : (q : ℕ) (r : Rebuilt) → Rebuilds a q r → Rebuilds b q r
+  rebuilt_too : (q : ℕ) (r : RebuiltRoster) → Rebuilds a q r → Rebuilds b q r
   rebuilt_too q r is = record { chain = is.chain; down = chain_too q is.chain is.down; entries = is.entries; spelled = is.spelled; deltas = is.deltas }
 
   recalled_too : (n : ℕ) (k : Cache) → AreRecalled a n k → AreRecalled b n k

@@ -11,4 +11,5 @@ pub mod keeper;
 pub mod logs;
 pub mod marked;
 pub mod pending;
+pub mod rebuilt;
 pub mod rosters;

@@ -5,4 +5,5 @@
 #![tactic(auto)]
 
 pub mod deltas;
+pub mod numbered;
 pub mod records;

@@ -24,7 +24,7 @@ use Rattle.mtn_history.specs.Rosters.{IsChainDown, IsRostered, Rebuilds}
 use Rattle.mtn_history.specs.declared.cache.Cache.{Cache}
 use Rattle.mtn_history.specs.declared.cache.Recalled.{Recalled}
 use Rattle.mtn_history.specs.declared.pending.Pending.{Pending}
-use Rattle.mtn_history.specs.declared.rosters.Rebuilt.{Rebuilt}
+use Rattle.mtn_history.specs.Remembered.{RebuiltRoster}
 use Rattle.mtn_history.proofs.Extending.{earlier_at}
 use Rattle.mtn_history.proofs.FileLemmas.{other_table}
 use Rattle.mtn_history.proofs.Founding.{table_of}
@@ -43,7 +43,7 @@ chain_kept c d n r (Delta base depth g ch ∷ xs) same lt down =
     let under : base < r = down.0.text.within.0 in
     (rostered_kept c d r (Delta base depth g ch) (same r lt) down.0, chain_kept c d n base xs same (omega (arith, under, lt)) down.1)
 
-rebuilds_kept : (c d : Contents) (n r : ℕ) (x : Rebuilt) → AreSameBelow 5 n c d → r < n → Rebuilds c r x → Rebuilds d r x
+rebuilds_kept : (c d : Contents) (n r : ℕ) (x : RebuiltRoster) → AreSameBelow 5 n c d → r < n → Rebuilds c r x → Rebuilds d r x
 rebuilds_kept c d n r x same lt is = record { chain = is.chain; down = chain_kept c d n r is.chain same lt is.down; entries = is.entries; spelled = is.spelled; deltas = is.deltas }
 
 logged_kept : (c d : Contents) (r : ℕ) (l : LogRecord) → body_at d 4 (number_text r) ≡ body_at c 4 (number_text r) → IsLogged c r l → IsLogged d r l
@@ -175,11 +175,11 @@ noted_by old new at l (Ok before) ok err r m found = by (is_eq (nat_cmp at r)) r
 noted_by old new at l (Err e) ok err r m found = inl (ap (λ es. lookup (is_at (nat_cmp r)) es) (sym err) ∙ found)
 
 -- what is remembered is found right
-pub recalled_among : (told : Option Contents) (p : Pending) (k : Cache) (at : ℕ) (r : Rebuilt) → IsAmong k.rosters.items at r → IfSome told (λ c. AreRecalled (with_all c p.batch) p.count k) → IfSome told (λ c. Rebuilds (with_all c p.batch) at r)
+pub recalled_among : (told : Option Contents) (p : Pending) (k : Cache) (at : ℕ) (r : RebuiltRoster) → IsAmong k.rosters.items at r → IfSome told (λ c. AreRecalled (with_all c p.batch) p.count k) → IfSome told (λ c. Rebuilds (with_all c p.batch) at r)
 recalled_among None p k at r among known = tt
 recalled_among (Some c) p k at r among known =
     let is = (known.rosters among.0 among.1).1 in
-    subst (λ n. Rebuilds (with_all c p.batch) n r) among.2 (subst (λ (x : Rebuilt). Rebuilds (with_all c p.batch) among.0.at x) (sym among.3) is)
+    subst (λ n. Rebuilds (with_all c p.batch) n r) among.2 (subst (λ (x : RebuiltRoster). Rebuilds (with_all c p.batch) among.0.at x) (sym among.3) is)
 
 pub revision_remembered : (told : Option Contents) (p after : Pending) (l : Logged) (log roster : List ℕ) (k known : Cache) (more : Recalled) → p.count < 2 ^ 63 → after ≡ with_revision p l log roster → more.at ≡ p.count →
     IsAdded k.rosters.items known.rosters.items more → known.log ≡ k.log → IfSome told (λ c. Rebuilds (with_all c (with_revision p l log roster).batch) p.count more.rebuilt.value) →

@@ -36,7 +36,7 @@ use Rattle.mtn_history.specs.Places.{IsFoundAt, IsPlaced, UnplacedBelow}
 use Rattle.mtn_history.specs.Rosters.{IsChainDown, IsRebuilt, IsRosterHeld, IsRosterThere, Rebuilds, UnmadeBelow}
 use Rattle.mtn_records.specs.declared.record.RosterRecord.{RosterRecord}
 use Rattle.mtn_records.specs.declared.record.RosterRecord.TheVariants.{Whole, Delta}
-use Rattle.mtn_history.specs.declared.rosters.Rebuilt.{Rebuilt}
+use Rattle.mtn_history.specs.Remembered.{RebuiltRoster}
 use Rattle.mtn_history.specs.Stands.{Stands, StandsFor, IsNew, IsDraft, IsFounded}
 use Rattle.mtn_history.proofs.Founding.{founded, told_of, own, counted, grown, texts_of, log_of, rosters_of}
 use Rattle.mtn_history.proofs.LogLemmas.{there, there_kept, read_is, read_tells}
@@ -111,7 +111,7 @@ module _ (f : List ℕ → List ℕ) (told : Option Contents) (p : Pending) (s :
   log_found at (Err e) read lt = tt
   log_found at (Ok log) read lt = log_is at log read lt
 
-  pub roster_found : {X : Type 0} (at : ℕ) (r : Result X StoreError) (value : X → Rebuilt) → IfSome told (λ c. IfOk r (λ x. Rebuilds (with_all c p.batch) at (value x))) → at < p.count → IfOk r (λ x. IsMarkedAt d.stands.history at (value x).roster)
+  pub roster_found : {X : Type 0} (at : ℕ) (r : Result X StoreError) (value : X → RebuiltRoster) → IfSome told (λ c. IfOk r (λ x. Rebuilds (with_all c p.batch) at (value x))) → at < p.count → IfOk r (λ x. IsMarkedAt d.stands.history at (value x).roster)
   roster_found at (Err e) value read lt = tt
   roster_found at (Ok x) value read lt = marked_is at (value x).entries (value x).roster (value x).depth lt read
 
@@ -168,7 +168,7 @@ log_bad c r log (Bad table key body) read held = tt
 log_bad c r log (Missing table key) read held = absurd (let both : None ≡ Some read.body = sym held.2 ∙ ap (body_at c 4) held.1 ∙ read.held in cc)
 
 -- a roster that was rebuilt has its record
-pub is_there : (told : Option Contents) (p : Pending) (r : ℕ) (x : Rebuilt) → IfSome told (λ c. Rebuilds (with_all c p.batch) r x) → IfSome told (λ c. IsRosterThere (with_all c p.batch) r)
+pub is_there : (told : Option Contents) (p : Pending) (r : ℕ) (x : RebuiltRoster) → IfSome told (λ c. Rebuilds (with_all c p.batch) r x) → IfSome told (λ c. IsRosterThere (with_all c p.batch) r)
 is_there None p r x is = tt
 is_there (Some c) p r x is = by is.chain is.down
   where

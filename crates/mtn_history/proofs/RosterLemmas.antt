@@ -29,12 +29,12 @@ use Rattle.mtn_history.specs.declared.errors.StoreError.TheVariants.{Failed, Dam
 use Rattle.mtn_history.specs.declared.errors.Damage.{Damage}
 use Rattle.mtn_history.specs.declared.errors.Damage.TheVariants.{Bad, Missing}
 use Rattle.mtn_history.specs.Revisions.{Kept, AreKept, AreRosters, IsRosterOf}
-use Rattle.mtn_history.specs.Rosters.{IsRostered, IsChainDown, IsPathDown, IsChainOf, AreDeltasOn, AreEntriesAt, EndsAt, IsWalk, IsWalkOf, MeetsNoEarlier, AsksAlong, AsksOnce, IsRosterHeld, GivesNoTree, UnrosteredAt, UnrebuiltAt, UnmadeBelow, IsRebuilt, Rebuilds, base_of, places}
+use Rattle.mtn_history.specs.Rosters.{IsRostered, IsChainDown, IsPathDown, IsChainOf, AreDeltasOn, AreEntriesAt, EndsAt, IsOnWalk, IsWalk, IsWalkOf, MeetsNoEarlier, AsksAlong, AsksOnce, IsRosterHeld, GivesNoTree, UnrosteredAt, UnrebuiltAt, UnmadeBelow, IsRebuilt, Rebuilds, base_of, places}
 use Rattle.mtn_history.specs.declared.chains.Base.{Base}
 use Rattle.mtn_history.specs.declared.chains.Chain.{Chain}
 use Rattle.mtn_history.specs.declared.chains.End.{End}
 use Rattle.mtn_history.specs.declared.chains.End.TheVariants.{ToWhole, ToBase, ToMeeting}
-use Rattle.mtn_history.specs.declared.rosters.Rebuilt.{Rebuilt}
+use Rattle.mtn_history.specs.Remembered.{RebuiltRoster}
 use Rattle.mtn_history.proofs.LogLemmas.{told_on}
 use Rattle.mtn_roster_deltas.proofs.Differing.{chain_grows, rebuilt_on}
 use Rattle.mtn_roster_deltas.proofs.Spelling.{one_tree}
@@ -285,6 +285,12 @@ pub walk_ends : (told : Option Contents) (ps : List Put) (at next top : ℕ) (be
 walk_ends None ps at next top beside rs end path first here = tt
 walk_ends (Some c) ps at next top beside rs end path first here = record { ends = ends_on (with_all c ps) at next top beside rs end path here; first = first }
 
+-- a walk's path and what it meets, in one
+pub on_walk : (told : Option Contents) (ps : List Put) (at next top : ℕ) (beside rs : List RosterRecord) → IfSome told (λ c. IsPathDown (with_all c ps) at rs next) → IfSome told (λ c. MeetsNoEarlier (with_all c ps) at top beside rs) →
+    IfSome told (λ c. IsOnWalk (with_all c ps) at top beside rs next)
+on_walk None ps at next top beside rs path first = tt
+on_walk (Some c) ps at next top beside rs path first = record { path = path; first = first }
+
 pub no_chain : (told : Option Contents) (ps : List Put) (at next top : ℕ) (beside rs : List RosterRecord) → IfSome told (λ c. IsPathDown (with_all c ps) at rs next) → length rs ≡ 16 → IfSome told (λ c. IsWalkOf (with_all c ps) at top beside None)
 no_chain None ps at next top beside rs path long = tt
 no_chain (Some c) ps at next top beside rs path long = too_deep (with_all c ps) at next top beside rs path long
@@ -310,7 +316,7 @@ unrebuilt_bad mid None ps at e chain same is bad held = tt
 unrebuilt_bad mid (Some c) ps at e chain same is bad held =
     unrebuilt_below (with_all c ps) at (at + 1) e (omega arith) (bad (with_all c ps) at (told_on mid (Some c) (λ d. IsWalk (with_all d ps) at at [] chain.records.items chain.end) same is c refl).ends) held
 
-pub is_rebuilt : (told : Option Contents) (ps : List Put) (at : ℕ) (chain : Chain) (found : Rebuilt) → IfSome told (λ c. IsWalk (with_all c ps) at at [] chain.records.items chain.end) →
+pub is_rebuilt : (told : Option Contents) (ps : List Put) (at : ℕ) (chain : Chain) (found : RebuiltRoster) → IfSome told (λ c. IsWalk (with_all c ps) at at [] chain.records.items chain.end) →
     ((c : Contents) (r : ℕ) → IsChainOf c r chain → Rebuilds c r found) → IfSome told (λ c. Rebuilds (with_all c ps) at found)
 is_rebuilt None ps at chain found is gives = tt
 is_rebuilt (Some c) ps at chain found is gives = gives (with_all c ps) at is.ends
@@ -349,7 +355,7 @@ module _ (c : Contents) (at : ℕ) (es : Entries) (depth : ℕ) (are : AreEntrie
       let is : fs ≡ es = cc in
       bad t (subst (λ gs. Spells gs t) is spelled)
 
-pub entries_rebuilt : (c : Contents) (at : ℕ) (r : Rebuilt) → Rebuilds c at r → AreEntriesAt c at r.entries r.depth
+pub entries_rebuilt : (c : Contents) (at : ℕ) (r : RebuiltRoster) → Rebuilds c at r → AreEntriesAt c at r.entries r.depth
 entries_rebuilt c at r is = record { chain = is.chain; down = is.down; entries = is.entries; ascending = is.spelled.ascending; deltas = is.deltas }
 
 -- and one that ends at known entries

@@ -6,12 +6,12 @@ use Rattle.mtn_model.specs.Table.{Contents}
 use Rattle.mtn_records.specs.declared.record.LogRecord.{LogRecord}
 use Rattle.mtn_history.specs.declared.cache.Cache.{Cache}
 use Rattle.mtn_history.specs.declared.cache.Recalled.{Recalled}
-use Rattle.mtn_history.specs.declared.rosters.Rebuilt.{Rebuilt}
+use Rattle.mtn_history.specs.Remembered.{RebuiltRoster}
 use Rattle.mtn_history.specs.Logs.{IsLogged}
 use Rattle.mtn_history.specs.Rosters.{Rebuilds}
 
 -- the roster of a position
-abbrev pub IsAmong : List Recalled → ℕ → Rebuilt → Type 0
+abbrev pub IsAmong : List Recalled → ℕ → RebuiltRoster → Type 0
 IsAmong rosters at r = (x : Recalled) × Contains rosters x × (x.at ≡ at) × (r ≡ x.rebuilt.value)
 
 -- some of what was there, and maybe one more

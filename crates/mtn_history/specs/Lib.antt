@@ -12,6 +12,7 @@ pub mod Memory
 pub mod Meta
 pub mod Places
 pub mod Records
+pub mod Remembered
 pub mod Revisions
 pub mod Rosters
 pub mod Stands

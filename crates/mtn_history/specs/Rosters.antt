@@ -14,8 +14,10 @@ use Rattle.mtn_history.specs.declared.chains.Base.{Base}
 use Rattle.mtn_history.specs.declared.chains.Chain.{Chain}
 use Rattle.mtn_history.specs.declared.chains.End.{End}
 use Rattle.mtn_history.specs.declared.chains.End.TheVariants.{ToWhole, ToBase, ToMeeting}
+use Rattle.mtn_history.specs.declared.chains.Step.{Step}
+use Rattle.mtn_history.specs.declared.chains.Step.TheVariants as step
 use Rattle.mtn_history.specs.declared.chains.Unmade.{Unmade}
-use Rattle.mtn_history.specs.declared.rosters.Rebuilt.{Rebuilt}
+use Rattle.mtn_history.specs.Remembered.{RebuiltRoster}
 use Rattle.mtn_history.specs.Meta.{Counted}
 use Rattle.mtn_records.specs.declared.error.RecordError.TheVariants as record_error
 
@@ -79,7 +81,7 @@ pub record IsRebuilt (c : Contents) (r : ℕ) (es : Entries) (t : MarkedTree) (d
   pub deltas : length chain ≡ depth + 1
 
 -- the same of what a call gives
-abbrev pub Rebuilds : Contents → ℕ → Rebuilt → Type 0
+abbrev pub Rebuilds : Contents → ℕ → RebuiltRoster → Type 0
 Rebuilds c r found = IsRebuilt c r found.entries found.roster found.depth
 
 -- the same below `count`
@@ -134,6 +136,21 @@ MeetsNoEarlier c r top beside records =
 pub record IsWalk (c : Contents) (r top : ℕ) (beside records : List RosterRecord) (end : End) : Type 0 where
   pub ends : EndsAt c r top beside records end
   pub first : MeetsNoEarlier c r top beside records
+
+-- the records that a walk has read on its way to a position
+pub record IsOnWalk (c : Contents) (r top : ℕ) (beside records : List RosterRecord) (next : ℕ) : Type 0 where
+  pub path : IsPathDown c r records next
+  pub first : MeetsNoEarlier c r top beside records
+
+-- the same after one step more
+abbrev pub StepsTo : Contents → ℕ → ℕ → List RosterRecord → List RosterRecord → Step → Type 0
+StepsTo c r top beside records (step.End end) = IsWalk c r top beside records end
+StepsTo c r top beside records (step.To next) = IsOnWalk c r top beside records next
+
+-- a step reads at most one record more, and one where it goes on, no higher
+abbrev pub IsOneMore : ℕ → ℕ → ℕ → Step → Type 0
+IsOneMore at old new (step.End end) = new ≤ old + 1
+IsOneMore at old new (step.To next) = (new ≡ old + 1) × (next ≤ at)
 
 -- the same of what a walk gives; none where no chain from there gives entries
 abbrev pub IsWalkOf : Contents → ℕ → ℕ → List RosterRecord → Option Chain → Type 0

@@ -117,7 +117,7 @@ fn are_below(parents: ParentList, at: Pos) -> bool
 fn nodes_of(rosters: &[Recalled]) -> u64 {
     let mut nodes = 0u64;
     for recalled in rosters {
-        nodes = nodes.saturating_add(recalled.rebuilt.roster.roster().len());
+        nodes = nodes.saturating_add(recalled.rebuilt.roster().roster().len());
     }
     nodes
 }

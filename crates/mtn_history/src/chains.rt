@@ -1,11 +1,13 @@
 // The chains of records that rosters are rebuilt from, and where one comes to another.
 ghost use Rattle.std.specs.Prelude.{◌≡◌, ◌<◌, [], ℕ, reverse, length, Some, None, IfOk, IfSome, IsErrOf, slice_get};
 ghost use Rattle.mtn_model.specs.Table.{Contents};
-ghost use Rattle.mtn_history.specs.Rosters.{AreDeltasOn, AreEntriesAt, EndsAt, GivesNoTree, IsChainDown, IsChainOf, Rebuilds, base_of as base_in, places};
+ghost use Rattle.mtn_roster_deltas.specs.Spelled.{Spells};
+ghost use Rattle.mtn_history.specs.Rosters.{AreDeltasOn, AreEntriesAt, EndsAt, GivesNoTree, IsChainDown, IsChainOf, IsRebuilt, Rebuilds, base_of as base_in, places};
 
 use crate::Rebuilt;
 use mtn_ancestry::Pos;
 use mtn_base::NoMemory;
+use mtn_marking::MarkedRoster;
 use mtn_records::{Numbered, RecordError, RosterRecord};
 use mtn_roster_deltas::{entries_of, marked_tree, rebuild_on};
 use std::alloc::Global;
@@ -26,6 +28,15 @@ pub enum End {
     ToBase(Base),
     /// That position stands on another chain.
     ToMeeting(Pos),
+}
+
+/// A step down a chain.
+#[derive(Drop)]
+pub enum Step {
+    /// The records at hand end there.
+    End(End),
+    /// One record more, which stands on the one at that position.
+    To(Pos),
 }
 
 /// The records of a position and of those below it, the highest first.
@@ -79,14 +90,14 @@ pub fn meeting_at(beside: &[RosterRecord], top: Pos, at: Pos) -> Option<End>
     }
 }
 
-/// The entries of a roster that is remembered, copied.
+/// The entries of a roster that is remembered.
 pub fn base_on(alloc: Global, known: &Rebuilt) -> Result<Base, NoMemory>
     ensures entries { IfOk result (λ b. b.entries ≡ known.now.entries) }
     ensures depth { IfOk result (λ b. b.depth ≡ known.now.depth) }
 {
     Ok(Base {
-        entries: known.entries.copy(alloc)?,
-        depth: known.depth,
+        entries: known.entries(alloc)?,
+        depth: known.depth(),
     })
 }
 
@@ -110,11 +121,7 @@ fn roster_of(alloc: Global, base: Base) -> Result<Rebuilt, RecordError>
 {
     let Base { entries, depth } = base;
     let roster = marked_tree(alloc, &entries)?;
-    Ok(Rebuilt {
-        entries,
-        roster,
-        depth,
-    })
+    Ok(Rebuilt::new(alloc, &entries, roster, depth)?)
 }
 
 // The roster of a chain with a whole record, its lowest record first. Bad where it gives none.
@@ -126,19 +133,30 @@ fn rebuilt_whole(alloc: Global, records: Vec<RosterRecord>) -> Result<Rebuilt, R
     roster_of(alloc, base)
 }
 
-// The roster of deltas above known entries, the lowest first. Bad where they give none.
-fn rebuilt_on(alloc: Global, base: Base, deltas: Vec<RosterRecord>) -> Result<Rebuilt, RecordError>
-    ensures rebuilt { (c : Contents) (at : ℕ) → AreDeltasOn c at (reverse deltas.items) base → IfOk result (Rebuilds c at) }
+// The entries that deltas above known entries give, the lowest first, the tree that these spell, and its depth. Bad where they give
+// none.
+fn made_on(
+    alloc: Global,
+    base: Base,
+    deltas: Vec<RosterRecord>,
+) -> Result<(Numbered, MarkedRoster, u8), RecordError>
+    ensures spelled { IfOk result (λ r. Spells r.0 r.1) }
+    ensures rebuilt { (c : Contents) (at : ℕ) → AreDeltasOn c at (reverse deltas.items) base → IfOk result (λ r. IsRebuilt c at r.0 r.1 r.2) }
     ensures bad { IsErrOf result RecordError.Bad → (c : Contents) (at : ℕ) → AreDeltasOn c at (reverse deltas.items) base → GivesNoTree c at }
 {
     let count = deltas.len();
     let Base { entries, depth } = base;
     let (entries, roster) = rebuild_on(alloc, entries, depth, deltas)?;
-    Ok(Rebuilt {
-        entries,
-        roster,
-        depth: depth + count as u8,
-    })
+    Ok((entries, roster, depth + count as u8))
+}
+
+// The roster of deltas above known entries, the lowest first. Bad where they give none.
+fn rebuilt_on(alloc: Global, base: Base, deltas: Vec<RosterRecord>) -> Result<Rebuilt, RecordError>
+    ensures rebuilt { (c : Contents) (at : ℕ) → AreDeltasOn c at (reverse deltas.items) base → IfOk result (Rebuilds c at) }
+    ensures bad { IsErrOf result RecordError.Bad → (c : Contents) (at : ℕ) → AreDeltasOn c at (reverse deltas.items) base → GivesNoTree c at }
+{
+    let (entries, roster, depth) = made_on(alloc, base, deltas)?;
+    Ok(Rebuilt::new(alloc, &entries, roster, depth)?)
 }
 
 /// The roster that a chain gives. Bad where it gives none.
@@ -160,11 +178,7 @@ fn entries_on(alloc: Global, base: Base, deltas: Vec<RosterRecord>) -> Result<Ba
     ensures right { (c : Contents) (at : ℕ) → AreDeltasOn c at (reverse deltas.items) base → IfOk result (λ b. AreEntriesAt c at b.entries b.depth) }
     ensures bad { IsErrOf result RecordError.Bad → (c : Contents) (at : ℕ) → AreDeltasOn c at (reverse deltas.items) base → GivesNoTree c at }
 {
-    let Rebuilt {
-        entries,
-        roster: _,
-        depth,
-    } = rebuilt_on(alloc, base, deltas)?;
+    let (entries, _roster, depth) = made_on(alloc, base, deltas)?;
     Ok(Base { entries, depth })
 }
 

@@ -13,8 +13,7 @@ ghost use Rattle.mtn_history.specs.Marked.{AreHeld, FindsPlace, FindsPlaces, Fin
 ghost use Rattle.mtn_history.specs.Rosters.{AsksOnce, IsRosterThere};
 ghost use Rattle.mtn_history.specs.Stands.{IsFounded};
 
-use crate::rosters::Rebuilt;
-use crate::{Draft, HistoryError, StoreError};
+use crate::{Draft, HistoryError, Rebuilt, StoreError};
 use mtn_ancestry::Pos;
 use mtn_base::{Cause, Id};
 use mtn_marking::MarkedRoster;
@@ -56,7 +55,7 @@ impl SharedRoster {
     pub fn marked(&self) -> &MarkedRoster
         ensures { result.now ≡ self.now }
     {
-        &self.rebuilt.as_ref().roster
+        self.rebuilt.as_ref().roster()
     }
 }
 

@@ -9,27 +9,17 @@ ghost use Rattle.mtn_records.specs.Bounds.{IsWithin};
 ghost use Rattle.mtn_records.specs.declared.record.RosterRecord.{RosterRecord as Record};
 ghost use Rattle.mtn_history.specs.Asking.{OnlyAsks};
 ghost use Rattle.mtn_history.specs.Errors.{IfDamage};
-ghost use Rattle.mtn_history.specs.Rosters.{AsksAlong, EndsAt, IsRostered, IsRosterHeld, IsWalk, IsWalkOf, UnrosteredAt, UnmadeBelow, Rebuilds, base_of as base_in, places};
+ghost use Rattle.mtn_history.specs.Rosters.{AsksAlong, EndsAt, IsRostered, IsRosterHeld, IsOnWalk, IsOneMore, IsWalk, IsWalkOf, StepsTo, UnrosteredAt, UnmadeBelow, Rebuilds, base_of as base_in, places};
 ghost use Rattle.mtn_history.specs.Stands.{IsFounded};
 
-use crate::chains::{Chain, End, base_of, base_on, meeting_at, rebuilt_by};
+use crate::chains::{Chain, End, Step, base_of, base_on, meeting_at, rebuilt_by};
 use crate::damaged::{bad, missing};
-use crate::{Draft, ROSTERS, StoreError};
+use crate::{Draft, ROSTERS, Rebuilt, StoreError};
 use mtn_ancestry::Pos;
 use mtn_base::{MAX_CHAIN, NoMemory};
-use mtn_marking::MarkedRoster;
 use mtn_ports::Keeper;
-use mtn_records::{Numbered, RecordError, RosterRecord, read_roster};
+use mtn_records::{RecordError, RosterRecord, read_roster};
 use std::rc::Rc;
-
-/// A roster as its records give it: its entries under their numbers, the roster with its marks, and how many deltas its
-/// record stands above a whole one.
-#[derive(Drop)]
-pub struct Rebuilt {
-    pub entries: Numbered,
-    pub roster: MarkedRoster,
-    pub depth: u8,
-}
 
 impl<'a, K: Keeper> Draft<'a, K> {
     // The roster's record at a position.
@@ -100,6 +90,33 @@ impl<'a, K: Keeper> Draft<'a, K> {
         }
     }
 
+    // One step down from a position: what the records above it end at, or the position that its own record, put behind them,
+    // stands on.
+    fn step_down(
+        &mut self,
+        next: Pos,
+        top: Pos,
+        beside: &[RosterRecord],
+        records: &mut Vec<RosterRecord>,
+    ) -> Result<Step, StoreError>
+        ensures asks { OnlyAsks K.contents K.leaves K.faults K.reads 1 self.old self.new }
+
+        ensures walks { (at : ℕ) → IfSome (K.contents self.old.keeper.now) (λ c. IsOnWalk (with_all c self.old.pending.batch) at top beside.now records.old.items next) →
+            IfSome (K.contents self.new.keeper.now) (λ c. IfOk result (StepsTo (with_all c self.old.pending.batch) at top beside.now records.new.items)) }
+        ensures few { IfOk result (λ step. K.reads self.new.keeper.now + length records.old.items ≤ K.reads self.old.keeper.now + length records.new.items) }
+        ensures long { IfOk result (λ step. IsOneMore next (length records.old.items) (length records.new.items) step) }
+        ensures damaged { IfSome (K.contents self.new.keeper.now) (λ c. IfErr result (λ e. IfDamage e (UnrosteredAt (with_all c self.old.pending.batch) next))) }
+        ensures failed { result ≡ Err StoreError.Failed → Rose (K.faults self.old.keeper.now) (K.faults self.new.keeper.now) }
+    {
+        if let Some(end) = self.end_at(next, top, beside)? {
+            return Ok(Step::End(end));
+        }
+        match self.push_rostered(next, records)? {
+            Some(base) => Ok(Step::To(base)),
+            None => Ok(Step::End(End::ToWhole)),
+        }
+    }
+
     // The records from a position down to the first whose roster is remembered or that stands on the chain beside them, from
     // `top` down, or else to a whole one. None where there are more than a chain may have.
     fn chain(
@@ -119,18 +136,9 @@ impl<'a, K: Keeper> Draft<'a, K> {
         let mut records = Vec::new(self.alloc());
         let mut next = at;
         for depth in 0..MAX_CHAIN {
-            if let Some(end) = self.end_at(next, top, beside)? {
-                return Ok(Some(Chain { records, end }));
-            }
-            let base = self.push_rostered(next, &mut records)?;
-            match base {
-                Some(base) => next = base,
-                None => {
-                    return Ok(Some(Chain {
-                        records,
-                        end: End::ToWhole,
-                    }));
-                }
+            match self.step_down(next, top, beside, &mut records)? {
+                Step::End(end) => return Ok(Some(Chain { records, end })),
+                Step::To(base) => next = base,
             }
         }
         Ok(None)

@@ -80,6 +80,7 @@ fn record_of(
     known: &KeptParents<'_>,
     at: Pos,
 ) -> Result<Option<NewRecord>, NoMemory>
+    requires { Spells entries roster }
     ensures record { IfOk result (λ o. IfSome o (λ r. IsNewRecord known.now.places.now (shown known.now.entries.now) known.now.depth entries roster at r)) }
     ensures none { result ≡ Ok None → All (λ p. p < at) known.now.places.now → AllAscend (shown known.now.entries.now) → NoneHas at entries }
 {
@@ -91,14 +92,10 @@ fn record_of(
                 entries,
                 depth,
             },
-        ) => Ok(Some(NewRecord {
-            body,
-            rebuilt: Rebuilt {
-                entries,
-                roster,
-                depth,
-            },
-        })),
+        ) => {
+            let rebuilt = Rebuilt::new(alloc, &entries, roster, depth)?;
+            Ok(Some(NewRecord { body, rebuilt }))
+        }
     }
 }
 

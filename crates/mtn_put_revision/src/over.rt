@@ -240,18 +240,19 @@ fn over_one<I: Ident, K: Keeper>(
 {
     let held = draft.roster_at(at)?;
     let parent = held.as_ref();
-    let entries = [&parent.entries];
+    let entries = parent.entries(alloc)?;
+    let all = [&entries];
     let known = KeptParents {
         places,
-        entries: entries.as_slice(),
-        depth: parent.depth,
+        entries: all.as_slice(),
+        depth: parent.depth(),
     };
     over(
         alloc,
         ident,
         draft,
         fresh,
-        &Basis::One(&parent.roster),
+        &Basis::One(parent.roster()),
         &known,
         planned,
     )
@@ -293,17 +294,17 @@ fn over_two<I: Ident, K: Keeper>(
     let pair = two_parents(alloc, draft, left, right)?;
     let first = pair.left.as_ref();
     let second = pair.right.as_ref();
-    let entries = [&first.entries, &second.entries];
+    let all = [&pair.left_entries, &pair.right_entries];
     let basis = Basis::Two {
-        left: &first.roster,
-        right: &second.roster,
+        left: first.roster(),
+        right: second.roster(),
         only_left: &pair.only_left,
         only_right: &pair.only_right,
     };
     let known = KeptParents {
         places,
-        entries: entries.as_slice(),
-        depth: first.depth,
+        entries: all.as_slice(),
+        depth: first.depth(),
     };
     over(alloc, ident, draft, fresh, &basis, &known, planned)
 }

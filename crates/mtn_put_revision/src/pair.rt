@@ -16,19 +16,22 @@ use mtn_ancestry::Pos;
 use mtn_history::{Draft, Rebuilt, StoreError};
 use mtn_make_roster::Uncommon;
 use mtn_ports::Keeper;
+use mtn_records::Numbered;
 use std::alloc::Global;
 use std::rc::Rc;
 
-/// Two rosters, and what each has above it that the other lacks.
+/// Two rosters, their entries, and what each has above it that the other lacks.
 #[derive(Drop)]
 pub struct TwoParents {
     pub left: Rc<Rebuilt>,
     pub right: Rc<Rebuilt>,
+    pub left_entries: Numbered,
+    pub right_entries: Numbered,
     pub only_left: Uncommon,
     pub only_right: Uncommon,
 }
 
-/// The rosters of two revisions, and what each has above it that the other lacks.
+/// The rosters of two revisions, their entries, and what each has above it that the other lacks.
 pub fn two_parents<K: Keeper>(
     alloc: Global,
     draft: &mut Draft<'_, K>,
@@ -41,6 +44,8 @@ pub fn two_parents<K: Keeper>(
     ensures pending { draft.new.pending ≡ draft.old.pending }
     ensures left { IfOk result (λ p. IfSome (K.contents draft.new.keeper.now) (λ c. Rebuilds (with_all c draft.old.pending.batch) left p.left.value)) }
     ensures right { IfOk result (λ p. IfSome (K.contents draft.new.keeper.now) (λ c. Rebuilds (with_all c draft.old.pending.batch) right p.right.value)) }
+    ensures left_entries { IfOk result (λ p. p.left_entries ≡ p.left.value.entries) }
+    ensures right_entries { IfOk result (λ p. p.right_entries ≡ p.right.value.entries) }
     ensures lefts { (f : List ℕ → List ℕ) (s : State) → (d : IsFounded f (K.contents draft.new.keeper.now) draft.old.pending s) →
         IfOk result (λ p. AreUncommonIn d.stands.history left right p.only_left) }
     ensures rights { (f : List ℕ → List ℕ) (s : State) → (d : IsFounded f (K.contents draft.new.keeper.now) draft.old.pending s) →
@@ -55,9 +60,13 @@ pub fn two_parents<K: Keeper>(
 {
     let (held_left, held_right) = draft.rosters_at(left, right)?;
     let (only_left, only_right) = uncommon_of(alloc, draft, left, right)?;
+    let left_entries = held_left.as_ref().entries(alloc)?;
+    let right_entries = held_right.as_ref().entries(alloc)?;
     Ok(TwoParents {
         left: held_left,
         right: held_right,
+        left_entries,
+        right_entries,
         only_left,
         only_right,
     })

@@ -39,7 +39,7 @@ use Rattle.mtn_roster_deltas.proofs.Places.{among_was, contains_got, is_name, so
 
 -- sorted numbers that differ ascend
 module _ {X : Type 0} (key : X → ℕ) where
-  steps_up : (ks : List X) → IsSortedBy (λ x y. is_lt (nat_cmp (key x) (key y))) ks → ((i j : ℕ) (d : X) → i < j → j < length ks → key (get_or ks i d) ≡ key (get_or ks j d) → ⊥) → rises nat_cmp (map key ks) ≡ true
+  pub steps_up : (ks : List X) → IsSortedBy (λ x y. is_lt (nat_cmp (key x) (key y))) ks → ((i j : ℕ) (d : X) → i < j → j < length ks → key (get_or ks i d) ≡ key (get_or ks j d) → ⊥) → rises nat_cmp (map key ks) ≡ true
   steps_up ks sorted apart = rising_by nat_cmp key nat_cmp_total ks (λ k d lt.
       let x = key (get_or ks k d) in
       let y = key (get_or ks (k + 1) d) in

@@ -91,7 +91,7 @@ module _ (known : List Entries) (next : ℕ) (t : MarkedTree) (new : Entries) (a
 
 -- what stands beside an element
 module _ {A B : Type 0} (R : A → B → Type 0) where
-  beside : (xs : List A) (ys : List B) → AllZip R xs ys → (x : A) → Contains xs x → (y : B) × Contains ys y × R x y
+  pub beside : (xs : List A) (ys : List B) → AllZip R xs ys → (x : A) → Contains xs x → (y : B) × Contains ys y × R x y
   beside [] ys z x c = absurd (omega (arith, c.1))
   beside (a ∷ xs) [] z x c = absurd z
   beside (a ∷ xs) (b ∷ ys) z x c = elim (contains_cons a xs x c) [

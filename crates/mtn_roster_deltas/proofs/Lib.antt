@@ -11,3 +11,4 @@ pub mod Assigning
 pub mod Attributes
 pub mod Known
 pub mod Written
+pub mod Numbers

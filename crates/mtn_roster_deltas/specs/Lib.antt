@@ -5,3 +5,4 @@ pub mod Numbering
 pub mod Parts
 pub mod Noting
 pub mod Laws
+pub mod Beside

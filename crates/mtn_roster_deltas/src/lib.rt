@@ -9,12 +9,14 @@
 //! is `Bad` exactly where there is none, as is [`marked_tree`] of entries that are lent; [`marks_on`] tells whether entries spell a
 //! tree that is there, and gives their marks; a chain with [`delta`]'s record behind it gives the new entries; what [`number`] gives spells the marked tree that it was given, whatever lists it was given: where two
 //! nodes would get one number it is a `Clash`. Where the known numbers are from 1 and below the next, one for each node, there is
-//! no clash, known nodes keep their numbers, and new ones get the next.
+//! no clash, known nodes keep their numbers, and new ones get the next. A [`NumberedRoster`] has the numbers beside the tree, and
+//! makes the entries where they are asked for.
 //!
 //! Cost: rebuilding is one merge for each delta and one build of the tree; a delta is one walk over two lists; numbering is a
 //! look-up by name for each known entry, one walk, one sort of numbers and one look along them.
 #![tactic(auto)]
 
+mod beside;
 mod chain;
 mod difference;
 mod error;
@@ -30,6 +32,7 @@ mod sorted;
 mod spell;
 mod spelled;
 
+pub use beside::NumberedRoster;
 pub use chain::DEEPEST;
 pub use difference::delta;
 pub use error::NumberError;

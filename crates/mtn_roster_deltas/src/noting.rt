@@ -58,7 +58,11 @@ fn note(numbers: &mut [u64], marks: &MarkMap, entries: &[NumberedEntry])
 }
 
 /// The numbers that nodes have already.
-fn known_numbers(alloc: Global, marks: &MarkMap, known: &[&Numbered]) -> Result<Vec<u64>, NoMemory>
+pub fn known_numbers(
+    alloc: Global,
+    marks: &MarkMap,
+    known: &[&Numbered],
+) -> Result<Vec<u64>, NoMemory>
     ensures long { IfOk result (λ v. length v.items ≡ length marks.now) }
     ensures noted { AreOne (all_of (shown known.now)) → IfOk result (λ v. AreNoted (all_of (shown known.now)) (map (λ (m : NodeMarks). m.name) marks.now) v.items) }
 {

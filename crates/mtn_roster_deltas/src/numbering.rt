@@ -128,7 +128,7 @@ fn numbered_entry(
 }
 
 /// The entries of all nodes, by ascending nodes.
-fn numbered_entries(
+pub fn numbered_entries(
     alloc: Global,
     roster: &MarkedRoster,
     numbers: &[u64],

@@ -5,7 +5,7 @@ use Rattle.mtn_ports.specs.Kept.{with_all}
 use Rattle.mtn_history.proofs.Founding.{back}
 use Rattle.mtn_history.specs.Rosters.{Rebuilds}
 use Rattle.mtn_history.specs.declared.pending.Pending.{Pending}
-use Rattle.mtn_history.specs.declared.rosters.Rebuilt.{Rebuilt}
+use Rattle.mtn_history.specs.Remembered.{RebuiltRoster}
 use Rattle.mtn_check_hands.proofs.Answering.{hand_is}
 use Rattle.mtn_check_hands.proofs.asked.hand_of.Goals as goal
 
@@ -26,7 +26,7 @@ returns-clause-found g c = λ f s d.
     let told = g.K.Keeper.contents c.roster_at.new.self.keeper.now in
     let p = c.args.draft.now.pending in
     let held = c.as_ref-held.result.now in
-    let read = subst (λ (x : Rebuilt). IfSome told (λ y. Rebuilds (with_all y c.log_at.new.self.pending.batch) c.args.at x)) (sym c.as_ref-held.ensures) c.in_ok-rebuilt.ensures.rebuilt in
+    let read = subst (λ (x : RebuiltRoster). IfSome told (λ y. Rebuilds (with_all y c.log_at.new.self.pending.batch) c.args.at x)) (sym c.as_ref-held.ensures) c.in_ok-rebuilt.ensures.rebuilt in
     hand_is f told p s d c.args.at c.in_ok-log.log held c.in_ok-entries.entries (c.in_ok-entries.ensures ∙ c.in_ok-copied.ensures) c.requires.below
     (c.in_ok-log.ensures.found f s (back f (g.K.Keeper.contents c.log_at.new.self.keeper.now) told p s c.roster_at.ensures.asks.stays.same d) c.requires.below)
     (subst (λ (x : Pending). IfSome told (λ y. Rebuilds (with_all y x.batch) c.args.at held)) c.log_at.ensures.asks.pending read)

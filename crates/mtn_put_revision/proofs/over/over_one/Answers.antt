@@ -1,9 +1,9 @@
 -- One parent.
-use Rattle.std.proofs.Common.{List, [], ◌∷◌, sym, ap, subst, arith}
+use Rattle.std.proofs.Common.{List, [], ◌∷◌, ◌∙◌, sym, ap, subst, arith}
 use Rattle.std.specs.Prelude.{IfErr, IfSome, OnOk}
 use Rattle.mtn_ports.specs.Kept.{with_all}
 use Rattle.mtn_history.specs.Rosters.{IsRebuilt, Rebuilds}
-use Rattle.mtn_history.specs.declared.rosters.Rebuilt.{Rebuilt}
+use Rattle.mtn_history.specs.Remembered.{RebuiltRoster}
 use Rattle.mtn_history.proofs.Knowing.{mapped}
 use Rattle.mtn_roster_deltas.specs.Chain.{Entries}
 use Rattle.mtn_roster_deltas.specs.Numbering.{shown}
@@ -24,23 +24,28 @@ pub over-requires-clause-first : goal.over-requires-clause-first
 over-requires-clause-first g c κs within =
     let told = g.K.Keeper.contents c.roster_at.new.self.keeper.now in
     let p = c.args.draft.now.pending in
-    let depth = c.as_ref-parent.result.now.depth in
-    subst (λ ps. IfSome told (λ y. IsFirstRebuilt (with_all y c.roster_at.new.self.pending.batch) ps (shown c.as_slice.result.now) depth)) (sym c.requires.one)
-    (subst (λ es. IfSome told (λ y. IsFirstRebuilt (with_all y c.roster_at.new.self.pending.batch) (c.args.at ∷ []) es depth)) (sym (ap shown c.as_slice.ensures))
-    (moved (λ (x : Pending). IfSome told (λ y. IsFirstRebuilt (with_all y x.batch) (c.args.at ∷ []) (c.as_ref-parent.result.now.entries ∷ []) depth)) p c.roster_at.new.self.pending (sym c.roster_at.ensures.asks.pending)
-    (mapped told (λ y. IsRebuilt (with_all y p.batch) c.args.at c.as_ref-parent.result.now.entries c.as_ref-parent.result.now.roster depth) _ (λ y h. (c.as_ref-parent.result.now.roster, h)) (subst (λ (x : Rebuilt). IfSome (g.K.Keeper.contents c.roster_at.new.self.keeper.now) (λ y. Rebuilds (with_all y c.args.draft.now.pending.batch) c.args.at x)) (sym c.as_ref-parent.ensures) c.in_ok-held.ensures.rebuilt))))
+    let q = c.roster_at.new.self.pending in
+    let depth = c.depth.result in
+    let made = subst (λ (x : RebuiltRoster). IfSome told (λ y. IsRebuilt (with_all y p.batch) c.args.at x.entries x.roster x.depth)) (sym c.as_ref-parent.ensures
+    ∙ (λ i. record { entries = sym c.in_ok-entries.ensures i; roster = sym c.roster.ensures i; depth = sym c.depth.ensures i })) c.in_ok-held.ensures.rebuilt in
+    subst (λ ps. IfSome told (λ y. IsFirstRebuilt (with_all y q.batch) ps (shown c.as_slice.result.now) depth)) (sym c.requires.one)
+    (subst (λ es. IfSome told (λ y. IsFirstRebuilt (with_all y q.batch) (c.args.at ∷ []) es depth)) (sym (ap shown c.as_slice.ensures))
+    (moved (λ (x : Pending). IfSome told (λ y. IsFirstRebuilt (with_all y x.batch) (c.args.at ∷ []) (c.in_ok-entries.entries ∷ []) depth)) p q (sym c.roster_at.ensures.asks.pending)
+    (mapped told (λ y. IsRebuilt (with_all y p.batch) c.args.at c.in_ok-entries.entries c.roster.result.now depth) _ (λ y h. (c.roster.result.now, h)) made)))
 
 pub over-requires-clause-based : goal.over-requires-clause-based
 over-requires-clause-based g c κs within =
     let told = g.K.Keeper.contents c.roster_at.new.self.keeper.now in
     let p = c.args.draft.now.pending in
-    moved_based told p c.roster_at.new.self.pending (sym c.roster_at.ensures.asks.pending) c.args.fresh.now.read.now.edges _ c.args.fresh.now.id c.args.places.now (shown c.as_slice.result.now) c.as_ref-parent.result.now.depth
+    let made = subst (λ (x : RebuiltRoster). IfSome told (λ y. IsRebuilt (with_all y p.batch) c.args.at x.entries x.roster x.depth)) (sym c.as_ref-parent.ensures
+    ∙ (λ i. record { entries = sym c.in_ok-entries.ensures i; roster = sym c.roster.ensures i; depth = sym c.depth.ensures i })) c.in_ok-held.ensures.rebuilt in
+    moved_based told p c.roster_at.new.self.pending (sym c.roster_at.ensures.asks.pending) c.args.fresh.now.read.now.edges _ c.args.fresh.now.id c.args.places.now (shown c.as_slice.result.now) c.depth.result
     (λ f s d.
     let on = c.requires.parents f s (back f (g.K.Keeper.contents c.args.draft.now.keeper.now) told p s c.roster_at.ensures.asks.stays.same d) in
-    let has = rebuilt_at f told p s d c.args.at c.as_ref-parent.result.now.entries c.as_ref-parent.result.now.roster c.as_ref-parent.result.now.depth c.requires.below (subst (λ (x : Rebuilt). IfSome (g.K.Keeper.contents c.roster_at.new.self.keeper.now) (λ y. Rebuilds (with_all y c.args.draft.now.pending.batch) c.args.at x)) (sym c.as_ref-parent.ensures) c.in_ok-held.ensures.rebuilt) in
-    let b = one_basis d.stands.history d.stands.kept c.args.fresh.now c.args.places.now c.args.at c.as_ref-parent.result.now.entries c.as_ref-parent.result.now.roster c.as_ref-parent.result.now.depth c.requires.edges on c.requires.one has in (
+    let has = rebuilt_at f told p s d c.args.at c.in_ok-entries.entries c.roster.result.now c.depth.result c.requires.below made in
+    let b = one_basis d.stands.history d.stands.kept c.args.fresh.now c.args.places.now c.args.at c.in_ok-entries.entries c.roster.result.now c.depth.result c.requires.edges on c.requires.one has in (
       under d.stands.history c.args.fresh.now.read.now.edges _ c.args.fresh.now.id (b.0 ∷ []) (grown f told p s d) on.new b.1 (c.args.at, b.2),
-      subst (λ (es : List Entries). AreParents d.stands.history d.stands.kept c.args.fresh.now.read.now.edges c.args.places.now es c.as_ref-parent.result.now.depth) (sym (ap shown c.as_slice.ensures)) b.3,
+      subst (λ (es : List Entries). AreParents d.stands.history d.stands.kept c.args.fresh.now.read.now.edges c.args.places.now es c.depth.result) (sym (ap shown c.as_slice.ensures)) b.3,
     ))
 
 pub over-requires-clause-planned : goal.over-requires-clause-planned

@@ -66,3 +66,23 @@ returns-clause-few g c = λ f s d low reaches.
     c.rosters_at.new.self.pending c.args.draft.now.pending c.rosters_at.ensures.asks.pending c.uncommon_of.ensures.reads f s d low reaches in
     let few = c.in_ok-held_left.ensures.few in
     omega (arith, few, walk)
+
+pub returns-in_err-left_entries-clause-stays : goal.returns-in_err-left_entries-clause-stays
+returns-in_err-left_entries-clause-stays g c = stays_trans g.K.Keeper.contents g.K.Keeper.leaves g.K.Keeper.faults _ _ _ c.rosters_at.ensures.asks.stays c.uncommon_of.ensures.stays
+
+pub returns-in_err-left_entries-clause-reads : goal.returns-in_err-left_entries-clause-reads
+returns-in_err-left_entries-clause-reads g c = λ f s d low reaches.
+    let walk = moved (λ (q : Pending). (f : List ℕ → List ℕ) (s : State) → (d : IsFounded f (g.K.Keeper.contents c.uncommon_of.new.draft.keeper.now) q s) → (low : ℕ) → ReachesFrom (parents_at d.stands.history) c.args.left c.args.right low → g.K.Keeper.reads c.uncommon_of.new.draft.keeper.now ≤ g.K.Keeper.reads c.rosters_at.new.self.keeper.now + (max c.args.left c.args.right + 1 - low))
+    c.rosters_at.new.self.pending c.args.draft.now.pending c.rosters_at.ensures.asks.pending c.uncommon_of.ensures.reads f s d low reaches in
+    let few = c.in_ok-held_left.ensures.few in
+    omega (arith, few, walk)
+
+pub returns-in_err-right_entries-clause-stays : goal.returns-in_err-right_entries-clause-stays
+returns-in_err-right_entries-clause-stays g c = stays_trans g.K.Keeper.contents g.K.Keeper.leaves g.K.Keeper.faults _ _ _ c.rosters_at.ensures.asks.stays c.uncommon_of.ensures.stays
+
+pub returns-in_err-right_entries-clause-reads : goal.returns-in_err-right_entries-clause-reads
+returns-in_err-right_entries-clause-reads g c = λ f s d low reaches.
+    let walk = moved (λ (q : Pending). (f : List ℕ → List ℕ) (s : State) → (d : IsFounded f (g.K.Keeper.contents c.uncommon_of.new.draft.keeper.now) q s) → (low : ℕ) → ReachesFrom (parents_at d.stands.history) c.args.left c.args.right low → g.K.Keeper.reads c.uncommon_of.new.draft.keeper.now ≤ g.K.Keeper.reads c.rosters_at.new.self.keeper.now + (max c.args.left c.args.right + 1 - low))
+    c.rosters_at.new.self.pending c.args.draft.now.pending c.rosters_at.ensures.asks.pending c.uncommon_of.ensures.reads f s d low reaches in
+    let few = c.in_ok-held_left.ensures.few in
+    omega (arith, few, walk)
