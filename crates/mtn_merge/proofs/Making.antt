@@ -23,7 +23,7 @@ use Rattle.mtn_plans.specs.declared.outcome.MergeOutcome.TheVariants.{Merged}
 use Rattle.mtn_put_revision.specs.Finding.{IsRefusal}
 use Rattle.mtn_replay.specs.Making.{parent_tree, too_long, too_many}
 use Rattle.mtn_roster.specs.Tree.{Tree}
-use Rattle.mtn_merge.specs.Plans.{Gives, HasKept, IsMadeOf, IsTreeIn, revision_of_sides, text_of_sides}
+use Rattle.mtn_merge.specs.Plans.{Gives, HasKept, IsLimitOf, IsMadeIn, IsMadeOf, IsTreeIn, revision_of_sides, text_of_sides}
 use Rattle.mtn_merge.specs.Sides.{IsSideOf}
 use Rattle.mtn_merge.specs.declared.answer.Planned.TheVariants as planned
 use Rattle.mtn_merge.specs.declared.sides.Side.{Side}
@@ -100,9 +100,15 @@ module _ (f : List ℕ → List ℕ) (h : List Revision) (left right : Side) (m 
       made = under;
     }
 
-  pub refused_made : (e : HistoryError) → IsRefusal (or_else (too_many t) (too_long t)) e → Gives (IsMadeOf f h left.id right.id m) (Err e)
-  refused_made (Refused cause) is = too_much cause is
-  refused_made (Store e) is = tt
+-- the limits of the tree that was made
+pub limit_told : (left right : Tree) (m : Merge) (t : Tree) → IsMadeIn left right m t → (e : HistoryError) → IsRefusal (or_else (too_many t) (too_long t)) e → IsLimitOf left right m e
+limit_told left right m t made (Refused cause) is = (t, made, is)
+limit_told left right m t made (Store e) is = tt
+
+pub limit_made : (f : List ℕ → List ℕ) (h : List Revision) (left right : Side) (m : Merge) → IsSideOf h left → IsSideOf h right → (e : HistoryError) → IsLimitOf left.roster.tree right.roster.tree m e →
+    Gives (IsMadeOf f h left.id right.id m) (Err e)
+limit_made f h left right m sl sr (Refused cause) is = too_much f h left right m sl sr is.1.0 is.1.1 is.1.2 is.0 is.1.3 cause is.2
+limit_made f h left right m sl sr (Store e) is = tt
 
 -- the test of a length
 pub long_test : (n k : ℕ) → k < n → nat_lt k n ≡ true

@@ -19,7 +19,9 @@ use Rattle.mtn_plans.specs.Plans.{Plan, IsResult, IsUnborn, limit_refusal, merge
 use Rattle.mtn_plans.specs.declared.outcome.MergeOutcome.{MergeOutcome}
 use Rattle.mtn_plans.specs.declared.outcome.MergeOutcome.TheVariants.{Merged, Conflicted}
 use Rattle.mtn_put_revision.specs.Keeping.{IsPlanned}
-use Rattle.mtn_replay.specs.Making.{place_of}
+use Rattle.mtn_changeset_laws.specs.Changes.{or_else}
+use Rattle.mtn_changeset_laws.specs.Laws.{NoneBornIn as IsNoBirth}
+use Rattle.mtn_replay.specs.Making.{place_of, too_long, too_many}
 use Rattle.mtn_roster.specs.Tree.{Tree}
 use Rattle.mtn_merge.specs.declared.answer.Planned.{Planned}
 use Rattle.mtn_merge.specs.declared.answer.Planned.TheVariants as planned
@@ -62,6 +64,15 @@ text_of_sides f l left r right t = spelling (revision_stanzas (revision_of_sides
 -- a tree that decisions without conflicts make, and its text or why it is refused
 abbrev pub IsMadeOf : (List ℕ → List ℕ) → List Revision → Id → Id → Merge → Plan → Type 0
 IsMadeOf f h l r m plan = (t : Tree) × IsResult h l r m t × (plan ≡ merged_or (limit_refusal f h l r t) (merge_text f h l r t))
+
+-- the tree that decisions make in a revision of an id that is no birth in two trees
+abbrev pub IsMadeIn : Tree → Tree → Merge → Tree → Type 0
+IsMadeIn left right m t = (first : Id) × IsNoBirth left first × IsNoBirth right first × (t ≡ result_of m first)
+
+-- the first limit that it is not within, unless memory is wanting
+abbrev pub IsLimitOf : Tree → Tree → Merge → HistoryError → Type 0
+IsLimitOf left right m (Refused cause) = (t : Tree) × IsMadeIn left right m t × (or_else (too_many t) (too_long t) ≡ Some cause)
+IsLimitOf left right m (Store e) = ⊤
 
 -- the tree that decisions make in a revision of an id; none where the id is the birth of a node that is decided
 abbrev pub IsTreeIn : Merge → Id → Option Tree → Type 0

@@ -7,7 +7,7 @@ ghost use Rattle.mtn_history.specs.Errors.{IfStoreDamage};
 ghost use Rattle.mtn_history_laws.specs.History.{Revision};
 ghost use Rattle.mtn_put_revision.specs.Finding.{IsRefusal};
 ghost use Rattle.mtn_replay.specs.Making.{too_long, too_many};
-ghost use Rattle.mtn_merge.specs.Plans.{Gives, HasIds, HasKept, IsMadeOf, IsTreeIn, outcomes};
+ghost use Rattle.mtn_merge.specs.Plans.{Gives, HasIds, HasKept, IsLimitOf, IsMadeIn, IsMadeOf, IsTreeIn, outcomes};
 ghost use Rattle.mtn_merge.specs.Sides.{IsSideOf};
 
 use crate::answer::Planned;
@@ -90,6 +90,36 @@ fn tree_in(
     Ok(Some(under_new_names(alloc, decisions, &old, id)?))
 }
 
+// The tree under old names, and the one in a revision of an id that is no birth, where that has other names.
+#[derive(Drop)]
+struct Trees {
+    old: Roster,
+    anew: Option<Roster>,
+}
+
+// The trees that decisions make, or the first limit that they are not within.
+fn trees_of(
+    alloc: Global,
+    left: &Roster,
+    right: &Roster,
+    decisions: &Decisions,
+) -> Result<Trees, HistoryError>
+    requires clear { AreClear decisions.now }
+    requires dirs { ParentsAreDirs decisions.now.nodes }
+    ensures old { IfOk result (λ r. r.old ≡ tree_before decisions.now.nodes) }
+    ensures made { IfOk result (λ r. IsMadeIn left.now right.now decisions.now (unwrap_or r.anew r.old)) }
+    ensures fine { IfOk result (λ r. or_else (too_many (unwrap_or r.anew r.old)) (too_long (unwrap_or r.anew r.old)) ≡ None) }
+    ensures refused { IfErr result (IsLimitOf left.now right.now decisions.now) }
+    ensures sound { IfErr result (λ e. IfStoreDamage e (λ _. ⊥)) }
+    ensures failed { result ≢ Err (HistoryError.Store StoreError.Failed) }
+{
+    let first = unborn(alloc, left, right, decisions.nodes())?;
+    let old = under_old_names(alloc, decisions)?;
+    let anew = named_anew(alloc, decisions, &old, first)?;
+    limited(alloc, either(&anew, &old))?;
+    Ok(Trees { old, anew })
+}
+
 /// The text of the tree that decisions make, with its id and that tree, or the first limit that it is not within.
 pub fn merged<I: Ident>(
     alloc: Global,
@@ -108,11 +138,8 @@ pub fn merged<I: Ident>(
 {
     let old_left = left.roster.marked().roster();
     let old_right = right.roster.marked().roster();
-    let first = unborn(alloc, old_left, old_right, decisions.nodes())?;
-    let old = under_old_names(alloc, decisions)?;
-    let anew = named_anew(alloc, decisions, &old, first)?;
+    let Trees { old, anew } = trees_of(alloc, old_left, old_right, decisions)?;
     let made = either(&anew, &old);
-    limited(alloc, made)?;
     let left = Parent {
         id: left.id,
         tree: old_left,

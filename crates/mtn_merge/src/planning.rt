@@ -1,7 +1,7 @@
 // The calls `plan` and `look`.
 ghost use Rattle.std.specs.Prelude.{◌≡◌, ◌<◌, List, ℕ, None, Ok, Err, IfOk, IfErr, IfSome, OnOk, [], option_copied};
 ghost use Rattle.mtn_conflicts.specs.ConflictText.{IsLesser};
-ghost use Rattle.mtn_conflicts.specs.Lists.{AreConflictsOf};
+ghost use Rattle.mtn_conflicts.specs.Lists.{AreClear, AreConflictsOf};
 ghost use Rattle.mtn_conflicts.specs.Result.{ParentsAreDirs};
 ghost use Rattle.mtn_history.specs.Damage.{IsDamage};
 ghost use Rattle.mtn_history.specs.Errors.{IfStoreDamage};
@@ -16,14 +16,14 @@ ghost use Rattle.mtn_ports.specs.Kept.{Stays, with_all};
 ghost use Rattle.mtn_put_revision.specs.Finding.{IsRefusal};
 ghost use Rattle.mtn_resolve.specs.Texts.{AreResolutions};
 ghost use Rattle.mtn_merge.specs.Given.{GivesResolutions, Overrides, OverridesAll};
-ghost use Rattle.mtn_merge.specs.Plans.{AreShown, Gives, HasClear, HasIds, HasTree, MergesText, outcomes};
+ghost use Rattle.mtn_merge.specs.Plans.{AreShown, Gives, HasClear, HasIds, HasKept, HasTree, IsMadeOf, MergesText, outcomes};
 ghost use Rattle.mtn_merge.specs.Sides.{IsSideOf};
 
 use crate::answer::Planned;
 use crate::dirs::parents_are_dirs;
 use crate::given::{read_resolutions, resolve};
 use crate::made::merged;
-use crate::sides::{Compared, sides_of};
+use crate::sides::{Compared, Side, sides_of};
 use mtn_base::Id;
 use mtn_conflicts::{Conflicts, conflicts};
 use mtn_decide::Decisions;
@@ -82,6 +82,33 @@ pub fn look<K: Keeper>(
     })
 }
 
+// The text of the tree of decisions without conflicts.
+fn text_of<I: Ident, K: Keeper>(
+    alloc: Global,
+    ident: &I,
+    draft: &mut Draft<'_, K>,
+    left: &Side,
+    right: &Side,
+    decisions: &Decisions,
+) -> Result<Planned, HistoryError>
+    requires below { left.now.at < draft.old.pending.count }
+    requires clear { AreClear decisions.now }
+    requires dirs { (f : List ℕ → List ℕ) (s : State) (d : IsFounded f (K.contents draft.old.keeper.now) draft.old.pending s) → ParentsAreDirs decisions.now.nodes }
+    ensures same_reference { draft.new.keeper.ghost_name ≡ draft.old.keeper.ghost_name }
+    ensures stays { Stays K.contents K.leaves K.faults draft.old.keeper.now draft.new.keeper.now }
+    ensures pending { draft.new.pending ≡ draft.old.pending }
+    ensures made { (h : List Revision) → IsSideOf h left.now → IsSideOf h right.now → Gives (IsMadeOf (I.meaning ident.now) h left.now.id right.now.id decisions.now) (outcomes result) }
+    ensures kept { (h : List Revision) → IsSideOf h left.now → IsSideOf h right.now → IfOk result (HasKept (I.meaning ident.now) h left.now.id right.now.id decisions.now) }
+    ensures ids { IfOk result (HasIds (I.meaning ident.now)) }
+    ensures damaged { IfSome (K.contents draft.new.keeper.now) (λ c. IsCounted draft.old.pending c → IfErr result (λ e. IfStoreDamage e (IsDamage (with_all c draft.old.pending.batch)))) }
+    ensures failed { result ≡ Err (HistoryError.Store StoreError.Failed) → Rose (K.faults draft.old.keeper.now) (K.faults draft.new.keeper.now) }
+{
+    if !parents_are_dirs(decisions.nodes()) {
+        return Err(HistoryError::Store(roster_held(draft, left.at)));
+    }
+    merged(alloc, ident, left, right, decisions)
+}
+
 // What decisions that no resolution overrides any more come to: conflicts, or the text of their tree.
 fn ends<I: Ident, K: Keeper>(
     alloc: Global,
@@ -115,10 +142,7 @@ fn ends<I: Ident, K: Keeper>(
             conflicts,
         });
     }
-    if !parents_are_dirs(decisions.nodes()) {
-        return Err(HistoryError::Store(roster_held(draft, left.at)));
-    }
-    merged(alloc, ident, &left, &right, &decisions)
+    text_of(alloc, ident, draft, &left, &right, &decisions)
 }
 
 // Decisions after resolutions, and their conflicts.
