@@ -6,6 +6,8 @@ use Rattle.mtn_history.proofs.Founding.{back}
 use Rattle.mtn_history.specs.Rosters.{Rebuilds}
 use Rattle.mtn_history.specs.declared.pending.Pending.{Pending}
 use Rattle.mtn_history.specs.Remembered.{RebuiltRoster}
+use Rattle.mtn_check_records.specs.Reading.{IsHandOf}
+use Rattle.mtn_check_hands.specs.Reading.{front_with}
 use Rattle.mtn_check_hands.proofs.Answering.{hand_is}
 use Rattle.mtn_check_hands.proofs.asked.hand_of.Goals as goal
 
@@ -27,6 +29,7 @@ returns-clause-found g c = λ f s d.
     let p = c.args.draft.now.pending in
     let held = c.as_ref-held.result.now in
     let read = subst (λ (x : RebuiltRoster). IfSome told (λ y. Rebuilds (with_all y c.log_at.new.self.pending.batch) c.args.at x)) (sym c.as_ref-held.ensures) c.in_ok-rebuilt.ensures.rebuilt in
-    hand_is f told p s d c.args.at c.in_ok-log.log held c.in_ok-entries.entries (c.in_ok-entries.ensures ∙ c.in_ok-copied.ensures) c.requires.below
+    subst (λ n. IsHandOf (front_with s.log d.stands.history d.stands.kept) c.args.at (record { id = c.in_ok-log.log.id; next = c.in_ok-log.log.next_node; depth = n; entries = c.in_ok-entries.entries })) (sym c.depth.ensures)
+    (hand_is f told p s d c.args.at c.in_ok-log.log held c.in_ok-entries.entries (c.in_ok-entries.ensures ∙ c.in_ok-copied.ensures) c.requires.below
     (c.in_ok-log.ensures.found f s (back f (g.K.Keeper.contents c.log_at.new.self.keeper.now) told p s c.roster_at.ensures.asks.stays.same d) c.requires.below)
-    (subst (λ (x : Pending). IfSome told (λ y. Rebuilds (with_all y x.batch) c.args.at held)) c.log_at.ensures.asks.pending read)
+    (subst (λ (x : Pending). IfSome told (λ y. Rebuilds (with_all y x.batch) c.args.at held)) c.log_at.ensures.asks.pending read))
